@@ -1,0 +1,80 @@
+-- What a loop that goes over a run once keeps: what is done so far and what is left. One law a turn, one at the end.
+-- Assumes nothing.
+use mathlib.Core.Path.{_≡_, refl, sym, ap, _∙_}
+use mathlib.Core.Bool.{Bool, true, false, _&&_, and-true}
+use mathlib.Core.List.{List, [], _∷_, _++_, map}
+use Prim.Native.Nat.{ℕ, zero, suc, _+_, _<_, _≤_}
+use native.Mathlib.Nat.{le-of-suc-le-suc, not-suc-le-zero}
+use native.Mathlib.Numerals.{add-one}
+use native.Mathlib.Omega.{arith}
+use lib.ListN.{length, getD, take, drop, set, drop-of-length-le}
+use lib.Seq.{take-all, drop-cons}
+use Rattle.line.specs.Runs.{every}
+
+-- both parts of a test that passed
+pub and-left : (a b : Bool) → (a && b) ≡ true → a ≡ true
+and-left true b e = refl
+and-left false b e = e
+
+pub and-right : (a b : Bool) → (a && b) ≡ true → b ≡ true
+and-right true b e = e
+and-right false b e = absurd (let z : _≡_ {A = ℕ} 0 1 = cc in omega arith)
+
+pub and-both : (a b : Bool) → a ≡ true → b ≡ true → (a && b) ≡ true
+and-both a b p q = rw (p, q)
+
+pub and-assoc : (a b c : Bool) → ((a && b) && c) ≡ (a && (b && c))
+and-assoc true b c = refl
+and-assoc false b c = refl
+
+-- the first i elements changed by f, the others as they were
+unfoldable pub changed : (ℕ → ℕ) → ℕ → List ℕ → List ℕ
+changed f i s = map f (take i s) ++ drop i s
+
+pub changed-none : (f : ℕ → ℕ) (s : List ℕ) → s ≡ changed f 0 s
+unfolding changed
+changed-none f s = refl
+
+turn : (f : ℕ → ℕ) (i : ℕ) (s : List ℕ) → i < length s → set (map f (take i s) ++ drop i s) i (f (getD s i 0)) ≡ map f (take (suc i) s) ++ drop (suc i) s
+turn f zero [] h = absurd (not-suc-le-zero h)
+turn f zero (x ∷ s) h = refl
+turn f (suc i) [] h = absurd (not-suc-le-zero h)
+turn f (suc i) (x ∷ s) h = ap (λ (l : List ℕ). f x ∷ l) (turn f i s (le-of-suc-le-suc h))
+
+pub changed-more : (f : ℕ → ℕ) (i : ℕ) (s : List ℕ) → i < length s → set (changed f i s) i (f (getD s i 0)) ≡ changed f (i + 1) s
+unfolding changed
+changed-more f i s h = rw add-one (turn f i s h)
+
+-- the element that a turn reads has not been changed yet
+pub changed-next : (f : ℕ → ℕ) (i : ℕ) (s : List ℕ) → i < length s → getD (changed f i s) i 0 ≡ getD s i 0
+unfolding changed
+changed-next f zero s h = refl
+changed-next f (suc i) [] h = refl
+changed-next f (suc i) (x ∷ s) h = changed-next f i s (le-of-suc-le-suc h)
+
+pub changed-all : (f : ℕ → ℕ) (i : ℕ) (s : List ℕ) → length s ≤ i → changed f i s ≡ map f s
+unfolding changed
+changed-all f i s h = rw (drop-of-length-le, take-all i s) (append-nil (map f s))
+  where
+    append-nil : (l : List ℕ) → l ++ [] ≡ l
+    append-nil [] = refl
+    append-nil (x ∷ l) = ap (λ (r : List ℕ). x ∷ r) (append-nil l)
+
+-- what is left, one element at a time
+pub left-next : (i : ℕ) (s : List ℕ) → i < length s → drop i s ≡ getD s i 0 ∷ drop (i + 1) s
+left-next i s h = rw add-one (drop-cons s i 0 h)
+
+-- a flag that every byte passed so far, with what is left, says it of the whole
+module _ (p : ℕ → Bool) (s : List ℕ) (i : ℕ) (ok whole : Bool) where
+  pub every-turn : i < length s → (ok && every p (drop i s)) ≡ whole → ((ok && p (getD s i 0)) && every p (drop (i + 1) s)) ≡ whole
+  unfolding every
+  every-turn h e = and-assoc ok (p (getD s i 0)) (every p (drop (i + 1) s)) ∙ (rw (left-next i s h) at e)
+
+  pub every-end : length s ≤ i → (ok && every p (drop i s)) ≡ whole → ok ≡ whole
+  unfolding every
+  every-end h e = sym (and-true ok) ∙ (rw (drop-of-length-le s h) at e)
+
+pub every-append : (p : ℕ → Bool) (s t : List ℕ) → every p s ≡ true → every p t ≡ true → every p (s ++ t) ≡ true
+unfolding every
+every-append p [] t hs ht = ht
+every-append p (b ∷ s) t hs ht = rw (and-left (p b) (every p s) hs) (every-append p s t (and-right (p b) (every p s) hs) ht)

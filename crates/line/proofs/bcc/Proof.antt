@@ -1,0 +1,54 @@
+-- `line::bcc` meets its contract. The invariant: the sum so far, with the BCC of what is left, is the BCC of the whole.
+-- The bytes are summed whole and the parity bit dropped once, at the end, which `seven-xor` allows. Assumes nothing.
+use mathlib.Core.Path.{_≡_, refl, sym, ap, _∙_}
+use mathlib.Core.List.{List}
+use Prim.Native.Nat.{ℕ, _+_, _<_, _≤_, _-_}
+use native.Mathlib.Omega.{arith}
+use lib.ListN.{length, drop, getD, drop-of-length-le}
+use lib.Bits.{bitXor, xor-zero-r}
+use Rattle.line.specs.Characters.{seven}
+use Rattle.line.specs.Checksum.{bccOf}
+use Rattle.line.proofs.Runs.{left-next}
+use Rattle.line.proofs.Xor.{xor-assoc, seven-xor}
+use Rattle.line.proofs.bcc.Statement.{statement}
+use Rattle.line.proofs.bcc.Tie as tie
+
+abbrev Inv-loop : tie.InvT-loop
+Inv-loop s sum₀ i₀ sum i = (i ≤ length s) × (bitXor (seven sum) (bccOf (drop i s)) ≡ bccOf s)
+
+abbrev μ-loop : tie.MeasureT-loop
+μ-loop s sum₀ i₀ sum i = length s - i
+
+turn : (s : List ℕ) (i sum whole : ℕ) → i < length s → bitXor (seven sum) (bccOf (drop i s)) ≡ whole → bitXor (seven (bitXor sum (getD s i 0))) (bccOf (drop (i + 1) s)) ≡ whole
+unfolding bccOf
+turn s i sum whole h e =
+    rw (seven-xor sum (getD s i 0), xor-assoc (seven sum) (seven (getD s i 0)) (bccOf (drop (i + 1) s))) (rw (left-next i s h) at e)
+
+loop-holds : tie.Need-loop-holds Inv-loop μ-loop
+unfolding seven
+loop-holds c = (omega arith, refl)
+
+shared-slice-read-sum : tie.Need-shared-slice-read-sum Inv-loop μ-loop
+shared-slice-read-sum c = omega arith
+
+add-i : tie.Need-add-i Inv-loop μ-loop
+add-i c = omega arith
+
+loop-less : tie.Need-loop-less Inv-loop μ-loop
+loop-less c = omega arith
+
+loop-again : tie.Need-loop-again Inv-loop μ-loop
+loop-again c =
+    let at-loop = c .before .before in
+    (omega arith, turn (at-loop .before .args .s .now) (at-loop .loop .i) (at-loop .loop .sum) _ (c .before .loop-test .taken) (at-loop .loop .inv .1))
+
+returns : tie.Need-returns Inv-loop μ-loop
+unfolding bccOf seven
+returns c =
+    let s = c .before .before .args .s .now in
+    sym (xor-zero-r (seven (c .before .loop .sum))) ∙ (rw (drop-of-length-le s (c .loop-test .left)) at (c .before .loop .inv .1))
+
+pub bcc-spec : {M : Type 1} → statement M
+bcc-spec =
+    tie.close
+    (tie.spec Inv-loop μ-loop loop-holds shared-slice-read-sum add-i loop-less loop-again returns)

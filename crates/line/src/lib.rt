@@ -1,0 +1,74 @@
+// Characters and checksum: what a wire byte carries, and the BCC over many.
+// Everything above cites these promises and never looks inside.
+ghost use mathlib.Core.Path.{_≡_};
+ghost use mathlib.Core.List.{map};
+ghost use lib.ListN.{length, take, drop};
+ghost use Rattle.line.specs.Characters.{damagedAt, seven, sent, undamagedAll};
+ghost use Rattle.line.specs.Checksum.{bccOf};
+
+pub const SOH: u8 = 0x01;
+pub const STX: u8 = 0x02;
+pub const ETX: u8 = 0x03;
+pub const ACK: u8 = 0x06;
+pub const LF: u8 = 0x0A;
+pub const CR: u8 = 0x0D;
+pub const NAK: u8 = 0x15;
+
+// Whether a wire byte is damaged: its count of ones is not even.
+pub fn damaged(b: u8) -> bool
+    ensures { λ r. ⌜ r ≡ damagedAt b ⌝ }
+{
+    u8::count_ones(b) % 2 != 0
+}
+
+// The seven data bits of a wire byte.
+pub fn character(b: u8) -> u8
+    ensures { λ r. ⌜ r ≡ seven b ⌝ }
+{
+    b % 128
+}
+
+// The wire byte of a character.
+pub fn wire(c: u8) -> u8
+    ensures { λ r. ⌜ r ≡ sent c ⌝ }
+{
+    let s = c % 128;
+    s + (u8::count_ones(s) % 2) as u8 * 128
+}
+
+// The BCC of a run of bytes: the exclusive-or of their seven bits.
+pub fn bcc(s: &[u8]) -> u8
+    ensures { λ r. ⌜ r ≡ bccOf (now (s .entry)) ⌝ }
+{
+    let mut sum: u8 = 0;
+    let mut i = 0;
+    while i < s.len() {
+        sum = sum ^ s[i];
+        i += 1;
+    }
+    sum % 128
+}
+
+// Whether no byte of a run is damaged; all are looked at, so that the loop has one way out.
+pub fn undamaged(s: &[u8]) -> bool
+    ensures { λ r. ⌜ r ≡ undamagedAll (now (s .entry)) ⌝ }
+{
+    let mut good = true;
+    let mut i = 0;
+    while i < s.len() {
+        good = good & !damaged(s[i]);
+        i += 1;
+    }
+    good
+}
+
+// Puts the parity bit on every byte of a run.
+pub fn put_parity(s: &mut [u8])
+    ensures { λ _. ⌜ now (s .exit) ≡ map sent (now (s .entry)) ⌝ }
+{
+    let mut i = 0;
+    while i < s.len() {
+        s[i] = wire(s[i]);
+        i += 1;
+    }
+}

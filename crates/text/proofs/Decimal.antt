@@ -1,0 +1,80 @@
+-- A number written in digits reads back, and digits that are read are written back. Assumes nothing.
+use mathlib.Core.Path.{_≡_, refl, sym, ap, ap₂, _∙_}
+use mathlib.Core.Bool.{Bool, true, false, _&&_}
+use mathlib.Core.List.{List, [], _∷_, _++_, append-assoc}
+use Prim.Native.Nat.{ℕ, zero, suc, _+_, _-_, _*_, _/_, _%_, _^_, _<_, _≤_}
+use native.Mathlib.Nat.{pow-suc, add-suc, add-zero, zero-add, mod-lt, zero-lt-suc}
+use native.Mathlib.Omega.{arith}
+use borrow.Author.Tests.{leb-true, le-leb}
+use lib.Dec.{leb, lit<}
+use lib.ListN.{length, take, drop, getD, replicate, length-append}
+use lib.Seq.{drop-cons}
+use Rattle.line.specs.Runs.{every}
+use Rattle.line.proofs.Runs.{every-append, and-left, and-right}
+use Rattle.text.specs.Classes.{between, isDigit}
+use Rattle.text.specs.Decimal.{decimal, valueFrom, valueOf, numberAt}
+
+pub digit-low : (c : ℕ) → isDigit c ≡ true → 48 ≤ c
+unfolding isDigit between
+digit-low c e = leb-true 48 c (and-left (leb 48 c) (leb c 57) e)
+
+pub digit-high : (c : ℕ) → isDigit c ≡ true → c ≤ 57
+unfolding isDigit between
+digit-high c e = leb-true c 57 (and-right (leb 48 c) (leb c 57) e)
+
+pub digit-is : (n : ℕ) → n < 10 → isDigit (48 + n) ≡ true
+unfolding isDigit between
+digit-is n h = rw (le-leb 48 (48 + n) (omega arith), le-leb (48 + n) 57 (omega arith))
+
+pub length-decimal : (w n : ℕ) → length (decimal w n) ≡ w
+unfolding decimal
+length-decimal zero n = refl
+length-decimal (suc w) n = length-append (decimal w (n / 10)) ((48 + n % 10) ∷ []) ∙ (rw (length-decimal w (n / 10)) (omega arith))
+
+value-snoc : (acc : ℕ) (s : List ℕ) (c : ℕ) → valueFrom acc (s ++ (c ∷ [])) ≡ valueFrom acc s * 10 + (c - 48)
+unfolding valueFrom
+value-snoc acc [] c = refl
+value-snoc acc (x ∷ s) c = value-snoc (acc * 10 + (x - 48)) s c
+
+pub value-decimal : (w n : ℕ) → n < 10 ^ w → valueOf (decimal w n) ≡ n
+unfolding valueOf decimal
+value-decimal zero n h = omega arith
+value-decimal (suc w) n h =
+    let k : n < 10 ^ w * 10 = rw (pow-suc 10 w) at h in
+    let e = value-decimal w (n / 10) (omega arith) in
+    value-snoc 0 (decimal w (n / 10)) (48 + n % 10) ∙ (rw e (omega arith))
+
+-- the last digit, put back
+last-digit : (w acc c : ℕ) (s : List ℕ) → 48 ≤ c → c ≤ 57 → decimal (suc w) (acc * 10 + (c - 48)) ++ s ≡ decimal w acc ++ (c ∷ s)
+unfolding decimal
+last-digit w acc c s low high =
+    let q : (acc * 10 + (c - 48)) / 10 ≡ acc = omega arith in
+    let r : 48 + (acc * 10 + (c - 48)) % 10 ≡ c = omega arith in
+    rw (q, r) (append-assoc (decimal w acc) (c ∷ []) s)
+
+-- digits after those of acc
+decimal-from : (s : List ℕ) (w acc : ℕ) → every isDigit s ≡ true → decimal (w + length s) (valueFrom acc s) ≡ decimal w acc ++ s
+unfolding valueFrom every
+decimal-from [] w acc e = ap (λ (k : ℕ). decimal k acc) (add-zero w) ∙ sym (append-nil (decimal w acc))
+  where
+    append-nil : (l : List ℕ) → l ++ [] ≡ l
+    append-nil [] = refl
+    append-nil (x ∷ l) = ap (λ (r : List ℕ). x ∷ r) (append-nil l)
+decimal-from (c ∷ s) w acc e =
+    let d = and-left (isDigit c) (every isDigit s) e in
+    let low = digit-low c d in
+    let high = digit-high c d in
+    ap (λ (k : ℕ). decimal k (valueFrom (acc * 10 + (c - 48)) s)) (omega arith)
+    ∙ decimal-from s (suc w) (acc * 10 + (c - 48)) (and-right (isDigit c) (every isDigit s) e)
+    ∙ last-digit w acc c s low high
+
+pub decimal-value : (s : List ℕ) → every isDigit s ≡ true → decimal (length s) (valueOf s) ≡ s
+unfolding valueOf decimal
+decimal-value s e = ap (λ (k : ℕ). decimal k (valueFrom 0 s)) (sym (zero-add (length s))) ∙ decimal-from s 0 0 e
+
+pub decimal-digits : (w n : ℕ) → every isDigit (decimal w n) ≡ true
+unfolding decimal every
+decimal-digits zero n = refl
+decimal-digits (suc w) n =
+    every-append isDigit (decimal w (n / 10)) ((48 + n % 10) ∷ []) (decimal-digits w (n / 10))
+      (rw (digit-is (n % 10) (mod-lt n (zero-lt-suc 9))))

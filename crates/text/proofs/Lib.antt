@@ -1,0 +1,4 @@
+pub mod Matching
+pub mod Writing
+pub mod Decimal
+pub mod Forms

@@ -1,0 +1,34 @@
+-- Document 01's kinds of character, and a text that is exactly another.
+use mathlib.Core.Bool.{Bool, true, false, _&&_, _||_}
+use mathlib.Core.List.{List, [], _∷_}
+use Prim.Native.Nat.{ℕ}
+use lib.Dec.{leb, eqb}
+
+-- lo to hi, both included
+unfoldable pub between : ℕ → ℕ → ℕ → Bool
+between lo hi c = leb lo c && leb c hi
+
+unfoldable pub isDigit : ℕ → Bool
+unfolding between
+isDigit c = between 48 57 c
+
+-- 20 to 7E hex
+unfoldable pub isPrintable : ℕ → Bool
+unfolding between
+isPrintable c = between 32 126 c
+
+-- A to Z and a to z
+unfoldable pub isLetter : ℕ → Bool
+unfolding between
+isLetter c = between 65 90 c || between 97 122 c
+
+-- two texts of one length, whose characters agree place by place
+unfoldable pub matching : (ℕ → ℕ → Bool) → List ℕ → List ℕ → Bool
+matching p [] [] = true
+matching p [] (t ∷ ts) = false
+matching p (s ∷ ss) [] = false
+matching p (s ∷ ss) (t ∷ ts) = p s t && matching p ss ts
+
+-- the same characters, and as many
+unfoldable pub sameText : List ℕ → List ℕ → Bool
+sameText = matching eqb

@@ -1,0 +1,4 @@
+pub mod Writing
+pub mod Classes
+pub mod Decimal
+pub mod Layout

@@ -1,0 +1,2 @@
+pub mod fast_head;
+pub mod fast_post;

@@ -1,0 +1,322 @@
+//! The tester's script over the model: one command a line in, its answer lines out.
+
+use crate::meter::{Answer, Clock, Meter, PLACES, ROOM};
+use std::fmt::Write as _;
+use std::io::{self, BufRead, Write};
+
+/// The largest reply buffer that a script can ask for.
+pub const ROOM_MOST: usize = 8_192;
+/// What the reply buffer is filled with before each call.
+pub const FILLING: u8 = 0xAA;
+
+/// A line of the script, understood.
+#[derive(Clone, Debug, PartialEq, Eq)]
+pub enum Command {
+    New {
+        serial: [u8; 10],
+        account: [u8; 10],
+        password: [u8; 8],
+        clock: Clock,
+    },
+    Set(Box<Meter>),
+    Dump,
+    Play(Vec<Event>),
+}
+
+/// What can happen to a meter; rooms are those of the reply buffer.
+#[derive(Clone, Copy, Debug, PartialEq, Eq)]
+pub enum Event {
+    Character { byte: u8, room: usize },
+    Silence { room: usize },
+    Tick,
+    PowerUp,
+    Pulse { wh: u32 },
+}
+
+/// A meter on the bench.
+pub struct Bench {
+    pub meter: Meter,
+}
+
+impl Default for Bench {
+    fn default() -> Bench {
+        Bench {
+            meter: Meter::blank(),
+        }
+    }
+}
+
+impl Bench {
+    /// Writes the answer to one line, given without its LF.
+    pub fn answer(&mut self, line: &[u8], transcript: &mut String) {
+        self.answer_watched(line, transcript, &mut |_, _, _, _| ());
+    }
+
+    /// The same, and shows each event with the states around it.
+    pub fn answer_watched(
+        &mut self,
+        line: &[u8],
+        transcript: &mut String,
+        watch: &mut dyn FnMut(&Meter, Event, Answer, &Meter),
+    ) {
+        match parse(line) {
+            None => transcript.push_str("error\n"),
+            Some(Command::New {
+                serial,
+                account,
+                password,
+                clock,
+            }) => {
+                let (number, meter) = Meter::new(serial, account, password, clock);
+                self.meter = meter;
+                put(transcript, format_args!("{number}\n"));
+            }
+            Some(Command::Set(meter)) => {
+                self.meter = *meter;
+                transcript.push_str("ok\n");
+            }
+            Some(Command::Dump) => {
+                transcript.push_str(&dump(&self.meter));
+                transcript.push('\n');
+            }
+            Some(Command::Play(events)) => {
+                for event in events {
+                    let before = self.meter.clone();
+                    let answer = self.play(event, transcript);
+                    watch(&before, event, answer, &self.meter);
+                }
+            }
+        }
+    }
+
+    /// Lets one event happen and writes its answer line.
+    fn play(&mut self, event: Event, transcript: &mut String) -> Answer {
+        let room = match event {
+            Event::Character { room, .. } | Event::Silence { room } => Some(room),
+            Event::Tick | Event::PowerUp | Event::Pulse { .. } => None,
+        };
+        let mut buffer = vec![FILLING; room.unwrap_or(0)];
+        let answer = match event {
+            Event::Character { byte, .. } => self.meter.character(byte, &mut buffer),
+            Event::Silence { .. } => self.meter.silence(&mut buffer),
+            Event::Tick => self.meter.tick(),
+            Event::PowerUp => self.meter.power_up(),
+            Event::Pulse { wh } => self.meter.pulse(wh),
+        };
+        put(
+            transcript,
+            format_args!("{} {}", answer.number, answer.speed),
+        );
+        if room.is_some() {
+            let changed = buffer.iter().rposition(|&byte| byte != FILLING);
+            let shown = answer.length.max(changed.map_or(0, |place| place + 1));
+            put(transcript, format_args!(" {} ", answer.length));
+            put_hex(transcript, &buffer[..shown]);
+        }
+        transcript.push('\n');
+        answer
+    }
+}
+
+/// Plays a script from start to end; the last line may lack its LF.
+pub fn run(mut script: impl BufRead, mut transcript: impl Write) -> io::Result<()> {
+    let mut bench = Bench::default();
+    let mut line = Vec::new();
+    let mut answers = String::new();
+    loop {
+        line.clear();
+        if script.read_until(b'\n', &mut line)? == 0 {
+            return transcript.flush();
+        }
+        let ended = line.strip_suffix(b"\n").unwrap_or(&line);
+        answers.clear();
+        bench.answer(ended, &mut answers);
+        transcript.write_all(answers.as_bytes())?;
+    }
+}
+
+/// Reads one line, given without its LF; nothing for `error`.
+pub fn parse(line: &[u8]) -> Option<Command> {
+    let fields: Vec<&[u8]> = line.split(|&byte| byte == b' ').collect();
+    Some(match fields[..] {
+        [b"new", serial, account, password, ref clock @ ..] => Command::New {
+            serial: exactly(serial)?,
+            account: exactly(account)?,
+            password: exactly(password)?,
+            clock: clock_of(clock)?,
+        },
+        [b"set", ref fields @ ..] => Command::Set(Box::new(state(fields)?)),
+        [b"dump"] => Command::Dump,
+        [b"byte", byte] => character(byte, ROOM)?,
+        [b"byte", byte, room] => character(byte, room_of(room)?)?,
+        [b"bytes", bytes] => Command::Play(
+            hex(bytes)?
+                .into_iter()
+                .map(|byte| Event::Character { byte, room: ROOM })
+                .collect(),
+        ),
+        [b"silence"] => Command::Play(vec![Event::Silence { room: ROOM }]),
+        [b"silence", room] => Command::Play(vec![Event::Silence {
+            room: room_of(room)?,
+        }]),
+        [b"tick"] => Command::Play(vec![Event::Tick]),
+        [b"up"] => Command::Play(vec![Event::PowerUp]),
+        [b"pulse", wh] => Command::Play(vec![Event::Pulse { wh: decimal(wh)? }]),
+        _ => return None,
+    })
+}
+
+fn character(byte: &[u8], room: usize) -> Option<Command> {
+    let [byte] = exactly(byte)?;
+    Some(Command::Play(vec![Event::Character { byte, room }]))
+}
+
+fn room_of(field: &[u8]) -> Option<usize> {
+    let room = usize::from(decimal::<u16>(field)?);
+    (room <= ROOM_MOST).then_some(room)
+}
+
+fn clock_of(fields: &[&[u8]]) -> Option<Clock> {
+    let [year, month, day, hour, minute, second] = fields else {
+        return None;
+    };
+    Some(Clock {
+        year: decimal(year)?,
+        month: decimal(month)?,
+        day: decimal(day)?,
+        hour: decimal(hour)?,
+        minute: decimal(minute)?,
+        second: decimal(second)?,
+    })
+}
+
+/// The state of the 19 fields that `dump` writes.
+fn state(fields: &[&[u8]]) -> Option<Meter> {
+    let [mode, count, mark, held, serial, account, password, attempts, clock @ .., c1, c2, c3, c4, tables] =
+        fields
+    else {
+        return None;
+    };
+    let mut rows = [[0; 24]; 24];
+    let characters: [u8; 576] = exactly(tables)?;
+    for (row, given) in rows.iter_mut().zip(characters.chunks(24)) {
+        row.copy_from_slice(given);
+    }
+    Some(Meter {
+        mode: decimal(mode)?,
+        count: decimal(count)?,
+        mark: match decimal::<u8>(mark)? {
+            0 => false,
+            1 => true,
+            _ => return None,
+        },
+        held: exactly::<PLACES>(held)?,
+        serial: exactly(serial)?,
+        account: exactly(account)?,
+        password: exactly(password)?,
+        attempts: decimal(attempts)?,
+        clock: clock_of(clock)?,
+        counters: [decimal(c1)?, decimal(c2)?, decimal(c3)?, decimal(c4)?],
+        tables: rows,
+    })
+}
+
+/// The 19 fields of a state.
+pub fn dump(meter: &Meter) -> String {
+    let mut line = String::new();
+    put(
+        &mut line,
+        format_args!("{} {} {} ", meter.mode, meter.count, u8::from(meter.mark)),
+    );
+    for field in [
+        &meter.held[..],
+        &meter.serial,
+        &meter.account,
+        &meter.password,
+    ] {
+        put_hex(&mut line, field);
+        line.push(' ');
+    }
+    let clock = &meter.clock;
+    put(
+        &mut line,
+        format_args!(
+            "{} {} {} {} {} {} {} ",
+            meter.attempts,
+            clock.year,
+            clock.month,
+            clock.day,
+            clock.hour,
+            clock.minute,
+            clock.second
+        ),
+    );
+    for counter in meter.counters {
+        put(&mut line, format_args!("{counter} "));
+    }
+    put_hex(&mut line, meter.tables.as_flattened());
+    line
+}
+
+/// One or more decimal digits whose value fits.
+fn decimal<N: TryFrom<u64>>(field: &[u8]) -> Option<N> {
+    if field.is_empty() {
+        return None;
+    }
+    let mut value = 0_u64;
+    for &digit in field {
+        if !digit.is_ascii_digit() {
+            return None;
+        }
+        value = value
+            .checked_mul(10)?
+            .checked_add(u64::from(digit - b'0'))?;
+    }
+    N::try_from(value).ok()
+}
+
+/// The bytes of a field in lower-case hex, `-` for none.
+fn hex(field: &[u8]) -> Option<Vec<u8>> {
+    if field == b"-" {
+        return Some(Vec::new());
+    }
+    if field.is_empty() || field.len() % 2 != 0 {
+        return None;
+    }
+    field
+        .chunks(2)
+        .map(|pair| Some(nibble(pair[0])? << 4 | nibble(pair[1])?))
+        .collect()
+}
+
+fn nibble(digit: u8) -> Option<u8> {
+    match digit {
+        b'0'..=b'9' => Some(digit - b'0'),
+        b'a'..=b'f' => Some(digit - b'a' + 10),
+        _ => None,
+    }
+}
+
+/// A hex field of just this many bytes.
+fn exactly<const N: usize>(field: &[u8]) -> Option<[u8; N]> {
+    hex(field)?.try_into().ok()
+}
+
+/// Bytes in lower-case hex, `-` for none.
+pub fn put_hex(line: &mut String, bytes: &[u8]) {
+    const DIGITS: &[u8; 16] = b"0123456789abcdef";
+    if bytes.is_empty() {
+        line.push('-');
+    }
+    for byte in bytes {
+        line.push(char::from(DIGITS[usize::from(byte >> 4)]));
+        line.push(char::from(DIGITS[usize::from(byte & 15)]));
+    }
+}
+
+fn put(line: &mut String, text: std::fmt::Arguments) {
+    line.write_fmt(text).expect("a string takes all text");
+}
+
+#[cfg(test)]
+mod tests;

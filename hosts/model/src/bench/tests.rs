@@ -1,0 +1,86 @@
+//! The script's own rules.
+
+use super::*;
+
+fn transcript(script: &str) -> String {
+    let mut got = Vec::new();
+    run(script.as_bytes(), &mut got).unwrap();
+    String::from_utf8(got).unwrap()
+}
+
+#[test]
+fn sign_on_by_hand() {
+    let script = "dump\nbytes af3f218d0a\nbyte 06 2047\nsilence 8192\n";
+    let zeros = "00".repeat(63);
+    let tables = "31".repeat(576);
+    let expected = format!(
+        "0 0 0 {zeros} 30303030303030303030 20202020202020202020 3030303030303030 \
+         0 2000 1 1 0 0 0 0 0 0 0 {tables}\n\
+         0 0 0 -\n0 0 0 -\n0 0 0 -\n0 0 0 -\n\
+         1 0 19 af5a5a5a355355422d565030b12e3030aa8d0a\n12 0 0 -\n1 0 1 95\n"
+    );
+    assert_eq!(transcript(script), expected);
+}
+
+#[test]
+fn dump_comes_back_through_set() {
+    let mut bench = Bench::default();
+    bench.meter.mode = 77;
+    bench.meter.mark = true;
+    bench.meter.held[62] = 255;
+    bench.meter.counters[3] = u32::MAX;
+    bench.meter.clock.year = u16::MAX;
+    bench.meter.tables[23][23] = 0;
+    let line = format!("set {}", dump(&bench.meter));
+    assert_eq!(
+        parse(line.as_bytes()),
+        Some(Command::Set(Box::new(bench.meter)))
+    );
+}
+
+#[test]
+fn other_lines_are_errors() {
+    let lines = [
+        "",
+        " ",
+        "dump ",
+        " dump",
+        "Dump",
+        "dump\r",
+        "tick 1",
+        "byte",
+        "byte -",
+        "byte 8",
+        "byte 812",
+        "byte 8A",
+        "byte 81 8193",
+        "byte 81 -1",
+        "byte 81  1",
+        "bytes",
+        "bytes ",
+        "bytes 812",
+        "bytes 81 82",
+        "silence 65536",
+        "pulse",
+        "pulse +1",
+        "pulse 4294967296",
+        "pulse 1 ",
+        "up 0",
+        "new",
+        "set",
+    ];
+    for line in lines {
+        assert_eq!(parse(line.as_bytes()), None, "{line:?}");
+    }
+}
+
+#[test]
+fn taken_lines() {
+    assert_eq!(transcript("bytes -\n"), "");
+    assert_eq!(transcript("bytes -"), "");
+    assert_eq!(transcript("\n"), "error\n");
+    assert_eq!(transcript(""), "");
+    assert_eq!(transcript("byte 00 0\nbyte 00 8192"), "12 0 0 -\n0 0 0 -\n");
+    assert_eq!(transcript("pulse 0001000000\ntick"), "1 0\n1 0\n");
+    assert_eq!(transcript("pulse 1000001\nup"), "13 0\n1 0\n");
+}

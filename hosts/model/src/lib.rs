@@ -1,0 +1,5 @@
+pub mod head;
+pub mod line;
+pub mod post;
+pub mod bench;
+pub mod meter;

@@ -1,0 +1,727 @@
+//! The meter of document 01, written plainly: state, receiver, decisions, replies and the other
+//! events, in the page's order. Parity and checksum are its own, so that nothing is shared.
+
+pub const SOH: u8 = 0x01;
+pub const STX: u8 = 0x02;
+pub const ETX: u8 = 0x03;
+pub const ACK: u8 = 0x06;
+pub const LF: u8 = 0x0A;
+pub const CR: u8 = 0x0D;
+pub const NAK: u8 = 0x15;
+
+/// Places of the receiver; a frame of 64 needs no place for its BCC.
+pub const PLACES: usize = 63;
+/// The least room of a reply buffer.
+pub const ROOM: usize = 2_048;
+/// The greatest pulse in Wh.
+pub const PULSE_MOST: u32 = 1_000_000;
+/// Counters and their sum are taken modulo this.
+pub const COUNTER_END: u32 = 1_000_000_000;
+/// Characters of the data block.
+pub const BLOCK: usize = 1_063;
+
+pub const LISTENING: u8 = 0;
+pub const CONFIRMATION: u8 = 1;
+pub const PASSWORD: u8 = 2;
+pub const READ_ONLY: u8 = 3;
+pub const PROGRAMMING: u8 = 4;
+
+const IDENTIFICATION: &[u8] = b"/ZZZ5SUB-VP01.00*\r\n";
+const SIGN_ON: &[u8] = b"/?!\r\n";
+const ZERO_SIGN_ON: &[u8] = b"/?000 0000000!\r\n";
+
+/// Date and time of day.
+#[derive(Clone, Copy, Debug, PartialEq, Eq)]
+pub struct Clock {
+    pub year: u16,
+    pub month: u8,
+    pub day: u8,
+    pub hour: u8,
+    pub minute: u8,
+    pub second: u8,
+}
+
+/// Everything the meter remembers. Any values can stand here; `well_formed` tells the good ones.
+#[derive(Clone, Debug, PartialEq, Eq)]
+pub struct Meter {
+    pub mode: u8,
+    pub count: u8,
+    pub mark: bool,
+    pub held: [u8; PLACES],
+    pub serial: [u8; 10],
+    pub account: [u8; 10],
+    pub password: [u8; 8],
+    pub attempts: u8,
+    pub clock: Clock,
+    pub counters: [u32; 4],
+    pub tables: [[u8; 24]; 24],
+}
+
+/// What a call gives back beside the state and the buffer.
+#[derive(Clone, Copy, Debug, PartialEq, Eq)]
+pub struct Answer {
+    pub number: u8,
+    pub speed: u8,
+    pub length: usize,
+}
+
+/// What one event comes to: its number and, where something is sent, speed and characters.
+struct Step {
+    number: u8,
+    reply: Option<(u8, Vec<u8>)>,
+}
+
+/// The seven data bits, or nothing for a damaged character.
+pub fn data_bits(byte: u8) -> Option<u8> {
+    let mut ones = 0;
+    for bit in 0..8 {
+        ones += byte >> bit & 1;
+    }
+    (ones % 2 == 0).then_some(byte & 0x7F)
+}
+
+/// The wire byte of a character below 80 hex.
+pub fn with_parity(character: u8) -> u8 {
+    if data_bits(character).is_some() {
+        character
+    } else {
+        character + 0x80
+    }
+}
+
+/// Exclusive-or of all characters given.
+pub fn bcc(characters: &[u8]) -> u8 {
+    characters.iter().fold(0, |sum, character| sum ^ character)
+}
+
+/// Days of a month between 1 and 12.
+pub fn days_in_month(year: u16, month: u8) -> u8 {
+    let leap = year % 4 == 0 && (year % 100 != 0 || year % 400 == 0);
+    match month {
+        2 if leap => 29,
+        2 => 28,
+        4 | 6 | 9 | 11 => 30,
+        _ => 31,
+    }
+}
+
+fn account_character(character: u8) -> bool {
+    character.is_ascii_alphanumeric() || character == b' ' || character == b'_'
+}
+
+fn zone_character(character: u8) -> bool {
+    (b'1'..=b'4').contains(&character)
+}
+
+fn printable(character: u8) -> bool {
+    (0x20..=0x7E).contains(&character)
+}
+
+/// The number written by some digits, if digits they are.
+fn number(digits: &[u8]) -> Option<u16> {
+    digits.iter().try_fold(0, |sum, &digit| {
+        digit
+            .is_ascii_digit()
+            .then(|| sum * 10 + u16::from(digit - b'0'))
+    })
+}
+
+/// The table, counted from 0, that two digits name.
+fn table_named(digits: &[u8]) -> Option<usize> {
+    match number(digits)? {
+        xx @ 1..=24 => Some(usize::from(xx) - 1),
+        _ => None,
+    }
+}
+
+fn text(characters: &[u8]) -> String {
+    characters
+        .iter()
+        .map(|&character| char::from(character))
+        .collect()
+}
+
+impl Clock {
+    pub const FIRST: Clock = Clock {
+        year: 2000,
+        month: 1,
+        day: 1,
+        hour: 0,
+        minute: 0,
+        second: 0,
+    };
+
+    /// A real date in 2000 to 2099 with a real time.
+    pub fn is_real(&self) -> bool {
+        (2000..=2099).contains(&self.year)
+            && (1..=12).contains(&self.month)
+            && (1..=days_in_month(self.year, self.month)).contains(&self.day)
+            && self.hour <= 23
+            && self.minute <= 59
+            && self.second <= 59
+    }
+
+    /// One second later; the end of 2099 leads back to the start of 2000.
+    fn next(mut self) -> Clock {
+        self.second += 1;
+        if self.second == 60 {
+            self.second = 0;
+            self.minute += 1;
+        }
+        if self.minute == 60 {
+            self.minute = 0;
+            self.hour += 1;
+        }
+        if self.hour == 24 {
+            self.hour = 0;
+            self.day += 1;
+        }
+        if self.day > days_in_month(self.year, self.month) {
+            self.day = 1;
+            self.month += 1;
+        }
+        if self.month == 13 {
+            self.month = 1;
+            self.year += 1;
+        }
+        if self.year == 2100 {
+            self.year = 2000;
+        }
+        self
+    }
+
+    /// Days since 2000-01-01, a Saturday.
+    fn days(&self) -> u32 {
+        let mut days = u32::from(self.day) - 1;
+        for year in 2000..self.year {
+            for month in 1..=12 {
+                days += u32::from(days_in_month(year, month));
+            }
+        }
+        for month in 1..self.month {
+            days += u32::from(days_in_month(self.year, month));
+        }
+        days
+    }
+
+    /// Saturday or Sunday.
+    pub fn weekend(&self) -> bool {
+        self.days() % 7 < 2
+    }
+}
+
+impl Answer {
+    /// A call that is turned away before anything happens.
+    fn turned_away(number: u8) -> Answer {
+        Answer {
+            number,
+            speed: 0,
+            length: 0,
+        }
+    }
+}
+
+impl Step {
+    fn quiet(number: u8) -> Step {
+        Step {
+            number,
+            reply: None,
+        }
+    }
+
+    fn reply(number: u8, speed: u8, characters: &[u8]) -> Step {
+        Step {
+            number,
+            reply: Some((speed, characters.to_vec())),
+        }
+    }
+}
+
+impl Meter {
+    /// The blank state: zeros, ten spaces and the first second of 2000.
+    pub fn blank() -> Meter {
+        Meter {
+            mode: LISTENING,
+            count: 0,
+            mark: false,
+            held: [0; PLACES],
+            serial: *b"0000000000",
+            account: *b"          ",
+            password: *b"00000000",
+            attempts: 0,
+            clock: Clock::FIRST,
+            counters: [0; 4],
+            tables: [[b'1'; 24]; 24],
+        }
+    }
+
+    /// A new state from the factory's facts, with 1; or 15 and the blank state.
+    pub fn new(
+        serial: [u8; 10],
+        account: [u8; 10],
+        password: [u8; 8],
+        clock: Clock,
+    ) -> (u8, Meter) {
+        let meter = Meter {
+            serial,
+            account,
+            password,
+            clock,
+            ..Meter::blank()
+        };
+        if meter.facts_good() {
+            (1, meter)
+        } else {
+            (15, Meter::blank())
+        }
+    }
+
+    fn facts_good(&self) -> bool {
+        self.serial.iter().all(u8::is_ascii_digit)
+            && self
+                .account
+                .iter()
+                .all(|&character| account_character(character))
+            && self.password.iter().all(u8::is_ascii_digit)
+            && self.clock.is_real()
+    }
+
+    fn receiver_good(&self) -> bool {
+        let (most, first) = match self.mode {
+            LISTENING => (31, Some(b'/')),
+            CONFIRMATION => (5, None),
+            _ => (63, Some(SOH)),
+        };
+        let count = usize::from(self.count);
+        if count > most {
+            return false;
+        }
+        let (held, unused) = self.held.split_at(count);
+        held.iter().all(|&character| character <= 127)
+            && unused.iter().all(|&place| place == 0)
+            && (count > 0 || !self.mark)
+            && (count == 0 || first.is_none() || first == Some(held[0]))
+    }
+
+    /// Every range of the page holds.
+    pub fn well_formed(&self) -> bool {
+        self.mode <= PROGRAMMING
+            && self.receiver_good()
+            && self.facts_good()
+            && self.attempts <= 3
+            && self.counters.iter().all(|&counter| counter < COUNTER_END)
+            && self
+                .tables
+                .iter()
+                .flatten()
+                .all(|&zone| zone_character(zone))
+    }
+
+    /// Speed identifier of the state.
+    pub fn speed(&self) -> u8 {
+        if self.mode <= CONFIRMATION {
+            0
+        } else {
+            5
+        }
+    }
+
+    /// The characters held, without the unused places.
+    pub fn held(&self) -> &[u8] {
+        &self.held[..usize::from(self.count)]
+    }
+
+    fn empty(&mut self) {
+        self.count = 0;
+        self.mark = false;
+        self.held = [0; PLACES];
+    }
+
+    /// Holds one more character, a damaged one as 0 with the mark.
+    fn hold(&mut self, got: Option<u8>) {
+        self.held[usize::from(self.count)] = got.unwrap_or(0);
+        self.count += 1;
+        self.mark |= got.is_none();
+    }
+
+    fn restart(&mut self, first: u8) {
+        self.empty();
+        self.hold(Some(first));
+    }
+
+    fn enter(&mut self, mode: u8) {
+        self.empty();
+        self.mode = mode;
+    }
+
+    /// A received character.
+    pub fn character(&mut self, byte: u8, buffer: &mut [u8]) -> Answer {
+        if buffer.len() < ROOM {
+            return Answer::turned_away(12);
+        }
+        if !self.well_formed() {
+            return Answer::turned_away(14);
+        }
+        let got = data_bits(byte);
+        let step = match self.mode {
+            LISTENING => self.line_character(got),
+            CONFIRMATION => self.confirmation_character(got),
+            _ => self.frame_character(got),
+        };
+        self.answer(step, buffer)
+    }
+
+    /// Sends what there is to send; bytes past it are kept.
+    fn answer(&self, step: Step, buffer: &mut [u8]) -> Answer {
+        let Some((speed, characters)) = step.reply else {
+            return Answer {
+                number: step.number,
+                speed: self.speed(),
+                length: 0,
+            };
+        };
+        for (place, &character) in buffer.iter_mut().zip(&characters) {
+            *place = with_parity(character);
+        }
+        Answer {
+            number: step.number,
+            speed,
+            length: characters.len(),
+        }
+    }
+
+    /// Mode 0.
+    fn line_character(&mut self, got: Option<u8>) -> Step {
+        if got == Some(b'/') {
+            self.restart(b'/');
+        } else if self.count == 0 {
+            // Dropped, damaged or not.
+        } else if got == Some(LF) {
+            let line = [self.held(), &[LF]].concat();
+            let called = !self.mark && self.called_by(&line);
+            self.empty();
+            if called {
+                self.enter(CONFIRMATION);
+                return Step::reply(1, 0, IDENTIFICATION);
+            }
+        } else if self.count == 31 {
+            self.empty();
+        } else {
+            self.hold(got);
+        }
+        Step::quiet(0)
+    }
+
+    fn called_by(&self, line: &[u8]) -> bool {
+        let ours = format!("/?{}!\r\n", self.shown_serial());
+        line == SIGN_ON || line == ZERO_SIGN_ON || line == ours.as_bytes()
+    }
+
+    /// Mode 1.
+    fn confirmation_character(&mut self, got: Option<u8>) -> Step {
+        self.hold(got);
+        if self.count < 6 {
+            return Step::quiet(0);
+        }
+        let choice = match self.held() {
+            [ACK, b'0', b'5', choice, CR, LF] if !self.mark => Some(*choice),
+            _ => None,
+        };
+        self.enter(LISTENING);
+        match choice {
+            Some(b'0' | b'7') => Step::reply(1, 5, &self.data_block()),
+            Some(b'1') => {
+                self.enter(PASSWORD);
+                let mut frame = b"\x01P0\x02(0000)\x03".to_vec();
+                frame.push(bcc(&frame[1..]));
+                Step::reply(1, 5, &frame)
+            }
+            _ => Step::quiet(2),
+        }
+    }
+
+    /// Modes 2 to 4.
+    fn frame_character(&mut self, got: Option<u8>) -> Step {
+        if self.held().last() == Some(&ETX) {
+            // The BCC, whatever it is.
+            self.mark |= got.is_none();
+            let frame = self.held().to_vec();
+            let decision = self.decide(&frame, got.unwrap_or(0));
+            self.empty();
+            return match decision {
+                Ok(reply) => Step::reply(1, 5, &reply),
+                Err(number) => self.refuse(number),
+            };
+        }
+        if got == Some(SOH) {
+            self.restart(SOH);
+        } else if self.count == 0 {
+            // Dropped, damaged or not.
+        } else if self.count == 63 {
+            return self.refuse(5);
+        } else {
+            self.hold(got);
+        }
+        Step::quiet(0)
+    }
+
+    /// NAK at speed 5; mode 2 falls to mode 0.
+    fn refuse(&mut self, number: u8) -> Step {
+        let mode = if self.mode == PASSWORD {
+            LISTENING
+        } else {
+            self.mode
+        };
+        self.enter(mode);
+        Step::reply(number, 5, &[NAK])
+    }
+
+    /// Decides a whole frame: the reply, or the number of its refusal.
+    fn decide(&mut self, frame: &[u8], check: u8) -> Result<Vec<u8>, u8> {
+        if self.mark {
+            return Err(3);
+        }
+        if bcc(&frame[1..]) != check {
+            return Err(4);
+        }
+        let (command, data) = match frame {
+            [SOH, a, b, ETX] if printable(*a) && printable(*b) => ([*a, *b], None),
+            [SOH, a, b, STX, data @ .., ETX]
+                if printable(*a) && printable(*b) && data.iter().all(|&c| printable(c)) =>
+            {
+                ([*a, *b], Some(data))
+            }
+            _ => return Err(6),
+        };
+        match (&command, data, self.mode) {
+            (b"B0", None, PASSWORD..=PROGRAMMING) => {
+                self.enter(LISTENING);
+                Ok(vec![ACK])
+            }
+            (b"P1", Some(data), PASSWORD) => self.password(data),
+            (b"R1", Some(data), READ_ONLY | PROGRAMMING) => self.read(data),
+            (b"W1", Some(data), PROGRAMMING) => self.write(data),
+            (b"B0", None, _) | (b"P1" | b"R1" | b"W1", Some(_), _) => Err(8),
+            _ => Err(7),
+        }
+    }
+
+    fn password(&mut self, data: &[u8]) -> Result<Vec<u8>, u8> {
+        match data {
+            b"()" => self.enter(READ_ONLY),
+            [b'(', given @ .., b')'] if given.len() == 8 && number_like(given) => {
+                if self.attempts == 3 {
+                    return Err(11);
+                }
+                if given != self.password {
+                    self.attempts += 1;
+                    return Err(10);
+                }
+                self.attempts = 0;
+                self.enter(PROGRAMMING);
+            }
+            _ => return Err(9),
+        }
+        Ok(vec![ACK])
+    }
+
+    fn read(&self, data: &[u8]) -> Result<Vec<u8>, u8> {
+        let lines = match data {
+            b"T()" => self.time_line() + &self.date_line(),
+            b"L()" => self.serial_line(),
+            b"K()" => self.account_line(),
+            [b'E', n @ b'0'..=b'4', b'(', b')'] => self.energy_line(n - b'0'),
+            [b'Z', b'(', xx @ .., b')'] if xx.len() == 2 => {
+                self.table_line(table_named(xx).ok_or(9)?)
+            }
+            _ => return Err(9),
+        };
+        Ok(block(&lines))
+    }
+
+    fn write(&mut self, data: &[u8]) -> Result<Vec<u8>, u8> {
+        match data {
+            [b'T', b'(', rest @ .., b')'] => self.clock = clock_told(rest).ok_or(9)?,
+            [b'K', b'(', account @ .., b')'] => {
+                let account: [u8; 10] = account.try_into().map_err(|_| 9)?;
+                if !account.iter().all(|&c| account_character(c)) {
+                    return Err(9);
+                }
+                self.account = account;
+            }
+            [b'Z', b'(', tens, units, b';', row @ .., b')'] => {
+                let table = table_named(&[*tens, *units]).ok_or(9)?;
+                let row: [u8; 24] = row.try_into().map_err(|_| 9)?;
+                if !row.iter().all(|&c| zone_character(c)) {
+                    return Err(9);
+                }
+                self.tables[table] = row;
+            }
+            _ => return Err(9),
+        }
+        Ok(vec![ACK])
+    }
+
+    fn shown_serial(&self) -> String {
+        text(&self.serial[..3]) + " " + &text(&self.serial[3..])
+    }
+
+    fn serial_line(&self) -> String {
+        format!("C.1.0({})\r\n", self.shown_serial())
+    }
+
+    fn time_line(&self) -> String {
+        let Clock {
+            hour,
+            minute,
+            second,
+            ..
+        } = self.clock;
+        format!("0.9.1({hour:02}:{minute:02}:{second:02})\r\n")
+    }
+
+    fn date_line(&self) -> String {
+        let Clock {
+            year, month, day, ..
+        } = self.clock;
+        format!("0.9.2({:02}-{month:02}-{day:02})\r\n", year % 100)
+    }
+
+    fn account_line(&self) -> String {
+        format!("0.0.0({})\r\n", text(&self.account))
+    }
+
+    /// Zone 1 to 4, or 0 for the sum of the four.
+    fn energy_line(&self, zone: u8) -> String {
+        let wh = match zone {
+            0 => {
+                self.counters.iter().map(|&wh| u64::from(wh)).sum::<u64>() % u64::from(COUNTER_END)
+            }
+            _ => u64::from(self.counters[usize::from(zone) - 1]),
+        };
+        format!("15.8.{zone}({:06}.{:03}*kWh)\r\n", wh / 1000, wh % 1000)
+    }
+
+    fn table_line(&self, table: usize) -> String {
+        format!("131.0.{:02}({})\r\n", table + 1, text(&self.tables[table]))
+    }
+
+    /// The data block, BCC included.
+    pub fn data_block(&self) -> Vec<u8> {
+        let mut lines = self.serial_line();
+        lines += &self.date_line();
+        lines += &self.time_line();
+        lines += &self.account_line();
+        for zone in [1, 2, 3, 4, 0] {
+            lines += &self.energy_line(zone);
+        }
+        for table in 0..24 {
+            lines += &self.table_line(table);
+        }
+        lines += "!\r\n";
+        block(&lines)
+    }
+
+    /// Eight seconds of silence.
+    pub fn silence(&mut self, buffer: &mut [u8]) -> Answer {
+        if buffer.len() < ROOM {
+            return Answer::turned_away(12);
+        }
+        if !self.well_formed() {
+            return Answer::turned_away(14);
+        }
+        let step = match self.mode {
+            LISTENING => Step::quiet(0),
+            CONFIRMATION => Step::reply(1, 0, &[NAK]),
+            _ => Step::quiet(1),
+        };
+        self.enter(LISTENING);
+        self.answer(step, buffer)
+    }
+
+    /// One second of the clock.
+    pub fn tick(&mut self) -> Answer {
+        if !self.well_formed() {
+            return Answer::turned_away(14);
+        }
+        self.clock = self.clock.next();
+        Answer {
+            number: 1,
+            speed: self.speed(),
+            length: 0,
+        }
+    }
+
+    /// The power comes back.
+    pub fn power_up(&mut self) -> Answer {
+        if !self.well_formed() {
+            return Answer::turned_away(14);
+        }
+        self.enter(LISTENING);
+        self.attempts = 0;
+        Answer {
+            number: 1,
+            speed: 0,
+            length: 0,
+        }
+    }
+
+    /// Energy used, counted in the zone that the clock and the tables name.
+    pub fn pulse(&mut self, wh: u32) -> Answer {
+        if wh > PULSE_MOST {
+            return Answer::turned_away(13);
+        }
+        if !self.well_formed() {
+            return Answer::turned_away(14);
+        }
+        let month = usize::from(self.clock.month);
+        let table = if self.clock.weekend() {
+            12 + month
+        } else {
+            month
+        };
+        let zone = self.tables[table - 1][usize::from(self.clock.hour)] - b'1';
+        let counter = &mut self.counters[usize::from(zone)];
+        *counter = (*counter + wh) % COUNTER_END;
+        Answer {
+            number: 1,
+            speed: self.speed(),
+            length: 0,
+        }
+    }
+}
+
+/// Nothing but digits.
+fn number_like(characters: &[u8]) -> bool {
+    characters.iter().all(u8::is_ascii_digit)
+}
+
+/// STX, the lines, ETX and BCC.
+fn block(lines: &str) -> Vec<u8> {
+    let mut block = [&[STX], lines.as_bytes(), &[ETX]].concat();
+    block.push(bcc(&block[1..]));
+    block
+}
+
+/// The clock of `dd-mm-yyyy;hh:nn:ss`, if there is such a moment in 2000 to 2099.
+fn clock_told(told: &[u8]) -> Option<Clock> {
+    let [d1, d2, b'-', m1, m2, b'-', y1, y2, y3, y4, b';', h1, h2, b':', n1, n2, b':', s1, s2] =
+        told
+    else {
+        return None;
+    };
+    // Two digits fit any field of the clock.
+    let pair = |tens: &u8, units: &u8| number(&[*tens, *units]).map(|value| value as u8);
+    let clock = Clock {
+        year: number(&[*y1, *y2, *y3, *y4])?,
+        month: pair(m1, m2)?,
+        day: pair(d1, d2)?,
+        hour: pair(h1, h2)?,
+        minute: pair(n1, n2)?,
+        second: pair(s1, s2)?,
+    };
+    clock.is_real().then_some(clock)
+}
+
+#[cfg(test)]
+mod tests;

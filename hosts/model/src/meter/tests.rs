@@ -1,0 +1,393 @@
+//! Document 01's facts, as far as they concern the meter, and its traps.
+
+use super::*;
+
+const ALL_ONES: &str = "111111111111111111111111";
+
+/// A meter with facts of its own in some mode with an empty receiver.
+fn meter_in(mode: u8) -> Meter {
+    let clock = Clock {
+        year: 2024,
+        month: 2,
+        day: 29,
+        hour: 8,
+        minute: 5,
+        second: 9,
+    };
+    let (number, meter) = Meter::new(*b"1234567890", *b"Kiln_7 old", *b"20304050", clock);
+    assert_eq!(number, 1);
+    Meter { mode, ..meter }
+}
+
+/// Sends wire bytes; gives the last answer and its reply, stripped of parity.
+fn wire(meter: &mut Meter, bytes: &[u8]) -> (u8, u8, Vec<u8>) {
+    let mut last = None;
+    for &byte in bytes {
+        let mut buffer = [0xAA; ROOM];
+        let answer = meter.character(byte, &mut buffer);
+        let (reply, kept) = buffer.split_at(answer.length);
+        assert!(kept.iter().all(|&byte| byte == 0xAA));
+        let reply = reply.iter().map(|&byte| data_bits(byte).unwrap());
+        last = Some((answer.number, answer.speed, reply.collect()));
+    }
+    last.unwrap()
+}
+
+fn send(meter: &mut Meter, characters: &[u8]) -> (u8, u8, Vec<u8>) {
+    let bytes: Vec<u8> = characters.iter().map(|&c| with_parity(c)).collect();
+    wire(meter, &bytes)
+}
+
+/// SOH, command, STX, data, ETX and the BCC given.
+fn frame(command: &str, data: &str, check: u8) -> Vec<u8> {
+    let mut frame = format!("\x01{command}\x02{data}\x03").into_bytes();
+    frame.push(check);
+    frame
+}
+
+/// The same with its true BCC.
+fn true_frame(command: &str, data: &str) -> Vec<u8> {
+    let mut frame = frame(command, data, 0);
+    let end = frame.len() - 1;
+    frame[end] = bcc(&frame[1..end]);
+    frame
+}
+
+const DONE: (u8, u8, &[u8]) = (1, 5, &[ACK]);
+
+fn refused(number: u8) -> (u8, u8, Vec<u8>) {
+    (number, 5, vec![NAK])
+}
+
+fn is_done(got: (u8, u8, Vec<u8>)) -> bool {
+    (got.0, got.1, &got.2[..]) == DONE
+}
+
+#[test]
+fn parity_is_even_for_every_byte() {
+    for byte in 0..=255_u8 {
+        let good = byte.count_ones() % 2 == 0;
+        assert_eq!(data_bits(byte), good.then_some(byte & 0x7F));
+        if byte < 128 {
+            assert_eq!(data_bits(with_parity(byte)), Some(byte));
+        }
+    }
+}
+
+#[test]
+fn bcc_of_b0_is_71() {
+    for mode in [PASSWORD, READ_ONLY, PROGRAMMING] {
+        let mut meter = meter_in(mode);
+        assert!(is_done(send(&mut meter, b"\x01B0\x03\x71")));
+        assert_eq!(meter, meter_in(LISTENING));
+    }
+}
+
+#[test]
+fn bcc_of_p0_is_60() {
+    let mut meter = meter_in(CONFIRMATION);
+    let got = send(&mut meter, b"\x06051\r\n");
+    assert_eq!(got, (1, 5, b"\x01P0\x02(0000)\x03\x60".to_vec()));
+    assert_eq!(meter, meter_in(PASSWORD));
+}
+
+#[test]
+fn bcc_of_empty_p1_is_61_and_e1_on_the_wire() {
+    let mut meter = meter_in(PASSWORD);
+    send(&mut meter, b"\x01P1\x02()\x03");
+    assert!(is_done(wire(&mut meter, &[0xE1])));
+    assert_eq!(meter, meter_in(READ_ONLY));
+}
+
+#[test]
+fn all_ones_for_tables_01_04_and_06() {
+    for (table, check) in [(1, 0x06), (4, 0x03), (6, 0x01)] {
+        let mut meter = meter_in(PROGRAMMING);
+        meter.tables[table - 1] = [b'2'; 24];
+        let data = format!("Z({table:02};{ALL_ONES})");
+        assert!(is_done(send(&mut meter, &frame("W1", &data, check))));
+        assert_eq!(meter, meter_in(PROGRAMMING));
+    }
+}
+
+#[test]
+fn fifteen_hundred_wh_in_zone_one() {
+    let mut meter = meter_in(READ_ONLY);
+    meter.counters[0] = 1_500;
+    let got = send(&mut meter, &true_frame("R1", "E1()"));
+    let block = b"\x0215.8.1(000001.500*kWh)\r\n\x03\x6C".to_vec();
+    assert_eq!(got, (1, 5, block));
+}
+
+#[test]
+fn first_day_of_2000_is_a_saturday() {
+    let mut meter = Meter::blank();
+    meter.tables[12][0] = b'3';
+    assert_eq!(meter.pulse(7).number, 1);
+    assert_eq!(meter.counters, [0, 0, 7, 0]);
+}
+
+#[test]
+fn counter_rolls_over() {
+    let mut meter = Meter::blank();
+    meter.counters[0] = 999_999_999;
+    assert_eq!(meter.pulse(1).number, 1);
+    assert_eq!(meter, Meter::blank());
+}
+
+#[test]
+fn leap_day_of_2000_but_not_of_2001() {
+    let mut meter = meter_in(PROGRAMMING);
+    let told = true_frame("W1", "T(29-02-2000;12:34:56)");
+    assert!(is_done(send(&mut meter, &told)));
+    let clock = Clock {
+        year: 2000,
+        month: 2,
+        day: 29,
+        hour: 12,
+        minute: 34,
+        second: 56,
+    };
+    assert_eq!(meter.clock, clock);
+    let before = meter.clone();
+    let told = true_frame("W1", "T(29-02-2001;12:34:56)");
+    assert_eq!(send(&mut meter, &told), refused(9));
+    assert_eq!(meter, before);
+}
+
+#[test]
+fn the_export_of_a_one_line_post_is_taken() {
+    let mut export = vec![0x81, 0xD7, 0xB1, 0x82, 0x5A, 0x28, 0x30, 0xB1, 0xBB];
+    export.extend([0xB1; 24]);
+    export.extend([0xA9, 0x03, 0x06]);
+    let mut meter = meter_in(PROGRAMMING);
+    meter.tables[0] = [b'4'; 24];
+    assert!(is_done(wire(&mut meter, &export)));
+    assert_eq!(meter, meter_in(PROGRAMMING));
+}
+
+#[test]
+fn data_block_is_1063_characters() {
+    for choice in [b'0', b'7'] {
+        let mut meter = meter_in(CONFIRMATION);
+        meter.counters = [999_999_999, 2, 30, 400];
+        let after = Meter {
+            mode: LISTENING,
+            ..meter.clone()
+        };
+        let (number, speed, block) = send(&mut meter, &[ACK, b'0', b'5', choice, CR, LF]);
+        assert_eq!((number, speed, block.len()), (1, 5, BLOCK));
+        assert_eq!(meter, after);
+        let start = "\x02C.1.0(123 4567890)\r\n0.9.2(24-02-29)\r\n0.9.1(08:05:09)\r\n\
+             0.0.0(Kiln_7 old)\r\n15.8.1(999999.999*kWh)\r\n15.8.2(000000.002*kWh)\r\n\
+             15.8.3(000000.030*kWh)\r\n15.8.4(000000.400*kWh)\r\n15.8.0(000000.431*kWh)\r\n\
+             131.0.01(111111111111111111111111)\r\n131.0.02(";
+        assert!(block.starts_with(start.as_bytes()));
+        assert!(block[..BLOCK - 1].ends_with(b"1)\r\n!\r\n\x03"));
+        assert_eq!(bcc(&block[1..]), 0);
+    }
+}
+
+#[test]
+fn sign_on_by_all_three_lines() {
+    for line in ["/?!\r\n", "/?123 4567890!\r\n", "/?000 0000000!\r\n"] {
+        let mut meter = meter_in(LISTENING);
+        let got = send(&mut meter, line.as_bytes());
+        assert_eq!(got, (1, 0, b"/ZZZ5SUB-VP01.00*\r\n".to_vec()));
+        assert_eq!(meter, meter_in(CONFIRMATION));
+    }
+    for line in [
+        "/?123 4567891!\r\n",
+        "/?1234567890!\r\n",
+        "/?\r\n",
+        "/!\r\n",
+    ] {
+        let mut meter = meter_in(LISTENING);
+        assert_eq!(send(&mut meter, line.as_bytes()), (0, 0, vec![]));
+        assert_eq!(meter, meter_in(LISTENING));
+    }
+}
+
+#[test]
+fn restart_clears_the_mark() {
+    let mut meter = meter_in(LISTENING);
+    wire(&mut meter, &[0xAF, 0x01]);
+    assert!(meter.mark);
+    assert_eq!(send(&mut meter, b"/?!\r\n").0, 1);
+    let mut meter = meter_in(PROGRAMMING);
+    wire(&mut meter, &[0x81, 0x01]);
+    assert!(meter.mark);
+    assert!(is_done(send(&mut meter, b"\x01B0\x03\x71")));
+}
+
+#[test]
+fn malformed_passwords_are_no_attempts() {
+    for data in [
+        "(2030405)",
+        "(203040500)",
+        "(2030405x)",
+        "20304050",
+        "(",
+        "",
+    ] {
+        for attempts in 0..=3 {
+            let mut meter = meter_in(PASSWORD);
+            meter.attempts = attempts;
+            assert_eq!(send(&mut meter, &true_frame("P1", data)), refused(9));
+            let mut after = meter_in(LISTENING);
+            after.attempts = attempts;
+            assert_eq!(meter, after);
+        }
+    }
+}
+
+#[test]
+fn three_wrong_passwords_lock() {
+    let mut meter = meter_in(PASSWORD);
+    for attempts in 1..=3 {
+        let wrong = true_frame("P1", "(20304051)");
+        assert_eq!(send(&mut meter, &wrong), refused(10));
+        assert_eq!((meter.mode, meter.attempts), (LISTENING, attempts));
+        meter.mode = PASSWORD;
+    }
+    let right = true_frame("P1", "(20304050)");
+    assert_eq!(send(&mut meter, &right), refused(11));
+    meter.mode = PASSWORD;
+    assert!(is_done(send(&mut meter, &true_frame("P1", "()"))));
+    assert_eq!((meter.mode, meter.attempts), (READ_ONLY, 3));
+    assert_eq!(meter.power_up().number, 1);
+    meter.mode = PASSWORD;
+    assert!(is_done(send(&mut meter, &right)));
+    assert_eq!((meter.mode, meter.attempts), (PROGRAMMING, 0));
+}
+
+#[test]
+fn frames_of_64_are_taken_and_of_65_too_long() {
+    let mut meter = meter_in(PROGRAMMING);
+    let long = true_frame("W1", &"x".repeat(58));
+    assert_eq!(long.len(), 64);
+    assert_eq!(send(&mut meter, &long), refused(9));
+    let longer = true_frame("W1", &"x".repeat(59));
+    assert_eq!(send(&mut meter, &longer[..64]), refused(5));
+    assert_eq!(meter, meter_in(PROGRAMMING));
+}
+
+#[test]
+fn order_of_deciding() {
+    let mut meter = meter_in(READ_ONLY);
+    let refusals: [(&[u8], u8); 6] = [
+        (b"\x01W1\x02Z\x03\x00", 4),
+        (b"\x01W\x03\x54", 6),
+        (b"\x01B0\x02\x03\x73", 7),
+        (b"\x01W1\x02\x03\x67", 8),
+        (b"\x01P1\x02\x03\x60", 8),
+        (b"\x01R1\x02\x03\x62", 9),
+    ];
+    for (frame, number) in refusals {
+        assert_eq!(send(&mut meter, frame), refused(number));
+    }
+    send(&mut meter, b"\x01W1\x02Z\x03");
+    assert_eq!(wire(&mut meter, &[0x01]), refused(3));
+}
+
+#[test]
+fn clock_goes_over_every_kind_of_end() {
+    let ends = [
+        ((2000, 2, 29), (2000, 3, 1)),
+        ((2001, 2, 28), (2001, 3, 1)),
+        ((2024, 2, 28), (2024, 2, 29)),
+        ((2023, 4, 30), (2023, 5, 1)),
+        ((2023, 12, 31), (2024, 1, 1)),
+        ((2099, 12, 31), (2000, 1, 1)),
+    ];
+    for (from, to) in ends {
+        let mut meter = Meter::blank();
+        meter.clock = Clock {
+            year: from.0,
+            month: from.1,
+            day: from.2,
+            hour: 23,
+            minute: 59,
+            second: 59,
+        };
+        assert_eq!(meter.tick().number, 1);
+        let clock = meter.clock;
+        assert_eq!((clock.year, clock.month, clock.day), to);
+        assert_eq!((clock.hour, clock.minute, clock.second), (0, 0, 0));
+    }
+}
+
+#[test]
+fn known_weekdays() {
+    let weekend = |year, month, day| {
+        Clock {
+            year,
+            month,
+            day,
+            ..Clock::FIRST
+        }
+        .weekend()
+    };
+    assert!(weekend(2000, 1, 1) && weekend(2000, 1, 2) && !weekend(2000, 1, 3));
+    assert!(!weekend(2024, 2, 29) && weekend(2024, 3, 2) && weekend(2024, 3, 3));
+    assert!(!weekend(2099, 12, 31) && weekend(2099, 12, 27) && weekend(2099, 12, 26));
+}
+
+#[test]
+fn refusals_come_in_their_order() {
+    let mut broken = meter_in(PROGRAMMING);
+    broken.attempts = 4;
+    let kept = broken.clone();
+    let mut small = [0xAA; ROOM - 1];
+    let mut large = [0xAA; ROOM];
+    assert_eq!(broken.character(0x81, &mut small).number, 12);
+    assert_eq!(broken.silence(&mut small).number, 12);
+    assert_eq!(broken.character(0x81, &mut large).number, 14);
+    assert_eq!(broken.silence(&mut large).number, 14);
+    assert_eq!(broken.pulse(1_000_001).number, 13);
+    assert_eq!(broken.pulse(1_000_000).number, 14);
+    assert_eq!(broken.tick().number, 14);
+    assert_eq!(broken.power_up().number, 14);
+    assert_eq!(broken, kept);
+    assert!(large.iter().all(|&byte| byte == 0xAA));
+}
+
+#[test]
+fn bad_facts_give_the_blank_state() {
+    let good = (*b"1234567890", *b"Kiln_7 old", *b"20304050", Clock::FIRST);
+    assert_eq!(Meter::new(good.0, good.1, good.2, good.3).0, 1);
+    let day = Clock {
+        day: 32,
+        ..Clock::FIRST
+    };
+    for (serial, account, password, clock) in [
+        (*b"123456789a", good.1, good.2, good.3),
+        (good.0, *b"Kiln-7 old", good.2, good.3),
+        (good.0, good.1, *b"2030405:", good.3),
+        (good.0, good.1, good.2, day),
+    ] {
+        let got = Meter::new(serial, account, password, clock);
+        assert_eq!(got, (15, Meter::blank()));
+    }
+    assert!(Meter::blank().well_formed());
+}
+
+#[test]
+fn silence_in_every_mode() {
+    for (mode, number, reply) in [
+        (LISTENING, 0, 0),
+        (CONFIRMATION, 1, 1),
+        (PASSWORD, 1, 0),
+        (READ_ONLY, 1, 0),
+        (PROGRAMMING, 1, 0),
+    ] {
+        let mut meter = meter_in(mode);
+        send(&mut meter, if mode == LISTENING { b"/" } else { b"\x01" });
+        let mut buffer = [0xAA; ROOM];
+        let answer = meter.silence(&mut buffer);
+        assert_eq!((answer.number, answer.speed), (number, 0));
+        assert_eq!(answer.length, reply);
+        assert_eq!(buffer[0], if reply == 1 { 0x95 } else { 0xAA });
+        assert_eq!(meter, meter_in(LISTENING));
+    }
+}

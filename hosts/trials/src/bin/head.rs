@@ -1,0 +1,1065 @@
+//! Compares the proved head with the model, call by call, on cases good and bad.
+//! `head [seed]` ends with the count of equal cases, or shows the first difference and fails.
+
+#[path = "../head_link.rs"]
+mod head_link;
+
+use ::model::head::{self as model, answer, Clock, Command, Kind, Registers, Step};
+use std::fmt::Debug;
+use std::process::ExitCode;
+use std::time::Instant;
+
+/// A head under trial: the proved one, or a wrong one that the trial must notice.
+trait Head {
+    fn build(&self, command: &Command, out: &mut [u8]) -> (u8, usize);
+    fn strip(&self, reply: &[u8], out: &mut [u8]) -> (u8, usize);
+    fn part(&self, stripped: &[u8]) -> (u8, usize, usize);
+    fn next(&self, sets: &[u8], at: usize) -> Step;
+    fn value(&self, kind: Kind, value: &[u8]) -> (u8, Vec<u32>);
+}
+
+struct Proved;
+
+impl Head for Proved {
+    fn build(&self, command: &Command, out: &mut [u8]) -> (u8, usize) {
+        head_link::build(command, out)
+    }
+    fn strip(&self, reply: &[u8], out: &mut [u8]) -> (u8, usize) {
+        head_link::strip(reply, out)
+    }
+    fn part(&self, stripped: &[u8]) -> (u8, usize, usize) {
+        head_link::part(stripped)
+    }
+    fn next(&self, sets: &[u8], at: usize) -> Step {
+        head_link::next(sets, at)
+    }
+    fn value(&self, kind: Kind, value: &[u8]) -> (u8, Vec<u32>) {
+        head_link::value(kind, value)
+    }
+}
+
+/// The model's part in the form of the call: a refused part is empty and starts at 0.
+fn ruled_part(stripped: &[u8]) -> (u8, usize, usize) {
+    match model::part(stripped) {
+        Ok(part) => (answer::DONE, part.start, part.len()),
+        Err(refusal) => (refusal, 0, 0),
+    }
+}
+
+// Chance, the same for the same seed.
+
+struct Chance(u64);
+
+impl Chance {
+    fn number(&mut self) -> u64 {
+        self.0 = self.0.wrapping_add(0x9E37_79B9_7F4A_7C15);
+        let mut n = self.0;
+        n = (n ^ (n >> 30)).wrapping_mul(0xBF58_476D_1CE4_E5B9);
+        n = (n ^ (n >> 27)).wrapping_mul(0x94D0_49BB_1331_11EB);
+        n ^ (n >> 31)
+    }
+
+    fn below(&mut self, limit: usize) -> usize {
+        (self.number() % limit as u64) as usize
+    }
+
+    fn between(&mut self, least: usize, most: usize) -> usize {
+        least + self.below(most - least + 1)
+    }
+
+    fn byte(&mut self) -> u8 {
+        self.number() as u8
+    }
+
+    fn one_in(&mut self, count: usize) -> bool {
+        self.below(count) == 0
+    }
+
+    fn pick(&mut self, from: &[u8]) -> u8 {
+        from[self.below(from.len())]
+    }
+
+    fn text(&mut self, from: &[u8], length: usize) -> Vec<u8> {
+        (0..length).map(|_| self.pick(from)).collect()
+    }
+
+    fn texts<const N: usize>(&mut self, from: &[u8]) -> [u8; N] {
+        std::array::from_fn(|_| self.pick(from))
+    }
+
+    /// A byte that is near the edge of some rule, or any.
+    fn odd_byte(&mut self) -> u8 {
+        if self.one_in(3) {
+            self.byte()
+        } else {
+            self.pick(EDGES)
+        }
+    }
+
+    /// A clock that is mostly real.
+    fn clock(&mut self) -> Clock {
+        let spoilt = |me: &mut Chance, good: usize| {
+            if me.one_in(12) {
+                me.byte()
+            } else {
+                good as u8
+            }
+        };
+        let (month, day) = (self.between(1, 12), self.between(1, 31));
+        let (hour, minute, second) = (self.below(24), self.below(60), self.below(60));
+        Clock {
+            year: match self.below(16) {
+                0 => self.number() as u16,
+                1 => self.between(1990, 2110) as u16,
+                _ => self.between(2000, 2099) as u16,
+            },
+            month: spoilt(self, month),
+            day: spoilt(self, day),
+            hour: spoilt(self, hour),
+            minute: spoilt(self, minute),
+            second: spoilt(self, second),
+        }
+    }
+
+    fn real_clock(&mut self) -> Clock {
+        loop {
+            let clock = self.clock();
+            if clock.real() {
+                return clock;
+            }
+        }
+    }
+
+    fn counter(&mut self) -> u32 {
+        let size = 10usize.pow(self.between(0, 9) as u32);
+        match self.below(8) {
+            0 => 0,
+            1 => 999_999_999,
+            _ => self.below(size) as u32,
+        }
+    }
+
+    fn registers(&mut self) -> Registers {
+        Registers {
+            serial: self.texts(DIGITS),
+            account: self.texts(ACCOUNT),
+            clock: self.real_clock(),
+            counters: std::array::from_fn(|_| self.counter()),
+            tables: std::array::from_fn(|_| self.texts(ZONES)),
+        }
+    }
+
+    /// Changes, drops, doubles or puts in one byte at a place of chance.
+    fn hurt(&mut self, text: &mut Vec<u8>) {
+        if text.is_empty() {
+            text.push(self.odd_byte());
+            return;
+        }
+        let place = self.below(text.len());
+        match self.below(8) {
+            0 => drop(text.remove(place)),
+            1 => text.insert(place, text[place]),
+            2 => text.insert(place, self.odd_byte()),
+            3 => text.truncate(place),
+            _ => text[place] = self.odd_byte(),
+        }
+    }
+}
+
+const DIGITS: &[u8] = b"0123456789";
+const ZONES: &[u8] = b"1234";
+const ACCOUNT: &[u8] = b"ABCDEFGHIJKLMNOPQRSTUVWXYZabcdefghijklmnopqrstuvwxyz0123456789 _";
+const ADDRESS: &[u8] = b"ABCXYZabcxyz0123456789.";
+const VALUE: &[u8] = b"0123456789 ABCXYZabcxyz.,:;-*_#$%&'+<=>?@[\\]^`{|}~\"";
+const EDGES: &[u8] =
+    b"\x00\x01\x02\x03\x06\n\r\x15\x1F !()*+,-./0123459:;@AZ[_`az{}~\x7F\x80\x81\x82\x83\xA8\xB1\xFF";
+
+/// The rooms that a command is built in, around the least that is taken.
+const ROOMS: [usize; 12] = [0, 1, 2, 5, 35, 36, 62, 63, 64, 65, 128, 2048];
+
+/// Bytes lent before and after every buffer, to see that nothing is written there.
+const MARGIN: usize = 16;
+
+// The comparison.
+
+type Outcome = Result<(), String>;
+
+struct Trial<'h> {
+    head: &'h dyn Head,
+    chance: Chance,
+    cases: u64,
+    theirs: Vec<u8>,
+    ours: Vec<u8>,
+}
+
+fn hex(bytes: &[u8]) -> String {
+    let shown: Vec<String> = bytes.iter().map(|byte| format!("{byte:02X}")).collect();
+    format!("[{}] ({} bytes)", shown.join(" "), bytes.len())
+}
+
+/// The first difference, for a person to read.
+fn difference(call: &str, input: String, told: &dyn Debug, ruled: &dyn Debug) -> String {
+    format!("{call} of {input}\n  library: {told:?}\n  model:   {ruled:?}")
+}
+
+impl<'h> Trial<'h> {
+    fn new(head: &'h dyn Head, seed: u64) -> Self {
+        Trial {
+            head,
+            chance: Chance(seed),
+            cases: 0,
+            theirs: Vec::new(),
+            ours: Vec::new(),
+        }
+    }
+
+    /// Fills both buffers with one pattern, another for every case.
+    fn lend(&mut self, room: usize) {
+        let first = self.cases as u8;
+        let pattern = (0..room + 2 * MARGIN).map(|n| first.wrapping_add((n * 167) as u8));
+        self.ours.clear();
+        self.ours.extend(pattern);
+        self.theirs.clear();
+        self.theirs.extend_from_slice(&self.ours);
+        self.cases += 1;
+    }
+
+    /// Compares answer, length and every byte of the buffer lent.
+    fn same_buffers(
+        &self,
+        call: &str,
+        told: (u8, usize),
+        ruled: (u8, usize),
+        input: impl Fn() -> String,
+    ) -> Outcome {
+        if told != ruled {
+            return Err(difference(call, input(), &told, &ruled));
+        }
+        if self.theirs == self.ours {
+            return Ok(());
+        }
+        let differ = |(theirs, ours)| theirs != ours;
+        let place = self.theirs.iter().zip(&self.ours).position(differ);
+        let place = place.map_or(0, |place| place as isize - MARGIN as isize);
+        let room = MARGIN..self.ours.len() - MARGIN;
+        Err(format!(
+            "{call} of {}: byte {place} of the buffer differs\n  library: {}\n  model:   {}",
+            input(),
+            hex(&self.theirs[room.clone()]),
+            hex(&self.ours[room])
+        ))
+    }
+
+    fn build(&mut self, command: &Command, room: usize) -> Outcome {
+        self.lend(room);
+        let told = self
+            .head
+            .build(command, &mut self.theirs[MARGIN..MARGIN + room]);
+        let ruled = model::build(command, &mut self.ours[MARGIN..MARGIN + room]);
+        self.same_buffers("build", told, ruled, || {
+            format!("{command:X?} (fields in hex) in room {room}")
+        })
+    }
+
+    fn strip(&mut self, reply: &[u8], room: usize) -> Outcome {
+        self.lend(room);
+        let told = self
+            .head
+            .strip(reply, &mut self.theirs[MARGIN..MARGIN + room]);
+        let ruled = model::strip(reply, &mut self.ours[MARGIN..MARGIN + room]);
+        self.same_buffers("strip", told, ruled, || {
+            format!("{} into room {room}", hex(reply))
+        })
+    }
+
+    fn part(&mut self, stripped: &[u8]) -> Outcome {
+        self.cases += 1;
+        let told = self.head.part(stripped);
+        let ruled = ruled_part(stripped);
+        if told != ruled {
+            return Err(difference("part", hex(stripped), &told, &ruled));
+        }
+        Ok(())
+    }
+
+    fn next(&mut self, sets: &[u8], at: usize) -> Result<Step, String> {
+        self.cases += 1;
+        let told = self.head.next(sets, at);
+        let ruled = model::next(sets, at);
+        if told != ruled {
+            let input = format!("{} at place {at}", hex(sets));
+            return Err(difference("next", input, &told, &ruled));
+        }
+        Ok(ruled)
+    }
+
+    /// Reads sets from a place on until the reader stays.
+    fn walk(&mut self, sets: &[u8], mut at: usize) -> Outcome {
+        loop {
+            let step = self.next(sets, at)?;
+            if step.answer != answer::DONE {
+                return Ok(());
+            }
+            at = step.next;
+        }
+    }
+
+    fn value(&mut self, kind: Kind, value: &[u8]) -> Outcome {
+        self.cases += 1;
+        let told = self.head.value(kind, value);
+        let ruled = model::value(kind, value);
+        if told != ruled {
+            let input = format!("{kind:?} {}", hex(value));
+            return Err(difference("value", input, &told, &ruled));
+        }
+        Ok(())
+    }
+}
+
+/// Every text up to a length over a few characters.
+fn every_text(alphabet: &[u8], longest: u32, mut each: impl FnMut(&[u8]) -> Outcome) -> Outcome {
+    for length in 0..=longest {
+        for number in 0..alphabet.len().pow(length) {
+            let digit = |n: u32| number / alphabet.len().pow(n) % alphabet.len();
+            let text: Vec<u8> = (0..length).map(|n| alphabet[digit(n)]).collect();
+            each(&text)?;
+        }
+    }
+    Ok(())
+}
+
+// The sections: one for each kind of call.
+
+type Section = fn(&mut Trial) -> Outcome;
+
+const SECTIONS: [(&str, Section); 6] = [
+    ("commands", commands),
+    ("strips", strips),
+    ("parts", parts),
+    ("data sets", data_sets),
+    ("values", values),
+    ("round trips", round_trips),
+];
+
+/// The commands that have no field.
+const BARE: [Command; 7] = [
+    Command::SignOn,
+    Command::Enter,
+    Command::ReadClock,
+    Command::ReadSerial,
+    Command::ReadAccount,
+    Command::ReadTotal,
+    Command::SignOff,
+];
+
+/// A command with a field of characters, and what that field is made of.
+type Filled = (for<'a> fn(&'a [u8]) -> Command<'a>, &'static [u8], usize);
+
+const FILLED: [Filled; 4] = [
+    (|serial| Command::SignOnTo(serial), DIGITS, 10),
+    (|password| Command::Password(password), DIGITS, 8),
+    (|account| Command::WriteAccount(account), ACCOUNT, 10),
+    (|row| Command::WriteTable(24, row), ZONES, 24),
+];
+
+fn commands(t: &mut Trial) -> Outcome {
+    for command in &BARE {
+        for room in (0..=200).chain(ROOMS) {
+            t.build(command, room)?;
+        }
+    }
+    for room in ROOMS {
+        for byte in 0..=255 {
+            let row: [u8; 24] = t.chance.texts(ZONES);
+            for command in [
+                Command::Confirm(byte),
+                Command::ReadZone(byte),
+                Command::ReadTable(byte),
+                Command::WriteTable(byte, &row),
+            ] {
+                t.build(&command, room)?;
+            }
+        }
+    }
+    for (filled, made_of, length) in FILLED {
+        for room in ROOMS {
+            for other in 0..=70 {
+                let field = t.chance.text(made_of, other);
+                t.build(&filled(&field), room)?;
+            }
+        }
+        for place in 0..length {
+            for byte in 0..=255 {
+                let mut field = t.chance.text(made_of, length);
+                field[place] = byte;
+                for room in [63, 64, 65] {
+                    t.build(&filled(&field), room)?;
+                }
+            }
+        }
+    }
+    clock_writes(t)?;
+    for _ in 0..250_000 {
+        any_command(t)?;
+    }
+    Ok(())
+}
+
+fn clock_writes(t: &mut Trial) -> Outcome {
+    for year in 1999..=2101 {
+        for month in 0..=13 {
+            for day in 0..=32 {
+                let clock = Clock {
+                    year,
+                    month,
+                    day,
+                    ..t.chance.real_clock()
+                };
+                t.build(&Command::WriteClock(clock), 64)?;
+            }
+        }
+    }
+    for hour in [0, 1, 9, 10, 19, 20, 23, 24, 25, 99, 128, 255] {
+        for minute in [0, 1, 9, 10, 30, 59, 60, 61, 99, 100, 255] {
+            for second in [0, 1, 9, 10, 30, 59, 60, 61, 99, 100, 255] {
+                for room in [0, 63, 64, 65] {
+                    let clock = Clock {
+                        hour,
+                        minute,
+                        second,
+                        ..t.chance.real_clock()
+                    };
+                    t.build(&Command::WriteClock(clock), room)?;
+                }
+            }
+        }
+    }
+    // Numbers whose low byte alone would be in range.
+    for year in [0, 1, 20, 99, 208, 1900, 2000 + 256, 2000 + 4096, u16::MAX] {
+        let clock = Clock {
+            year,
+            ..t.chance.real_clock()
+        };
+        t.build(&Command::WriteClock(clock), 64)?;
+    }
+    Ok(())
+}
+
+fn any_command(t: &mut Trial) -> Outcome {
+    let room = match t.chance.below(8) {
+        0 => t.chance.below(64),
+        1 => t.chance.between(60, 68),
+        2 => ROOMS[t.chance.below(ROOMS.len())],
+        _ => t.chance.between(64, 100),
+    };
+    let (number, table) = (t.chance.below(40) as u8, t.chance.between(1, 24) as u8);
+    let kind = t.chance.below(10);
+    if kind < FILLED.len() {
+        let (filled, made_of, length) = FILLED[kind];
+        let mut field = t.chance.text(made_of, length);
+        if t.chance.one_in(3) {
+            t.chance.hurt(&mut field);
+        }
+        return t.build(&filled(&field), room);
+    }
+    let row: [u8; 24] = t.chance.texts(ZONES);
+    let command = match kind {
+        4 => BARE[t.chance.below(BARE.len())],
+        5 => Command::Confirm(t.chance.odd_byte()),
+        6 => Command::ReadZone(number % 8),
+        7 => Command::ReadTable(number),
+        8 => Command::WriteTable(table, &row),
+        _ => Command::WriteClock(t.chance.clock()),
+    };
+    t.build(&command, room)
+}
+
+/// A whole data block of a meter with registers of chance, in seven bits.
+fn data_block(t: &mut Trial) -> Vec<u8> {
+    model::block(&t.chance.registers().data())
+}
+
+fn strips(t: &mut Trial) -> Outcome {
+    for first in 0..=255 {
+        for room in 0..=3 {
+            t.strip(&[first], room)?;
+        }
+        for second in 0..=255 {
+            t.strip(&[first, second], 2)?;
+        }
+    }
+    for length in 0..=72 {
+        for room in 0..=80 {
+            let characters: Vec<u8> = (0..length).map(|_| t.chance.byte() & 0x7F).collect();
+            let mut reply = model::on_the_wire(&characters);
+            t.strip(&reply, room)?;
+            if length > 0 {
+                reply[t.chance.below(length)] ^= 1 << t.chance.below(8);
+                t.strip(&reply, room)?;
+            }
+        }
+    }
+    for _ in 0..4 {
+        let mut reply = model::on_the_wire(&data_block(t));
+        for room in (0..8).chain(1000..1100).chain([2048]) {
+            t.strip(&reply, room)?;
+        }
+        for place in 0..reply.len() {
+            for bit in 0..8 {
+                reply[place] ^= 1 << bit;
+                t.strip(&reply, reply.len())?;
+                // Room comes before damage.
+                if bit == 0 {
+                    t.strip(&reply, reply.len() - 1)?;
+                }
+                reply[place] ^= 1 << bit;
+            }
+        }
+    }
+    for _ in 0..150_000 {
+        let longest = if t.chance.one_in(8) { 1_200 } else { 90 };
+        let length = t.chance.below(longest);
+        let characters: Vec<u8> = (0..length).map(|_| t.chance.byte() & 0x7F).collect();
+        let mut reply = model::on_the_wire(&characters);
+        if length > 0 && t.chance.one_in(2) {
+            for _ in 0..t.chance.between(1, 3) {
+                reply[t.chance.below(length)] ^= 1 << t.chance.below(8);
+            }
+        }
+        let room = match t.chance.below(6) {
+            0 => t.chance.below(length + 1),
+            1 => (length + 1).saturating_sub(t.chance.below(3)),
+            _ => length + t.chance.below(20),
+        };
+        t.strip(&reply, room)?;
+    }
+    Ok(())
+}
+
+fn parts(t: &mut Trial) -> Outcome {
+    every_text(b"\x00\x01\x02\x03AB\x83", 6, |text| t.part(text))?;
+    let short = model::block(b"C.1.0(012 3456789)\r\n");
+    let whole = data_block(t);
+    for good in [short, whole] {
+        for length in 0..=good.len() {
+            t.part(&good[..length])?;
+            t.part(&good[length..])?;
+        }
+        for place in 0..good.len() {
+            let mut block = good.clone();
+            for byte in 0..=255 {
+                block[place] = byte;
+                t.part(&block)?;
+            }
+            let mut missing = good.clone();
+            missing.remove(place);
+            t.part(&missing)?;
+        }
+        broken_inside(t, &good)?;
+    }
+    // Every BCC that there is, ETX, STX and SOH among them.
+    for sum in 0..=0x7F {
+        for length in 1..40 {
+            let mut data = t.chance.text(VALUE, length);
+            data[length - 1] ^= model::bcc(&data) ^ 3 ^ sum;
+            t.part(&model::block(&data))?;
+        }
+    }
+    for _ in 0..150_000 {
+        let length = t.chance.below(100);
+        let data: Vec<u8> = match t.chance.below(3) {
+            0 => (0..length).map(|_| t.chance.byte() & 0x7F).collect(),
+            1 => (0..length).map(|_| t.chance.odd_byte()).collect(),
+            _ => t.chance.text(VALUE, length),
+        };
+        let mut block = model::block(&data);
+        if t.chance.one_in(3) {
+            for _ in 0..t.chance.between(1, 3) {
+                t.chance.hurt(&mut block);
+            }
+        }
+        t.part(&block)?;
+    }
+    Ok(())
+}
+
+/// Blocks that are broken though their BCC is right, and changes that the BCC can't see.
+fn broken_inside(t: &mut Trial, good: &[u8]) -> Outcome {
+    let data = &good[1..good.len() - 2];
+    for place in 0..data.len() {
+        for byte in [0x00, 0x01, 0x02, 0x03, 0x7F, 0x80, 0x83, 0xFF] {
+            let mut changed = data.to_vec();
+            changed[place] = byte;
+            let mut block = model::block(&changed);
+            t.part(&block)?;
+            *block.last_mut().expect("the BCC") &= 0x7F;
+            t.part(&block)?;
+        }
+        let mut block = good.to_vec();
+        let flip = 1 << t.chance.below(8);
+        block[1 + place] ^= flip;
+        block[1 + t.chance.below(data.len())] ^= flip;
+        t.part(&block)?;
+    }
+    Ok(())
+}
+
+/// Lines of each kind that a meter sends, and the shortest and longest that there may be.
+fn lines(t: &mut Trial) -> Vec<Vec<u8>> {
+    let registers = t.chance.registers();
+    let mut sets = registers.data_sets();
+    sets.drain(11..31);
+    let mut lines: Vec<Vec<u8>> = sets
+        .iter()
+        .map(|(address, value)| model::line(address, value))
+        .collect();
+    lines.push(model::line("a", ""));
+    lines.push(model::line("Z", "~"));
+    lines.push(model::line("ABCDEFGH.abc.xyz", &" }~&'*.0".repeat(4)));
+    lines
+}
+
+fn data_sets(t: &mut Trial) -> Outcome {
+    for _ in 0..8 {
+        let data = t.chance.registers().data();
+        for at in (0..data.len() + 40).chain([1 << 31, 1 << 32, 1 << 63]) {
+            t.next(&data, at)?;
+        }
+        for below_most in 0..70 {
+            t.next(&data, usize::MAX - below_most)?;
+        }
+        for length in 0..data.len() {
+            t.next(&data[..length], length - length % 36)?;
+        }
+    }
+    every_text(b"A()!\r\n", 6, |text| {
+        t.walk(text, 0)?;
+        t.next(text, 1).map(drop)
+    })?;
+    for address_length in 0..=20 {
+        for value_length in 0..=40 {
+            let mut text = t.chance.text(ADDRESS, address_length);
+            text.push(b'(');
+            text.extend(t.chance.text(VALUE, value_length));
+            text.extend(b")\r\n");
+            t.walk(&text, 0)?;
+            for length in 0..text.len() {
+                t.next(&text[..length], 0)?;
+            }
+        }
+    }
+    // No bracket ever comes: the address or the value runs to the end.
+    for length in 0..=64 {
+        let text = t.chance.text(ADDRESS, length);
+        t.next(&text, 0)?;
+        t.next(&[b"A(", &text[..]].concat(), 0)?;
+    }
+    for line in lines(t) {
+        hurt_lines(t, &line)?;
+    }
+    for _ in 0..6_000 {
+        let mut data = t.chance.registers().data();
+        for _ in 0..t.chance.between(1, 2) {
+            t.chance.hurt(&mut data);
+        }
+        t.walk(&data, 0)?;
+    }
+    for _ in 0..60_000 {
+        let length = t.chance.below(60);
+        let text: Vec<u8> = (0..length).map(|_| t.chance.odd_byte()).collect();
+        let at = t.chance.below(length + 3);
+        t.next(&text, at)?;
+    }
+    Ok(())
+}
+
+/// A line damaged in every way at every place, first, last and between good ones.
+fn hurt_lines(t: &mut Trial, line: &[u8]) -> Outcome {
+    let surroundings: [(&[u8], &[u8]); 4] = [
+        (b"", b""),
+        (b"A()\r\n", b""),
+        (b"", b"B(b)\r\n!\r\n"),
+        (b"15.8.0(000000.000*kWh)\r\n", b"!\r\nC()\r\n"),
+    ];
+    let mut number = 0;
+    let mut try_line = |hurt: &[u8]| {
+        let (before, after) = surroundings[number % surroundings.len()];
+        number += 1;
+        let text = [before, hurt, after].concat();
+        t.next(&text, before.len())?;
+        t.walk(&text, 0)
+    };
+    for place in 0..line.len() {
+        let mut changed = line.to_vec();
+        for byte in 0..=255 {
+            changed[place] = byte;
+            try_line(&changed)?;
+        }
+        let mut missing = line.to_vec();
+        missing.remove(place);
+        for _ in surroundings {
+            try_line(&missing)?;
+            try_line(&line[..place])?;
+            try_line(&line[place..])?;
+        }
+        for &byte in EDGES {
+            let mut longer = line.to_vec();
+            longer.insert(place, byte);
+            try_line(&longer)?;
+        }
+        let (head, tail) = line.split_at(place);
+        try_line(&[head, b"!\r\n", tail].concat())?;
+        try_line(&[head, b")\r\n", tail].concat())?;
+        try_line(&[head, b"\r\n", tail].concat())?;
+    }
+    Ok(())
+}
+
+/// A good value of a kind, and the numbers or characters that made it.
+fn good_value(t: &mut Trial, kind: Kind) -> (Vec<u8>, Vec<u32>) {
+    let registers = t.chance.registers();
+    let wide = |characters: &[u8]| characters.iter().map(|&c| u32::from(c)).collect();
+    let c = registers.clock;
+    let (place, made) = match kind {
+        Kind::Serial => (0, wide(&registers.serial)),
+        Kind::Date => (1, vec![c.year.into(), c.month.into(), c.day.into()]),
+        Kind::Time => (2, wide(&[c.hour, c.minute, c.second])),
+        Kind::Account => (3, wide(&registers.account)),
+        Kind::Counter => (4, vec![registers.counters[0]]),
+        Kind::Row => (9, wide(&registers.tables[0])),
+    };
+    let (_, value) = registers.data_sets().swap_remove(place);
+    (value.into_bytes(), made)
+}
+
+fn values(t: &mut Trial) -> Outcome {
+    for year in 0..100 {
+        for month in 0..=20 {
+            for day in 0..=40 {
+                let date = format!("{year:02}-{month:02}-{day:02}");
+                t.value(Kind::Date, date.as_bytes())?;
+            }
+        }
+    }
+    for hour in 0..100 {
+        for minute in 0..100 {
+            for second in [0, 9, 10, 29, 58, 59, 60, 61, 69, 99] {
+                let time = format!("{hour:02}:{minute:02}:{second:02}");
+                t.value(Kind::Time, time.as_bytes())?;
+            }
+        }
+    }
+    for kind in Kind::ALL {
+        for _ in 0..2 {
+            let (good, _) = good_value(t, kind);
+            for place in 0..good.len() {
+                let mut value = good.clone();
+                for byte in 0..=255 {
+                    value[place] = byte;
+                    t.value(kind, &value)?;
+                }
+                let mut missing = good.clone();
+                missing.remove(place);
+                t.value(kind, &missing)?;
+                t.value(kind, &good[..place])?;
+                for &byte in EDGES {
+                    let mut longer = good.clone();
+                    longer.insert(place, byte);
+                    t.value(kind, &longer)?;
+                }
+            }
+            for &byte in EDGES {
+                t.value(kind, &[&good[..], &[byte]].concat())?;
+            }
+            for other in Kind::ALL {
+                t.value(other, &good)?;
+            }
+        }
+        for length in 0..=70 {
+            for made_of in [DIGITS, ZONES, ACCOUNT, VALUE] {
+                let value = t.chance.text(made_of, length);
+                t.value(kind, &value)?;
+            }
+        }
+        for _ in 0..30_000 {
+            let (mut value, _) = good_value(t, kind);
+            for _ in 0..t.chance.between(1, 3) {
+                t.chance.hurt(&mut value);
+            }
+            t.value(kind, &value)?;
+        }
+    }
+    for _ in 0..150_000 {
+        let wh = t.chance.counter();
+        let counter = format!("{:06}.{:03}*kWh", wh / 1000, wh % 1000);
+        t.value(Kind::Counter, counter.as_bytes())?;
+    }
+    Ok(())
+}
+
+/// What a meter with registers of chance sends reads back to those registers.
+fn round_trips(t: &mut Trial) -> Outcome {
+    for _ in 0..5_000 {
+        let registers = t.chance.registers();
+        let wire = model::on_the_wire(&model::block(&registers.data()));
+        t.strip(&wire, wire.len())?;
+        let mut stripped = vec![0; wire.len()];
+        t.head.strip(&wire, &mut stripped);
+        t.part(&stripped)?;
+        let (_, start, length) = t.head.part(&stripped);
+        let data = &stripped[start..start + length];
+        let mut at = 0;
+        for (place, (address, value)) in registers.data_sets().iter().enumerate() {
+            let step = t.next(data, at)?;
+            let read = &data[at..step.next];
+            if read != model::line(address, value) {
+                let sent = model::line(address, value);
+                return Err(format!(
+                    "set {place} read as {}, sent as {}",
+                    hex(read),
+                    hex(&sent)
+                ));
+            }
+            let kind = match place {
+                0 => Kind::Serial,
+                1 => Kind::Date,
+                2 => Kind::Time,
+                3 => Kind::Account,
+                4..=8 => Kind::Counter,
+                _ => Kind::Row,
+            };
+            t.value(kind, &read[address.len() + 1..read.len() - 3])?;
+            at = step.next;
+        }
+        t.next(data, at)?;
+    }
+    for kind in Kind::ALL {
+        for _ in 0..10_000 {
+            let (value, made) = good_value(t, kind);
+            t.value(kind, &value)?;
+            let told = t.head.value(kind, &value);
+            let ruled = (answer::DONE, made);
+            if told != ruled {
+                return Err(difference("value", hex(&value), &told, &ruled));
+            }
+        }
+    }
+    Ok(())
+}
+
+// The trial's own trial: heads that are the model but for one fault.
+
+#[derive(Clone, Copy, Debug)]
+enum Fault {
+    WritesBeforeItChecks,
+    FieldBeforeRoom,
+    BuildsInRoom63,
+    ClearsPastTheCommand,
+    ConfirmsSix,
+    WritesPastTheReply,
+    StripsUpToTheDamage,
+    DamageBeforeRoom,
+    RefusesEqualRoom,
+    PartOneTooLong,
+    TakesEtxInside,
+    TakesHighBcc,
+    RefusalStartsAtOne,
+    SkipsABadSet,
+    LeavesTheEnd,
+    PlaceNotGiven,
+    TakesValueOf33,
+    TakesAnyLeapDay,
+    KeepsARefusedCounter,
+    ZeroCharacters,
+}
+
+const FAULTS: [(Fault, Section); 20] = [
+    (Fault::WritesBeforeItChecks, commands),
+    (Fault::FieldBeforeRoom, commands),
+    (Fault::BuildsInRoom63, commands),
+    (Fault::ClearsPastTheCommand, commands),
+    (Fault::ConfirmsSix, commands),
+    (Fault::WritesPastTheReply, strips),
+    (Fault::StripsUpToTheDamage, strips),
+    (Fault::DamageBeforeRoom, strips),
+    (Fault::RefusesEqualRoom, strips),
+    (Fault::PartOneTooLong, parts),
+    (Fault::TakesEtxInside, parts),
+    (Fault::TakesHighBcc, parts),
+    (Fault::RefusalStartsAtOne, parts),
+    (Fault::SkipsABadSet, data_sets),
+    (Fault::LeavesTheEnd, data_sets),
+    (Fault::PlaceNotGiven, data_sets),
+    (Fault::TakesValueOf33, data_sets),
+    (Fault::TakesAnyLeapDay, values),
+    (Fault::KeepsARefusedCounter, values),
+    (Fault::ZeroCharacters, values),
+];
+
+struct Wrong(Fault);
+
+impl Head for Wrong {
+    fn build(&self, command: &Command, out: &mut [u8]) -> (u8, usize) {
+        let told = model::build(command, out);
+        match (self.0, told) {
+            (Fault::WritesBeforeItChecks, (answer::FIELD, _)) => out[0] = 0x81,
+            (Fault::FieldBeforeRoom, _) if model::characters(command).is_none() => {
+                return (answer::FIELD, 0)
+            }
+            (Fault::BuildsInRoom63, _) if out.len() == 63 => {
+                let mut wider = [0; 64];
+                let told = model::build(command, &mut wider);
+                out[..told.1].copy_from_slice(&wider[..told.1]);
+                return told;
+            }
+            (Fault::ClearsPastTheCommand, (answer::DONE, length)) => out[length..].fill(0),
+            (Fault::ConfirmsSix, (answer::FIELD, _)) if *command == Command::Confirm(b'6') => {
+                let told = model::build(&Command::Confirm(b'0'), out);
+                out[3] = b'6';
+                return told;
+            }
+            _ => (),
+        }
+        told
+    }
+
+    fn strip(&self, reply: &[u8], out: &mut [u8]) -> (u8, usize) {
+        let told = model::strip(reply, out);
+        match (self.0, told) {
+            (Fault::WritesPastTheReply, (answer::DONE, length)) if out.len() > length => {
+                out[length] = 0
+            }
+            (Fault::StripsUpToTheDamage, (answer::DAMAGED, _)) => {
+                let good = reply.iter().take_while(|&&byte| model::undamaged(byte));
+                for (place, byte) in good.enumerate() {
+                    out[place] = byte & 0x7F;
+                }
+            }
+            (Fault::DamageBeforeRoom, _) if !reply.iter().all(|&b| model::undamaged(b)) => {
+                return (answer::DAMAGED, 0)
+            }
+            (Fault::RefusesEqualRoom, _) if out.len() == reply.len() => {
+                return (answer::SHORT_COPY, 0)
+            }
+            _ => (),
+        }
+        told
+    }
+
+    fn part(&self, stripped: &[u8]) -> (u8, usize, usize) {
+        let told = ruled_part(stripped);
+        match (self.0, told.0) {
+            (Fault::PartOneTooLong, answer::DONE) => (told.0, told.1, told.2 + 1),
+            (Fault::RefusalStartsAtOne, answer::WRONG_BCC) => (told.0, 1, 0),
+            (Fault::TakesEtxInside, answer::NO_BLOCK) => match stripped {
+                [2, inside @ .., 3, sum] if model::bcc(inside) ^ 3 == *sum => {
+                    (answer::DONE, 1, inside.len())
+                }
+                _ => told,
+            },
+            (Fault::TakesHighBcc, answer::NO_BLOCK) => {
+                let mut lowered = stripped.to_vec();
+                if let Some(sum) = lowered.last_mut() {
+                    *sum &= 0x7F;
+                }
+                ruled_part(&lowered)
+            }
+            _ => told,
+        }
+    }
+
+    fn next(&self, sets: &[u8], at: usize) -> Step {
+        let told = model::next(sets, at);
+        match (self.0, told.answer) {
+            (Fault::SkipsABadSet, answer::MALFORMED) => {
+                let after = sets[at..].iter().position(|&c| c == b'\n');
+                after.map_or(told, |after| model::next(sets, at + after + 1))
+            }
+            (Fault::LeavesTheEnd, answer::END) if at < sets.len() => Step {
+                next: at + 3,
+                ..told
+            },
+            (Fault::PlaceNotGiven, answer::MALFORMED) => Step { place: 0, ..told },
+            (Fault::TakesValueOf33, answer::MALFORMED) => {
+                let mut shorter = sets.to_vec();
+                match sets[at..].iter().position(|&c| c == b'(') {
+                    Some(bracket) if at + bracket + 1 < sets.len() => {
+                        shorter.remove(at + bracket + 1);
+                    }
+                    _ => return told,
+                }
+                match model::next(&shorter, at) {
+                    step if step.value_length == 32 => Step {
+                        value_length: 33,
+                        next: step.next + 1,
+                        ..step
+                    },
+                    _ => told,
+                }
+            }
+            _ => told,
+        }
+    }
+
+    fn value(&self, kind: Kind, value: &[u8]) -> (u8, Vec<u32>) {
+        let told = model::value(kind, value);
+        match (self.0, kind, told.0) {
+            (Fault::TakesAnyLeapDay, Kind::Date, answer::MALFORMED) if value == b"01-02-29" => {
+                (answer::DONE, vec![2001, 2, 29])
+            }
+            (Fault::KeepsARefusedCounter, Kind::Counter, answer::MALFORMED) => {
+                (told.0, vec![u32::from(value.len() > 5)])
+            }
+            (Fault::ZeroCharacters, Kind::Serial, answer::MALFORMED) => (told.0, vec![48; 10]),
+            _ => told,
+        }
+    }
+}
+
+/// Whether each wrong head is noticed.
+fn trial_of_the_trial(seed: u64) -> Outcome {
+    for (fault, section) in FAULTS {
+        if section(&mut Trial::new(&Wrong(fault), seed)).is_ok() {
+            return Err(format!("the trial does not notice {fault:?}"));
+        }
+    }
+    Ok(())
+}
+
+fn run(seed: u64) -> Result<u64, String> {
+    trial_of_the_trial(seed)?;
+    println!("head: {} wrong heads noticed", FAULTS.len());
+    let mut trial = Trial::new(&Proved, seed);
+    for (name, section) in SECTIONS {
+        let (before, start) = (trial.cases, Instant::now());
+        section(&mut trial)?;
+        let cases = trial.cases - before;
+        println!(
+            "head: {cases:>8} {name} in {:.1} s",
+            start.elapsed().as_secs_f64()
+        );
+    }
+    Ok(trial.cases)
+}
+
+fn main() -> ExitCode {
+    let seed = match std::env::args().nth(1).map(|seed| seed.parse()) {
+        None => 20_240_229,
+        Some(Ok(seed)) => seed,
+        Some(Err(_)) => {
+            eprintln!("usage: head [seed], a decimal number");
+            return ExitCode::from(2);
+        }
+    };
+    println!("head: seed {seed}");
+    match run(seed) {
+        Ok(cases) => {
+            println!("head: {cases} cases, all equal");
+            ExitCode::SUCCESS
+        }
+        Err(difference) => {
+            println!("head: {difference}");
+            ExitCode::FAILURE
+        }
+    }
+}

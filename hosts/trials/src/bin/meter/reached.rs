@@ -1,0 +1,722 @@
+//! Counts what the scripts reached, from the states around each event and not from what was meant,
+//! so that a script that misses its aim is seen.
+
+use model::bench::Event;
+use model::meter::{
+    data_bits, days_in_month, Answer, Meter, COUNTER_END, ETX, LF, PULSE_MOST, ROOM, SOH, STX,
+};
+use std::collections::BTreeMap;
+
+/// What must have happened at least once, in the order it is printed.
+const AIMS: &[&str] = &[
+    "new, good facts",
+    "new, bad facts",
+    "set",
+    "dump",
+    "script line that is an error",
+    // Mode 0.
+    "sign-on by /?!",
+    "sign-on by our serial",
+    "sign-on by the zero serial",
+    "sign-on by the zero serial that is ours",
+    "line not ours, unmarked",
+    "line with the mark",
+    "line of 31 characters",
+    "line of 32 characters",
+    "32nd character empties the line",
+    "32nd character is damaged",
+    "32nd character is '/'",
+    "'/' clears the mark",
+    // Mode 1.
+    "confirmation '0'",
+    "confirmation '7'",
+    "confirmation '1'",
+    "confirmation wrong, unmarked",
+    "confirmation with the mark",
+    "confirmation that starts damaged",
+    "'/' or SOH first in mode 1",
+    // Modes 2 to 4.
+    "SOH clears the mark",
+    "damaged BCC",
+    "NUL held without the mark",
+    "damaged character dropped, mode 0",
+    "damaged character dropped, modes 2 to 4",
+    "accepted frame, BCC is SOH",
+    "accepted frame, BCC is STX",
+    "accepted frame, BCC is ETX",
+    "accepted frame, BCC is CR",
+    "accepted frame, BCC is LF",
+    "refused frame, SOH in the BCC's place",
+    "refused frame, ETX in the BCC's place",
+    "whole frame of 63 characters",
+    "whole frame of 64 characters",
+    "64th character is too long",
+    "64th character is ETX (frame of 65)",
+    "64th character is damaged",
+    "64th character, mark set",
+    "64th character is SOH and restarts",
+    "64th character is SOH and the BCC",
+    "P1 ()",
+    "P1 () while locked",
+    "right password",
+    "right password after a failed attempt",
+    "wrong password, first",
+    "wrong password, second",
+    "wrong password, third",
+    "locked, right password",
+    "locked, wrong password",
+    "malformed password",
+    "malformed password while locked",
+    "read T",
+    "read L",
+    "read K",
+    "read E0",
+    "read E1",
+    "read E2",
+    "read E3",
+    "read E4",
+    "read Z",
+    "read refused with 9",
+    "total over 1,000,000,000",
+    "write T",
+    "write K",
+    "write Z",
+    "write T refused with 9",
+    "write K refused with 9",
+    "write Z refused with 9",
+    "write of another letter refused with 9",
+    "B0 in mode 2",
+    "B0 in mode 3",
+    "B0 in mode 4",
+    // Other events.
+    "silence with something held, mode 0",
+    "silence with something held, mode 1",
+    "silence with something held, modes 2 to 4",
+    "power-up clears attempts",
+    "power-up with something held",
+    "tick over a minute",
+    "tick over an hour",
+    "tick over a month's end",
+    "tick 28 February, leap year",
+    "tick 29 February",
+    "tick 28 February, other year",
+    "tick over a year's end",
+    "tick over the end of 2099",
+    "pulse of 0",
+    "pulse of 1,000,000",
+    "pulse of 1,000,001",
+    "pulse of 4,294,967,295",
+    "pulse over the roll-over",
+    "pulse to exactly 0",
+    "pulse, Monday to Friday",
+    "pulse, Saturday",
+    "pulse, Sunday",
+    // Well-formed states that no history reaches.
+    "unreachable: LF held in mode 0",
+    "unreachable: second '/' held",
+    "unreachable: SOH inside a frame",
+    "unreachable: ETX inside a frame",
+    "unreachable: mark with no 0 held",
+    // Malformed states.
+    "14 to a character",
+    "14 to silence",
+    "14 to a tick",
+    "14 to power-up",
+    "14 to a pulse",
+    "12 before 14, character",
+    "12 before 14, silence",
+    "13 before 14",
+    "several ranges broken",
+];
+
+/// The ranges of a state; each must have been broken alone.
+const RANGES: &[&str] = &[
+    "mode",
+    "count, mode 0",
+    "count, mode 1",
+    "count, modes 2 to 4",
+    "held above 127",
+    "unused place",
+    "mark of an empty receiver",
+    "first of mode 0",
+    "first of mode 2",
+    "first of mode 3",
+    "first of mode 4",
+    "serial",
+    "account",
+    "password",
+    "attempts",
+    "year below",
+    "year above",
+    "month 0",
+    "month above",
+    "day 0",
+    "day above",
+    "hour",
+    "minute",
+    "second",
+    "counter 1",
+    "counter 2",
+    "counter 3",
+    "counter 4",
+    "table",
+];
+
+/// Rooms that must have been lent, to a character and to silence.
+const ROOMS: [usize; 6] = [0, 1, ROOM - 1, ROOM, ROOM + 1, 8_192];
+
+/// Names of the events in print.
+const EVENTS: [&str; 5] = ["character", "silence", "tick", "power-up", "pulse"];
+
+#[derive(Default)]
+pub struct Reached {
+    pub events: u64,
+    answers: [u64; 16],
+    /// Answers to characters by mode.
+    modes: [[u64; 16]; 5],
+    /// Events by kind and mode.
+    kinds: [[u64; 5]; 5],
+    aims: BTreeMap<&'static str, u64>,
+    broken: BTreeMap<&'static str, u64>,
+    rooms: [[u64; 6]; 2],
+    /// Damage by the place it is held at: of a line, a confirmation and a frame.
+    line_places: [u64; 31],
+    confirmation_places: [u64; 6],
+    frame_places: [u64; 63],
+    /// Damaged BCC by the characters held before it.
+    check_places: [u64; 64],
+    /// Pulses and accepted reads and writes by table.
+    tables_used: [u64; 24],
+    tables_read: [u64; 24],
+    tables_written: [u64; 24],
+    zones: [u64; 4],
+}
+
+impl Reached {
+    pub fn line(&mut self, aim: &'static str) {
+        debug_assert!(AIMS.contains(&aim), "{aim}");
+        *self.aims.entry(aim).or_default() += 1;
+    }
+
+    /// A `new` and its answer line.
+    pub fn made(&mut self, answer: &str) {
+        if answer == "1\n" {
+            self.answers[1] += 1;
+            self.line("new, good facts");
+        } else {
+            self.answers[15] += 1;
+            self.line("new, bad facts");
+        }
+    }
+
+    pub fn event(&mut self, before: &Meter, event: Event, answer: Answer, after: &Meter) {
+        self.events += 1;
+        self.answers[usize::from(answer.number)] += 1;
+        let kind = match event {
+            Event::Character { .. } => 0,
+            Event::Silence { .. } => 1,
+            Event::Tick => 2,
+            Event::PowerUp => 3,
+            Event::Pulse { .. } => 4,
+        };
+        if let Event::Character { room, .. } | Event::Silence { room } = event {
+            if let Some(place) = ROOMS.iter().position(|&known| known == room) {
+                self.rooms[kind][place] += 1;
+            }
+        }
+        if let Event::Pulse { wh } = event {
+            match wh {
+                0 => self.line("pulse of 0"),
+                PULSE_MOST => self.line("pulse of 1,000,000"),
+                1_000_001 => self.line("pulse of 1,000,001"),
+                u32::MAX => self.line("pulse of 4,294,967,295"),
+                _ => {}
+            }
+        }
+        let broken = broken_ranges(before);
+        assert_eq!(
+            broken.is_empty(),
+            before.well_formed(),
+            "the trial's own list of ranges and the model differ: {broken:?} {before:?}"
+        );
+        if !broken.is_empty() {
+            return self.malformed(&broken, kind, answer.number);
+        }
+        self.kinds[kind][usize::from(before.mode)] += 1;
+        if answer.number == 12 || answer.number == 13 {
+            return;
+        }
+        match event {
+            Event::Character { byte, .. } => self.character(before, byte, answer.number, after),
+            Event::Silence { .. } => self.silence(before),
+            Event::Tick => self.tick(before, after),
+            Event::PowerUp => {
+                if before.attempts > 0 {
+                    self.line("power-up clears attempts");
+                }
+                if before.count > 0 {
+                    self.line("power-up with something held");
+                }
+            }
+            Event::Pulse { wh } => self.pulse(before, wh, after),
+        }
+    }
+
+    fn malformed(&mut self, broken: &[&'static str], kind: usize, number: u8) {
+        match broken {
+            [range] => *self.broken.entry(range).or_default() += 1,
+            _ => self.line("several ranges broken"),
+        }
+        self.line(match (number, kind) {
+            (12, 0) => "12 before 14, character",
+            (12, _) => "12 before 14, silence",
+            (13, _) => "13 before 14",
+            (_, 0) => "14 to a character",
+            (_, 1) => "14 to silence",
+            (_, 2) => "14 to a tick",
+            (_, 3) => "14 to power-up",
+            _ => "14 to a pulse",
+        });
+    }
+
+    fn character(&mut self, before: &Meter, byte: u8, number: u8, after: &Meter) {
+        self.modes[usize::from(before.mode)][usize::from(number)] += 1;
+        self.unreachable(before);
+        let got = data_bits(byte);
+        let count = usize::from(before.count);
+        if got == Some(0) && after.count > before.count && !after.mark {
+            self.line("NUL held without the mark");
+        }
+        match before.mode {
+            0 => self.line_character(before, got, count, after),
+            1 => self.confirmation_character(before, got, count, after),
+            _ => self.frame_character(before, got, count, number, after),
+        }
+    }
+
+    fn unreachable(&mut self, before: &Meter) {
+        let held = before.held();
+        let inside = held.get(1..).unwrap_or(&[]);
+        if before.mark && !held.contains(&0) {
+            self.line("unreachable: mark with no 0 held");
+        }
+        match before.mode {
+            0 => {
+                if inside.contains(&LF) {
+                    self.line("unreachable: LF held in mode 0");
+                }
+                if inside.contains(&b'/') {
+                    self.line("unreachable: second '/' held");
+                }
+            }
+            1 => {}
+            _ => {
+                if inside.contains(&SOH) {
+                    self.line("unreachable: SOH inside a frame");
+                }
+                if inside.split_last().is_some_and(|(_, inside)| inside.contains(&ETX)) {
+                    self.line("unreachable: ETX inside a frame");
+                }
+            }
+        }
+    }
+
+    fn line_character(&mut self, before: &Meter, got: Option<u8>, count: usize, after: &Meter) {
+        match got {
+            None if count == 0 => self.line("damaged character dropped, mode 0"),
+            None if count == 31 => self.line("32nd character is damaged"),
+            None => self.line_places[count] += 1,
+            Some(b'/') => {
+                if before.mark {
+                    self.line("'/' clears the mark");
+                }
+                if count == 31 {
+                    self.line("32nd character is '/'");
+                }
+            }
+            Some(LF) if count > 0 => {
+                match count {
+                    30 => self.line("line of 31 characters"),
+                    31 => self.line("line of 32 characters"),
+                    _ => {}
+                }
+                let zero_line = before.held() == b"/?000 0000000!\r";
+                self.line(match (after.mode, before.mark) {
+                    (1, _) if before.held() == b"/?!\r" => "sign-on by /?!",
+                    (1, _) if zero_line && before.serial == *b"0000000000" => {
+                        "sign-on by the zero serial that is ours"
+                    }
+                    (1, _) if zero_line => "sign-on by the zero serial",
+                    (1, _) => "sign-on by our serial",
+                    (_, true) => "line with the mark",
+                    (_, false) => "line not ours, unmarked",
+                });
+            }
+            Some(_) if count == 31 => self.line("32nd character empties the line"),
+            Some(_) => {}
+        }
+    }
+
+    fn confirmation_character(
+        &mut self,
+        before: &Meter,
+        got: Option<u8>,
+        count: usize,
+        after: &Meter,
+    ) {
+        if got.is_none() {
+            self.confirmation_places[count] += 1;
+        }
+        if count == 0 && matches!(got, Some(b'/' | SOH)) {
+            self.line("'/' or SOH first in mode 1");
+        }
+        if count < 5 {
+            return;
+        }
+        if before.held[0] == 0 && before.mark {
+            self.line("confirmation that starts damaged");
+        }
+        self.line(match (after.mode, before.held[3]) {
+            (2, _) => "confirmation '1'",
+            _ if before.mark || got.is_none() => "confirmation with the mark",
+            (_, b'0') if before.held().starts_with(b"\x06050\r") && got == Some(LF) => {
+                "confirmation '0'"
+            }
+            (_, b'7') if before.held().starts_with(b"\x06057\r") && got == Some(LF) => {
+                "confirmation '7'"
+            }
+            _ => "confirmation wrong, unmarked",
+        });
+    }
+
+    fn frame_character(
+        &mut self,
+        before: &Meter,
+        got: Option<u8>,
+        count: usize,
+        number: u8,
+        after: &Meter,
+    ) {
+        if before.held().last() == Some(&ETX) {
+            return self.whole_frame(before, got, count, number, after);
+        }
+        if got.is_none() {
+            match count {
+                0 => self.line("damaged character dropped, modes 2 to 4"),
+                63 => self.line("64th character is damaged"),
+                _ => self.frame_places[count] += 1,
+            }
+        }
+        if got == Some(SOH) && before.mark {
+            self.line("SOH clears the mark");
+        }
+        if count == 63 {
+            self.line(match got {
+                Some(SOH) => "64th character is SOH and restarts",
+                Some(ETX) => "64th character is ETX (frame of 65)",
+                _ => "64th character is too long",
+            });
+            if before.mark && got != Some(SOH) {
+                self.line("64th character, mark set");
+            }
+        }
+    }
+
+    fn whole_frame(
+        &mut self,
+        before: &Meter,
+        got: Option<u8>,
+        count: usize,
+        number: u8,
+        after: &Meter,
+    ) {
+        match count {
+            62 => self.line("whole frame of 63 characters"),
+            63 => self.line("whole frame of 64 characters"),
+            _ => {}
+        }
+        if count == 63 && got == Some(SOH) {
+            self.line("64th character is SOH and the BCC");
+        }
+        let Some(check) = got else {
+            self.check_places[count] += 1;
+            return self.line("damaged BCC");
+        };
+        match (number, check) {
+            (1, SOH) => self.line("accepted frame, BCC is SOH"),
+            (1, STX) => self.line("accepted frame, BCC is STX"),
+            (1, ETX) => self.line("accepted frame, BCC is ETX"),
+            (1, b'\r') => self.line("accepted frame, BCC is CR"),
+            (1, LF) => self.line("accepted frame, BCC is LF"),
+            (1, _) => {}
+            (_, SOH) => self.line("refused frame, SOH in the BCC's place"),
+            (_, ETX) => self.line("refused frame, ETX in the BCC's place"),
+            _ => {}
+        }
+        // A frame that got as far as its data has the shape SOH, command, STX, data, ETX.
+        let frame = before.held();
+        let command = frame.get(1..3).unwrap_or(b"");
+        let data = frame.get(4..count - 1).unwrap_or(b"");
+        match (command, number) {
+            (b"B0", 1) => self.line(match before.mode {
+                2 => "B0 in mode 2",
+                3 => "B0 in mode 3",
+                _ => "B0 in mode 4",
+            }),
+            (b"P1", 1 | 9 | 10 | 11) => self.password(before, data, number),
+            (b"R1", 1) => self.read(before, data),
+            (b"R1", 9) => self.line("read refused with 9"),
+            (b"W1", 1 | 9) => self.write(before, data, number, after),
+            _ => {}
+        }
+    }
+
+    fn password(&mut self, before: &Meter, data: &[u8], number: u8) {
+        let right = data.get(1..9) == Some(&before.password);
+        self.line(match (number, before.attempts) {
+            (1, 3) => "P1 () while locked",
+            (1, _) if data == b"()" => "P1 ()",
+            (1, 0) => "right password",
+            (1, _) => "right password after a failed attempt",
+            (9, 3) => "malformed password while locked",
+            (9, _) => "malformed password",
+            (10, 0) => "wrong password, first",
+            (10, 1) => "wrong password, second",
+            (10, _) => "wrong password, third",
+            _ if right => "locked, right password",
+            _ => "locked, wrong password",
+        });
+    }
+
+    fn read(&mut self, before: &Meter, data: &[u8]) {
+        self.line(match &data[..2] {
+            b"T(" => "read T",
+            b"L(" => "read L",
+            b"K(" => "read K",
+            b"E0" => "read E0",
+            b"E1" => "read E1",
+            b"E2" => "read E2",
+            b"E3" => "read E3",
+            b"E4" => "read E4",
+            _ => "read Z",
+        });
+        let total: u64 = before.counters.iter().map(|&wh| u64::from(wh)).sum();
+        if data.starts_with(b"E0") && total >= u64::from(COUNTER_END) {
+            self.line("total over 1,000,000,000");
+        }
+        if data.starts_with(b"Z") {
+            self.tables_read[named(data)] += 1;
+        }
+    }
+
+    fn write(&mut self, before: &Meter, data: &[u8], number: u8, after: &Meter) {
+        self.line(match (data.first(), number) {
+            (Some(b'T'), 1) => "write T",
+            (Some(b'K'), 1) => "write K",
+            (Some(b'Z'), 1) => "write Z",
+            (Some(b'T'), _) => "write T refused with 9",
+            (Some(b'K'), _) => "write K refused with 9",
+            (Some(b'Z'), _) => "write Z refused with 9",
+            _ => "write of another letter refused with 9",
+        });
+        // A row that was there already would not tell one table from another.
+        if number == 1 && data[0] == b'Z' && before.tables != after.tables {
+            self.tables_written[named(data)] += 1;
+        }
+    }
+
+    fn silence(&mut self, before: &Meter) {
+        if before.count > 0 {
+            self.line(match before.mode {
+                0 => "silence with something held, mode 0",
+                1 => "silence with something held, mode 1",
+                _ => "silence with something held, modes 2 to 4",
+            });
+        }
+    }
+
+    fn tick(&mut self, before: &Meter, after: &Meter) {
+        let (from, to) = (before.clock, after.clock);
+        if from.minute != to.minute {
+            self.line("tick over a minute");
+        }
+        if from.hour != to.hour {
+            self.line("tick over an hour");
+        }
+        if from.day == to.day {
+            return;
+        }
+        match (from.month, from.day, days_in_month(from.year, from.month)) {
+            (2, 28, 29) => self.line("tick 28 February, leap year"),
+            (2, 29, _) => self.line("tick 29 February"),
+            (2, 28, _) => self.line("tick 28 February, other year"),
+            _ => {}
+        }
+        if from.month != to.month {
+            self.line("tick over a month's end");
+        }
+        if from.year == 2099 && from.month == 12 && to.month == 1 {
+            self.line("tick over the end of 2099");
+        } else if from.year != to.year {
+            self.line("tick over a year's end");
+        }
+    }
+
+    fn pulse(&mut self, before: &Meter, wh: u32, after: &Meter) {
+        let day = weekday(before);
+        self.line(match day {
+            6 => "pulse, Saturday",
+            0 => "pulse, Sunday",
+            _ => "pulse, Monday to Friday",
+        });
+        let weekend = day == 0 || day == 6;
+        let table = usize::from(before.clock.month) - 1 + if weekend { 12 } else { 0 };
+        self.tables_used[table] += 1;
+        for zone in 0..4 {
+            if after.counters[zone] != before.counters[zone] {
+                self.zones[zone] += 1;
+            }
+            if after.counters[zone] < before.counters[zone] {
+                self.line("pulse over the roll-over");
+                if wh > 0 && after.counters[zone] == 0 {
+                    self.line("pulse to exactly 0");
+                }
+            }
+        }
+    }
+
+    /// Prints all counts; what was missed comes back.
+    pub fn print(&self) -> Vec<String> {
+        let mut missed = Vec::new();
+        let mut row = |title: &str, counts: &[u64], from: usize| {
+            let counted: Vec<String> = counts
+                .iter()
+                .enumerate()
+                .map(|(place, count)| format!("{}:{count}", place + from))
+                .collect();
+            println!("{title}: {}", counted.join(" "));
+            for (place, &count) in counts.iter().enumerate() {
+                if count == 0 {
+                    missed.push(format!("{title}, {}", place + from));
+                }
+            }
+        };
+        row("answers", &self.answers, 0);
+        for (name, counts) in EVENTS.iter().zip(&self.kinds) {
+            row(&format!("{name} by mode"), counts, 0);
+        }
+        row("answers in mode 0", &self.modes[0][..2], 0);
+        row("answers in mode 1", &self.modes[1][..3], 0);
+        // Of the answers to frames only 2 can't come, and 10 and 11 belong to mode 2.
+        for (mode, most) in [(2, 11), (3, 9), (4, 9)] {
+            row(&format!("answers in mode {mode}"), &self.modes[mode][..2], 0);
+            row(&format!("refusals in mode {mode}"), &self.modes[mode][3..=most], 3);
+        }
+        row("damage held in a line, by place", &self.line_places[1..], 1);
+        row("damage held in a confirmation, by place", &self.confirmation_places, 0);
+        row("damage held in a frame, by place", &self.frame_places[1..], 1);
+        row("damaged BCC, by place", &self.check_places[2..], 2);
+        row("tables read", &self.tables_read, 1);
+        row("tables written", &self.tables_written, 1);
+        row("tables used by a pulse", &self.tables_used, 1);
+        row("zones counted in", &self.zones, 1);
+        for (event, counts) in EVENTS.iter().zip(&self.rooms) {
+            for (room, &count) in ROOMS.iter().zip(counts) {
+                println!("room {room} lent to {event}: {count}");
+                if count == 0 {
+                    missed.push(format!("room {room} lent to {event}"));
+                }
+            }
+        }
+        for aim in AIMS {
+            let count = self.aims.get(aim).copied().unwrap_or(0);
+            println!("{aim}: {count}");
+            if count == 0 {
+                missed.push(aim.to_string());
+            }
+        }
+        for range in RANGES {
+            let count = self.broken.get(range).copied().unwrap_or(0);
+            println!("malformed by {range} alone: {count}");
+            if count == 0 {
+                missed.push(format!("malformed by {range} alone"));
+            }
+        }
+        missed
+    }
+}
+
+/// The table, counted from 0, of good `Z` data.
+fn named(data: &[u8]) -> usize {
+    usize::from((data[2] - b'0') * 10 + data[3] - b'0') - 1
+}
+
+/// Sunday 0 to Saturday 6, by Zeller's rule; the model counts days instead.
+fn weekday(meter: &Meter) -> u32 {
+    let clock = meter.clock;
+    let (mut year, mut month) = (u32::from(clock.year), u32::from(clock.month));
+    if month < 3 {
+        year -= 1;
+        month += 12;
+    }
+    let days = u32::from(clock.day) + 13 * (month + 1) / 5 + year + year / 4 - year / 100 + year / 400;
+    (days + 6) % 7
+}
+
+/// The ranges that a state breaks, listed once more from the page.
+fn broken_ranges(meter: &Meter) -> Vec<&'static str> {
+    let mut broken = Vec::new();
+    let mut must = |good: bool, range: &'static str| {
+        if !good {
+            broken.push(range);
+        }
+    };
+    let count = usize::from(meter.count);
+    match meter.mode {
+        0 => must(count <= 31, "count, mode 0"),
+        1 => must(count <= 5, "count, mode 1"),
+        2..=4 => must(count <= 63, "count, modes 2 to 4"),
+        _ => must(false, "mode"),
+    }
+    let (held, unused) = meter.held.split_at(count.min(63));
+    must(held.iter().all(|&c| c < 128), "held above 127");
+    must(unused.iter().all(|&c| c == 0), "unused place");
+    must(!held.is_empty() || !meter.mark, "mark of an empty receiver");
+    if let Some(&first) = held.first() {
+        match meter.mode {
+            0 => must(first == b'/', "first of mode 0"),
+            2 => must(first == SOH, "first of mode 2"),
+            3 => must(first == SOH, "first of mode 3"),
+            4 => must(first == SOH, "first of mode 4"),
+            _ => {}
+        }
+    }
+    let digit = |c: &u8| matches!(c, b'0'..=b'9');
+    must(meter.serial.iter().all(digit), "serial");
+    let account = |c: &u8| matches!(c, b'0'..=b'9' | b'A'..=b'Z' | b'a'..=b'z' | b' ' | b'_');
+    must(meter.account.iter().all(account), "account");
+    must(meter.password.iter().all(digit), "password");
+    must(meter.attempts < 4, "attempts");
+    let clock = meter.clock;
+    must(clock.year > 1999, "year below");
+    must(clock.year < 2100, "year above");
+    must(clock.month != 0, "month 0");
+    must(clock.month < 13, "month above");
+    must(clock.day != 0, "day 0");
+    let days = [31, 28, 31, 30, 31, 30, 31, 31, 30, 31, 30, 31];
+    let mut last = days.get(usize::from(clock.month).wrapping_sub(1)).copied();
+    if clock.month == 2 && clock.year % 4 == 0 {
+        last = Some(29);
+    }
+    must(clock.day <= last.unwrap_or(31), "day above");
+    must(clock.hour < 24, "hour");
+    must(clock.minute < 60, "minute");
+    must(clock.second < 60, "second");
+    must(meter.counters[0] < COUNTER_END, "counter 1");
+    must(meter.counters[1] < COUNTER_END, "counter 2");
+    must(meter.counters[2] < COUNTER_END, "counter 3");
+    must(meter.counters[3] < COUNTER_END, "counter 4");
+    let zone = |c: &u8| matches!(c, b'1'..=b'4');
+    must(meter.tables.iter().flatten().all(zone), "table");
+    broken
+}

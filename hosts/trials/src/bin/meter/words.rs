@@ -1,0 +1,330 @@
+//! What a head can say, good and nearly good, in characters without parity.
+
+use crate::chance::Chance;
+use model::meter::{bcc, days_in_month, Clock, Meter, ETX, PLACES, SOH, STX};
+
+/// SOH, command, STX and data if there are any, ETX and the true BCC.
+pub fn frame(command: &[u8], data: Option<&[u8]>) -> Vec<u8> {
+    let mut frame = vec![SOH];
+    frame.extend(command);
+    if let Some(data) = data {
+        frame.push(STX);
+        frame.extend(data);
+    }
+    frame.push(ETX);
+    frame.push(bcc(&frame[1..]));
+    frame
+}
+
+pub fn read(data: &[u8]) -> Vec<u8> {
+    frame(b"R1", Some(data))
+}
+
+pub fn write(data: &[u8]) -> Vec<u8> {
+    frame(b"W1", Some(data))
+}
+
+pub fn password(data: &[u8]) -> Vec<u8> {
+    frame(b"P1", Some(data))
+}
+
+pub fn good_bye() -> Vec<u8> {
+    frame(b"B0", None)
+}
+
+pub fn bracketed(inside: &[u8]) -> Vec<u8> {
+    [b"(", inside, b")"].concat()
+}
+
+/// The sign-on line for some serial.
+pub fn sign_on(serial: &[u8; 10]) -> Vec<u8> {
+    [b"/?", &serial[..3], b" ", &serial[3..], b"!\r\n"].concat()
+}
+
+pub fn confirmation(choice: u8) -> Vec<u8> {
+    vec![0x06, b'0', b'5', choice, b'\r', b'\n']
+}
+
+pub fn clock_data(clock: Clock) -> Vec<u8> {
+    format!(
+        "T({:02}-{:02}-{:04};{:02}:{:02}:{:02})",
+        clock.day, clock.month, clock.year, clock.hour, clock.minute, clock.second
+    )
+    .into_bytes()
+}
+
+pub fn table_data(table: usize, row: &[u8]) -> Vec<u8> {
+    [format!("Z({table:02};").as_bytes(), row, b")"].concat()
+}
+
+pub fn row(chance: &mut Chance) -> [u8; 24] {
+    let same = chance.percent(15).then(|| chance.one_of(b"1234"));
+    [0; 24].map(|_| same.unwrap_or_else(|| chance.one_of(b"1234")))
+}
+
+const LETTERS: &[u8] = b"0123456789ABCXYZabcxyz _";
+
+pub fn account(chance: &mut Chance) -> [u8; 10] {
+    [0; 10].map(|_| chance.one_of(LETTERS))
+}
+
+pub fn digits<const N: usize>(chance: &mut Chance) -> [u8; N] {
+    [0; N].map(|_| chance.one_of(b"0123456789"))
+}
+
+/// A counter, often near its end.
+pub fn counter(chance: &mut Chance) -> u32 {
+    match chance.below(4) {
+        0 => 999_999_999 - chance.below(2_000_000) as u32,
+        1 => 999_999_999 - chance.below(3) as u32,
+        2 => chance.below(2_000) as u32,
+        _ => chance.below(1_000_000_000) as u32,
+    }
+}
+
+/// A moment, often the last of its month, year or century.
+pub fn clock(chance: &mut Chance) -> Clock {
+    let year = match chance.below(4) {
+        0 => chance.one_of(&[2000, 2001, 2004, 2023, 2024, 2096, 2099]),
+        _ => chance.between(2000, 2099) as u16,
+    };
+    let month = match chance.below(4) {
+        0 => 2,
+        1 => 12,
+        _ => chance.between(1, 12) as u8,
+    };
+    let most = days_in_month(year, month);
+    let day = match chance.below(3) {
+        0 => most,
+        1 if month == 2 => 28,
+        _ => chance.between(1, usize::from(most)) as u8,
+    };
+    let near = |chance: &mut Chance, end: u8| {
+        if chance.percent(60) {
+            end
+        } else {
+            chance.below(usize::from(end) + 1) as u8
+        }
+    };
+    Clock {
+        year,
+        month,
+        day,
+        hour: near(chance, 23),
+        minute: near(chance, 59),
+        second: near(chance, 59),
+    }
+}
+
+/// A good state in some mode, its receiver empty.
+pub fn state(chance: &mut Chance, mode: u8) -> Meter {
+    let mut meter = Meter {
+        mode,
+        serial: digits(chance),
+        account: account(chance),
+        password: digits(chance),
+        attempts: chance.below(4) as u8,
+        clock: clock(chance),
+        ..Meter::blank()
+    };
+    if chance.percent(10) {
+        meter.serial = *b"0000000000";
+    }
+    for zone in 0..4 {
+        meter.counters[zone] = counter(chance);
+    }
+    for table in 0..24 {
+        meter.tables[table] = row(chance);
+    }
+    meter
+}
+
+/// The same with these characters held.
+pub fn holding(mut meter: Meter, held: &[u8], mark: bool) -> Meter {
+    meter.held = [0; PLACES];
+    meter.held[..held.len()].copy_from_slice(held);
+    meter.count = held.len() as u8;
+    meter.mark = mark;
+    meter
+}
+
+/// Read data in document 01's form.
+pub fn good_read(chance: &mut Chance) -> Vec<u8> {
+    match chance.below(4) {
+        0 => chance.pick::<[u8]>(&[b"T()", b"L()", b"K()"]).to_vec(),
+        1 => format!("E{}()", chance.below(5)).into_bytes(),
+        _ => format!("Z({:02})", chance.between(1, 24)).into_bytes(),
+    }
+}
+
+/// Read data that comes near to it.
+pub fn bad_read(chance: &mut Chance) -> Vec<u8> {
+    #[rustfmt::skip]
+    const NEAR: &[&[u8]] = &[
+        b"", b"T", b"T(", b"T( )", b"T()x", b"t()", b"TT()", b"L(1)", b"K(x)", b"K() ", b"E()",
+        b"E5()", b"E9()", b"E/()", b"E:()", b"E01()", b"E1", b"E1(1)", b"e1()", b"Z()", b"Z(00)",
+        b"Z(25)", b"Z(26)", b"Z(30)", b"Z(99)", b"Z(1)", b"Z(001)", b"Z(1a)", b"Z(a1)", b"Z(/1)",
+        b"Z(0:)", b"Z(01", b"Z[01]", b"z(01)", b"Z(01)(02)", b"F()", b"P()", b"U()", b"()", b"(T)",
+        b"Z(-1)", b"Z( 1)", b"Z(1 )", b"Z(24)0", b"T())", b"T)(", b"Z(2;)", b"Z(07;)",
+    ];
+    match chance.below(3) {
+        0 => printables(chance, 8),
+        1 => spoiled(chance, good_read),
+        _ => chance.pick(NEAR).to_vec(),
+    }
+}
+
+/// Write data in document 01's form.
+pub fn good_write(chance: &mut Chance) -> Vec<u8> {
+    match chance.below(5) {
+        0 => clock_data(clock(chance)),
+        1 => [b"K", &bracketed(&account(chance))[..]].concat(),
+        _ => {
+            let row = row(chance);
+            table_data(chance.between(1, 24), &row)
+        }
+    }
+}
+
+/// Write data that comes near to it.
+pub fn bad_write(chance: &mut Chance) -> Vec<u8> {
+    match chance.below(8) {
+        0 | 1 => bad_clock(chance),
+        2 => {
+            let mut account = account(chance).to_vec();
+            match chance.below(4) {
+                0 => account.push(b'x'),
+                1 => account.truncate(9),
+                2 => account.clear(),
+                _ => account[chance.below(10)] = chance.one_of(b"-.,/:@[`{^()!\"~"),
+            }
+            [b"K", &bracketed(&account)[..]].concat()
+        }
+        3 | 4 => {
+            let mut row = row(chance).to_vec();
+            let mut table = chance.between(1, 24);
+            match chance.below(5) {
+                0 => row.push(b'1'),
+                1 => row.truncate(23),
+                2 => row.clear(),
+                3 => row[chance.below(24)] = chance.one_of(b"05/ 9q)"),
+                _ => table = chance.one_of(&[0, 25, 26, 30, 42, 99, 100]),
+            }
+            table_data(table, &row)
+        }
+        5 => printables(chance, 30),
+        _ => spoiled(chance, good_write),
+    }
+}
+
+/// A clock write in good form whose date or time is none, or nearly in good form.
+fn bad_clock(chance: &mut Chance) -> Vec<u8> {
+    #[rustfmt::skip]
+    const NEAR: &[&[u8]] = &[
+        b"T(29-02-2001;00:00:00)", b"T(29-02-2100;00:00:00)", b"T(29-02-1900;00:00:00)",
+        b"T(30-02-2000;00:00:00)", b"T(31-04-2020;00:00:00)", b"T(31-06-2020;00:00:00)",
+        b"T(31-09-2020;00:00:00)", b"T(31-11-2020;00:00:00)", b"T(32-01-2020;00:00:00)",
+        b"T(00-01-2020;00:00:00)", b"T(01-00-2020;00:00:00)", b"T(01-13-2020;00:00:00)",
+        b"T(31-12-1999;23:59:59)", b"T(01-01-2100;00:00:00)", b"T(01-01-0000;00:00:00)",
+        b"T(01-01-9999;00:00:00)", b"T(01-01-2020;24:00:00)", b"T(01-01-2020;23:60:00)",
+        b"T(01-01-2020;23:59:60)", b"T(01-01-2020;99:99:99)", b"T(1-1-2020;00:00:00)",
+        b"T(01-01-20;00:00:00)", b"T(2020-01-01;00:00:00)", b"T(01-01-2020 00:00:00)",
+        b"T(01-01-2020;00:00)", b"T(01-01-2020;00:00:00;)", b"T(01.01.2020;00:00:00)",
+        b"T(01-01-2020;00-00-00)", b"T()", b"T(", b"T", b"T(01-01-2020)", b"T(00:00:00)",
+        b"T(01-01-2020;00:00:00", b"T01-01-2020;00:00:00)", b"T(0a-01-2020;00:00:00)",
+        b"T(01-01-2020;00:00:0/)", b"T(01-01-2020;00:0::00)", b"T(01-01-2 20;00:00:00)",
+        b"T(01-01-12020;00:00:00)", b"T( 1-01-2020;00:00:00)", b"t(01-01-2020;00:00:00)",
+    ];
+    if chance.percent(70) {
+        return chance.pick(NEAR).to_vec();
+    }
+    let mut told = clock(chance);
+    match chance.below(6) {
+        0 => told.year = chance.one_of(&[0, 1999, 2100, 2400, 9999]),
+        1 => told.month = chance.one_of(&[0, 13, 20, 99]),
+        2 => told.day = chance.one_of(&[0, 30, 31, 32, 99]),
+        3 => told.hour = chance.one_of(&[24, 30, 99]),
+        4 => told.minute = chance.one_of(&[60, 99]),
+        _ => told.second = chance.one_of(&[60, 99]),
+    }
+    clock_data(told)
+}
+
+/// Password data without the right form.
+pub fn malformed_password(chance: &mut Chance, password: &[u8; 8]) -> Vec<u8> {
+    let inside = password.to_vec();
+    match chance.below(9) {
+        0 => bracketed(&inside[..7]),
+        1 => bracketed(&[&inside[..], b"0"].concat()),
+        2 => inside,
+        3 => [b"(", &inside[..]].concat(),
+        4 => [&inside[..], b")"].concat(),
+        5 => [&bracketed(&inside)[..], b" "].concat(),
+        6 => Vec::new(),
+        7 => chance.pick::<[u8]>(&[b"(", b")", b"( )", b"(())", b"()()", b"[]", b"(0)"]).to_vec(),
+        _ => {
+            let mut inside = inside;
+            inside[chance.below(8)] = chance.one_of(b"/:aA -+.");
+            bracketed(&inside)
+        }
+    }
+}
+
+/// Eight digits that differ from the password in one place or more.
+pub fn wrong_password(chance: &mut Chance, password: &[u8; 8]) -> [u8; 8] {
+    let mut wrong = *password;
+    for _ in 0..chance.one_of(&[1, 1, 1, 8]) {
+        let place = chance.below(8);
+        wrong[place] = b'0' + (wrong[place] - b'0' + 1 + chance.below(9) as u8) % 10;
+    }
+    if wrong == *password {
+        wrong[0] = b'0' + (wrong[0] - b'0' + 1) % 10;
+    }
+    wrong
+}
+
+/// Up to so many printable characters.
+pub fn printables(chance: &mut Chance, most: usize) -> Vec<u8> {
+    (0..chance.below(most + 1))
+        .map(|_| chance.between(0x20, 0x7E) as u8)
+        .collect()
+}
+
+/// Good data with one character changed, left out, doubled or added.
+fn spoiled(chance: &mut Chance, good: fn(&mut Chance) -> Vec<u8>) -> Vec<u8> {
+    let mut data = good(chance);
+    let place = chance.below(data.len());
+    match chance.below(4) {
+        0 => data[place] = chance.between(0x20, 0x7E) as u8,
+        1 => drop(data.remove(place)),
+        2 => data.insert(place, data[place]),
+        _ => data.push(chance.between(0x20, 0x7E) as u8),
+    }
+    data
+}
+
+/// A good write whose BCC is the character wanted, if one is found.
+pub fn write_with_bcc(chance: &mut Chance, wanted: u8) -> Option<Vec<u8>> {
+    (0..400).find_map(|_| {
+        let frame = write(&good_write(chance));
+        (frame.last() == Some(&wanted)).then_some(frame)
+    })
+}
+
+/// A frame of just this many characters, BCC included, in good shape.
+pub fn long_frame(chance: &mut Chance, command: &[u8], length: usize) -> Vec<u8> {
+    let data: Vec<u8> = (0..length - 6)
+        .map(|_| chance.between(0x20, 0x7E) as u8)
+        .collect();
+    frame(command, Some(&data))
+}
+
+/// The same for a write with the BCC wanted.
+pub fn long_frame_with_bcc(chance: &mut Chance, length: usize, wanted: u8) -> Vec<u8> {
+    loop {
+        let frame = long_frame(chance, b"W1", length);
+        if frame.last() == Some(&wanted) {
+            return frame;
+        }
+    }
+}

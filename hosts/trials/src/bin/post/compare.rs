@@ -1,0 +1,139 @@
+//! The comparison of an exporter with the model: numbers, places, lengths and every byte of
+//! the buffer and of what lies around it.
+
+use model::post;
+
+/// Something that checks and exports posts.
+pub trait Exporter {
+    fn check(&self, text: &[u8]) -> (u8, usize);
+    fn export(&self, text: &[u8], out: &mut [u8]) -> (u8, usize, usize);
+}
+
+/// A text, and what stands behind it in memory, where nobody may look.
+pub struct Text {
+    memory: Vec<u8>,
+    length: usize,
+}
+
+impl Text {
+    /// A text with the rest of `memory` behind it.
+    pub fn cut(memory: Vec<u8>, length: usize) -> Self {
+        Text { memory, length }
+    }
+
+    pub fn bytes(&self) -> &[u8] {
+        &self.memory[..self.length]
+    }
+}
+
+impl From<Vec<u8>> for Text {
+    fn from(memory: Vec<u8>) -> Self {
+        let length = memory.len();
+        Text { memory, length }
+    }
+}
+
+/// How often each number was the right one.
+#[derive(Default)]
+pub struct Tally {
+    pub texts: u64,
+    pub posts: u64,
+    pub done: u64,
+    pub not_a_post: u64,
+    pub no_room: u64,
+}
+
+/// Memory before and behind the buffer that has to stay as it is.
+pub const AROUND: usize = 48;
+
+/// Compares an exporter with the model, text by text, and counts.
+pub struct Comparison<'a> {
+    exporter: &'a dyn Exporter,
+    pub tally: Tally,
+    given: Vec<u8>,
+    wanted: Vec<u8>,
+}
+
+impl<'a> Comparison<'a> {
+    pub fn new(exporter: &'a dyn Exporter) -> Self {
+        Comparison {
+            exporter,
+            tally: Tally::default(),
+            given: Vec::new(),
+            wanted: Vec::new(),
+        }
+    }
+
+    /// The check, and the export into a buffer of each size; the first difference in words.
+    pub fn text(&mut self, text: &Text, rooms: &[usize]) -> Result<(), String> {
+        let text = text.bytes();
+        self.tally.texts += 1;
+        self.check(text, post::check(text))?;
+        rooms.iter().try_for_each(|&room| self.export(text, room))
+    }
+
+    /// The check against the answer wanted.
+    pub fn check(&mut self, text: &[u8], wanted: (u8, usize)) -> Result<(), String> {
+        self.tally.posts += u64::from(wanted.0 == post::DONE);
+        let given = self.exporter.check(text);
+        if given == wanted {
+            return Ok(());
+        }
+        Err(format!(
+            "check: wanted number {} place {}, given number {} place {}\n{}",
+            wanted.0,
+            wanted.1,
+            given.0,
+            given.1,
+            shown(text)
+        ))
+    }
+
+    /// The export into a buffer of `room` bytes, filled with a pattern first.
+    fn export(&mut self, text: &[u8], room: usize) -> Result<(), String> {
+        let shift = self.tally.texts.wrapping_mul(0x6D) as usize;
+        self.given.clear();
+        self.given
+            .extend((0..room + 2 * AROUND).map(|at| (at * 31 + shift) as u8));
+        self.wanted.clone_from(&self.given);
+        let lent = AROUND..AROUND + room;
+        let given = self.exporter.export(text, &mut self.given[lent.clone()]);
+        let wanted = post::export(text, &mut self.wanted[lent]);
+        match wanted.0 {
+            post::DONE => self.tally.done += 1,
+            post::NO_ROOM => self.tally.no_room += 1,
+            _ => self.tally.not_a_post += 1,
+        }
+        if given != wanted {
+            return Err(format!(
+                "export, room {room}: wanted number {} length {} place {}, \
+                 given number {} length {} place {}\n{}",
+                wanted.0,
+                wanted.1,
+                wanted.2,
+                given.0,
+                given.1,
+                given.2,
+                shown(text)
+            ));
+        }
+        if self.given != self.wanted {
+            let differs = |at: &usize| self.given[*at] != self.wanted[*at];
+            let at = (0..self.given.len()).find(differs).unwrap_or(0);
+            return Err(format!(
+                "export, room {room}: buffer byte {} wanted {:02X}, given {:02X}\n{}",
+                at as isize - AROUND as isize,
+                self.wanted[at],
+                self.given[at],
+                shown(text)
+            ));
+        }
+        Ok(())
+    }
+}
+
+/// A text for the reader of a report: its length and its bytes in hex.
+fn shown(text: &[u8]) -> String {
+    let hex: String = text.iter().map(|byte| format!("{byte:02X}")).collect();
+    format!("text of {} bytes, hex: {hex}", text.len())
+}

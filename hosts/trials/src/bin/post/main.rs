@@ -1,0 +1,157 @@
+//! The trial of posts: the proved library against the independent model, over its C boundary.
+//!
+//!     post [--selftest] [--seed NUMBER] [--texts NUMBER]
+
+mod chance;
+mod compare;
+mod fixed;
+#[path = "../../forum.rs"]
+mod forum;
+mod texts;
+mod wrong;
+
+use chance::Chance;
+use compare::{Comparison, Exporter};
+use std::ops::ControlFlow;
+use std::process::ExitCode;
+
+const SEED: u64 = 131;
+const TEXTS: u64 = 2_000_000;
+
+/// The texts by chance that a wrong exporter may pass at most before it is found out.
+const PATIENCE: u64 = 20_000;
+
+/// The proved library.
+struct Library;
+
+impl Exporter for Library {
+    fn check(&self, text: &[u8]) -> (u8, usize) {
+        forum::check(text)
+    }
+    fn export(&self, text: &[u8], out: &mut [u8]) -> (u8, usize, usize) {
+        forum::export(text, out)
+    }
+}
+
+/// What the command line asks for.
+struct Asked {
+    selftest: bool,
+    seed: u64,
+    texts: u64,
+}
+
+fn asked() -> Result<Asked, String> {
+    let mut asked = Asked {
+        selftest: false,
+        seed: SEED,
+        texts: TEXTS,
+    };
+    let mut words = std::env::args().skip(1);
+    while let Some(word) = words.next() {
+        let mut number = || {
+            let given = words.next().and_then(|word| word.parse().ok());
+            given.ok_or(format!("{word} wants a number"))
+        };
+        match word.as_str() {
+            "--selftest" => asked.selftest = true,
+            "--seed" => asked.seed = number()?,
+            "--texts" => asked.texts = number()?,
+            _ => return Err(format!("unknown: {word}")),
+        }
+    }
+    Ok(asked)
+}
+
+/// The comparison itself: every wrong exporter is found out and the right one passes.
+fn selftest(seed: u64) -> Result<(), String> {
+    let first_texts = |exporter: &dyn Exporter| {
+        let mut chance = Chance::new(seed);
+        let mut comparison = Comparison::new(exporter);
+        (0..PATIENCE).try_for_each(|_| {
+            let text = texts::any(&mut chance);
+            let rooms = texts::rooms(text.bytes(), &mut chance);
+            comparison.text(&text, &rooms)
+        })
+    };
+    let cases = fixed::cases();
+    let held = |exporter: &dyn Exporter| {
+        cases
+            .iter()
+            .try_for_each(|case| fixed::hold(case, exporter))
+    };
+    for exporter in wrong::WRONG {
+        // Chance alone has to find it: the fixed cases come on top.
+        if first_texts(exporter).is_ok() {
+            return Err(format!("selftest: not found out: {}", exporter.name));
+        }
+    }
+    first_texts(&wrong::RIGHT).and_then(|()| held(&wrong::RIGHT))?;
+    // A case that is never held to anything would pass a wrong exporter too.
+    match held(&wrong::WRONG[0]) {
+        Ok(()) => Err("selftest: the fixed cases pass an exporter that refuses all".into()),
+        Err(_) => Ok(()),
+    }
+}
+
+/// The fixed cases, the families and then chance, up to `texts` in all.
+fn trial(seed: u64, texts: u64) -> Result<(Comparison<'static>, usize), String> {
+    let cases = fixed::cases();
+    for case in &cases {
+        fixed::hold(case, &Library)?;
+    }
+    let mut comparison = Comparison::new(&Library);
+    let mut chance = Chance::new(seed);
+    let families = texts::families(|text, rooms| {
+        let chosen = match rooms {
+            Some(rooms) => rooms.to_vec(),
+            None => texts::rooms(text.bytes(), &mut chance),
+        };
+        match comparison.text(&text, &chosen) {
+            Ok(()) => ControlFlow::Continue(()),
+            Err(difference) => ControlFlow::Break(difference),
+        }
+    });
+    if let ControlFlow::Break(difference) = families {
+        return Err(difference);
+    }
+    while comparison.tally.texts < texts {
+        let text = texts::any(&mut chance);
+        let rooms = texts::rooms(text.bytes(), &mut chance);
+        comparison.text(&text, &rooms)?;
+    }
+    Ok((comparison, cases.len()))
+}
+
+fn run() -> Result<(), String> {
+    let asked = asked()?;
+    println!("post: seed {}", asked.seed);
+    selftest(asked.seed)?;
+    println!(
+        "post: selftest: {} wrong exporters found out",
+        wrong::WRONG.len()
+    );
+    if asked.selftest {
+        return Ok(());
+    }
+    let (comparison, cases) = trial(asked.seed, asked.texts)?;
+    let tally = comparison.tally;
+    println!(
+        "post: {} posts among the texts; exports done {}, refused with 20 {}, with 21 {}",
+        tally.posts, tally.done, tally.not_a_post, tally.no_room
+    );
+    println!(
+        "post: {} texts, {cases} fixed cases, all equal",
+        tally.texts
+    );
+    Ok(())
+}
+
+fn main() -> ExitCode {
+    match run() {
+        Ok(()) => ExitCode::SUCCESS,
+        Err(difference) => {
+            println!("post: {difference}");
+            ExitCode::FAILURE
+        }
+    }
+}
