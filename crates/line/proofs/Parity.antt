@@ -53,7 +53,7 @@ sent-undamaged c = ap not (eq-eqb _ _ even)
     even : ones (seven c + ones (seven c) % 2 * 128) % 2 ≡ 0
     even =
         let e : ones (ones (seven c) % 2 * 128 + seven c) ≡ ones (seven c) % 2 + ones (seven c) =
-            ones-of-byte (ones (seven c) % 2) (seven c) (mod-lt (ones (seven c)) (zero-lt-suc 1)) (seven-lt c) in
+        ones-of-byte (ones (seven c) % 2) (seven c) (mod-lt (ones (seven c)) (zero-lt-suc 1)) (seven-lt c) in
         let f : ones (seven c + ones (seven c) % 2 * 128) ≡ ones (ones (seven c) % 2 * 128 + seven c) = ap ones (omega arith) in
         omega arith
 

@@ -7,11 +7,17 @@ ghost use Rattle.line.specs.Characters.{damagedAt, seven, sent, undamage
 ghost use Rattle.line.specs.Checksum.{bccOf};
 
 pub const SOH: u8 = 0x01;
+
 pub const STX: u8 = 0x02;
+
 pub const ETX: u8 = 0x03;
+
 pub const ACK: u8 = 0x06;
+
 pub const LF: u8 = 0x0A;
+
 pub const CR: u8 = 0x0D;
+
 pub const NAK: u8 = 0x15;
 
 // Whether a wire byte is damaged: its count of ones is not even.

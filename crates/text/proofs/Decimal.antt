@@ -77,4 +77,4 @@ unfolding decimal every
 decimal-digits zero n = refl
 decimal-digits (suc w) n =
     every-append isDigit (decimal w (n / 10)) ((48 + n % 10) ∷ []) (decimal-digits w (n / 10))
-      (rw (digit-is (n % 10) (mod-lt n (zero-lt-suc 9))))
+    (rw (digit-is (n % 10) (mod-lt n (zero-lt-suc 9))))

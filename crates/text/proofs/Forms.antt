@@ -31,8 +31,8 @@ digits-marks [] w e = refl
 digits-marks (c ∷ s) zero e = absurd (let z : _≡_ {A = ℕ} 0 1 = cc in omega arith)
 digits-marks (c ∷ s) (suc w) e =
     and-both (isDigit c) (every isDigit s)
-      (sym (or-false (isDigit c)) ∙ and-left (isDigit c || false) (matching agrees (replicate w 35) s) e)
-      (digits-marks s w (and-right (isDigit c || false) (matching agrees (replicate w 35) s) e))
+    (sym (or-false (isDigit c)) ∙ and-left (isDigit c || false) (matching agrees (replicate w 35) s) e)
+    (digits-marks s w (and-right (isDigit c || false) (matching agrees (replicate w 35) s) e))
 
 -- a plain text fits just itself
 itself : (t : List ℕ) → every (λ c. not (eqb c 35)) t ≡ true → fits t t ≡ true
@@ -85,7 +85,7 @@ reads-after (fixed t ∷ ps) ns pre h =
 reads-after (digits w ∷ ps) [] pre h = absurd (let z : _≡_ {A = ℕ} 0 1 = cc in omega arith)
 reads-after (digits w ∷ ps) (n ∷ ns) pre h =
     ap₂ _∷_ (number-after w n (layoutText ps ns) pre (ltb-true n (10 ^ w) (and-left (ltb n (10 ^ w)) (numbersFit ps ns) h)))
-      (next w n (layoutText ps ns) pre ps ns (reads-after ps ns (pre ++ decimal w n) (and-right (ltb n (10 ^ w)) (numbersFit ps ns) h)))
+    (next w n (layoutText ps ns) pre ps ns (reads-after ps ns (pre ++ decimal w n) (and-right (ltb n (10 ^ w)) (numbersFit ps ns) h)))
 
 pub text-reads : (ps : List Piece) (ns : List ℕ) → numbersFit ps ns ≡ true → numbersFrom 0 ps (layoutText ps ns) ≡ ns
 text-reads ps ns h = reads-after ps ns [] h
@@ -106,14 +106,14 @@ cut t u s e =
     let l : length t ≡ length (take (length t) s) = sym (length-take-le (length t) s (omega (arith, length-append t u))) in
     let w : s ≡ take (length t) s ++ drop (length t) s = sym (take-append-drop (length t) s) in
     let f : (matching agrees t (take (length t) s) && matching agrees u (drop (length t) s)) ≡ true =
-        sym (matching-append agrees t (take (length t) s) u (drop (length t) s) l) ∙ ap (matching agrees (t ++ u)) (sym w) ∙ e in
+    sym (matching-append agrees t (take (length t) s) u (drop (length t) s) l) ∙ ap (matching agrees (t ++ u)) (sym w) ∙ e in
     record {
       first = take (length t) s;
       second = drop (length t) s;
       whole = w;
       long = l;
       fits-first = and-left (matching agrees t (take (length t) s)) (matching agrees u (drop (length t) s)) f;
-      fits-second = and-right (matching agrees t (take (length t) s)) (matching agrees u (drop (length t) s)) f
+      fits-second = and-right (matching agrees t (take (length t) s)) (matching agrees u (drop (length t) s)) f;
     }
 
 after-fixed : (t : List ℕ) (ps : List Piece) (s pre a b : List ℕ) → s ≡ a ++ b → a ≡ t
@@ -128,7 +128,7 @@ after-digits : (w : ℕ) (ps : List Piece) (s pre a b : List ℕ) → s ≡ a ++
 unfolding numberAt
 after-digits w ps s pre a b e n own rest =
     rw (e, drop-append-seam pre (a ++ b), take-at a b w n, own)
-      (ap (λ (l : List ℕ). a ++ l) (rw (length-append pre a, append-assoc pre a b, n) at rest))
+    (ap (λ (l : List ℕ). a ++ l) (rw (length-append pre a, append-assoc pre a b, n) at rest))
 
 text-after : (ps : List Piece) (s pre : List ℕ) → plain ps ≡ true → fits (pattern ps) s ≡ true → layoutText ps (numbersFrom (length pre) ps (pre ++ s)) ≡ s
 unfolding layoutText numbersFrom pattern plain

@@ -31,9 +31,9 @@ pub stored-next : (buf : List ℕ) (at : ℕ) (s : List ℕ) (i : ℕ) → i < l
 stored-next buf at s i h =
     let n : length (take i s) ≡ i = length-take-le i s (omega arith) in
     rw (add-one i, take-suc s i 0 h)
-      (ap (λ (k : ℕ). set (stored buf at (take i s)) (at + k) (getD s i 0)) (sym n)
-      ∙ stored-one (stored buf at (take i s)) (at + length (take i s)) (getD s i 0)
-      ∙ stored-append buf at (take i s) (getD s i 0 ∷ []))
+    (ap (λ (k : ℕ). set (stored buf at (take i s)) (at + k) (getD s i 0)) (sym n)
+    ∙ stored-one (stored buf at (take i s)) (at + length (take i s)) (getD s i 0)
+    ∙ stored-append buf at (take i s) (getD s i 0 ∷ []))
 
 -- the buffer, as a reader sees it
 as-sets : (buf : List ℕ) (at : ℕ) (xs : List ℕ) → stored buf at xs ≡ sets buf at xs

@@ -18,7 +18,7 @@ abbrev μ-loop : tie.MeasureT-loop
 
 returns : tie.Need-returns Inv-loop μ-loop
 unfolding fits
-returns c = 
+returns c =
     let a = c .before .before .before .args in
     sym (matching-length agrees (a .p .now) (a .s .now) (c .if1 .taken))
 
@@ -47,7 +47,7 @@ loop-again c =
     let a = at-loop .before .before .before .before .args in
     let h = c .before .before .before .loop-test .taken in
     let e : (at-loop .loop .ok && agrees _ _ && matching agrees (drop (at-loop .loop .i + 1) (a .p .now)) (drop (at-loop .loop .i + 1) (a .s .now))) ≡ fits (a .p .now) (a .s .now) =
-        matching-turn agrees (a .p .now) (a .s .now) (at-loop .loop .i) (at-loop .loop .ok) _ h (omega arith) (at-loop .loop .inv .2) in
+    matching-turn agrees (a .p .now) (a .s .now) (at-loop .loop .i) (at-loop .loop .ok) _ h (omega arith) (at-loop .loop .inv .2) in
     (omega arith, omega arith, rw (c .agree .ensures) e)
 
 returns-2 : tie.Need-returns-2 Inv-loop μ-loop

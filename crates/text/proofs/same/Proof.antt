@@ -39,8 +39,7 @@ loop-less c = omega arith
 loop-again : tie.Need-loop-again Inv-loop μ-loop
 loop-again c =
     let at-loop = c .before .before .before in
-    let a = at-loop .before .before .args in
-    (
+    let a = at-loop .before .before .args in (
       omega arith,
       omega arith,
       matching-turn eqb (a .s .now) (a .t .now) (at-loop .loop .i) (at-loop .loop .equal) _ (c .before .before .loop-test .taken) (omega arith) (at-loop .loop .inv .2),

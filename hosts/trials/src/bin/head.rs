@@ -622,7 +622,7 @@ fn lines(t: &mut Trial) -> Vec<Vec<u8>> {
 fn data_sets(t: &mut Trial) -> Outcome {
     for _ in 0..8 {
         let data = t.chance.registers().data();
-        for at in (0..data.len() + 40).chain([1 << 31, 1 << 32, 1 << 63]) {
+        for at in (0..data.len() + 40).chain([u32::MAX as usize, usize::MAX / 2]) {
             t.next(&data, at)?;
         }
         for below_most in 0..70 {

@@ -32,7 +32,10 @@ impl Aim<'_> {
         if !self.player.meter().well_formed() {
             return self.good_state();
         }
-        match self.chance.weighed(&[800, 12, 12, 12, 12, 30, 30, 10, 12, 25, 25, 10]) {
+        match self
+            .chance
+            .weighed(&[800, 12, 12, 12, 12, 30, 30, 10, 12, 25, 25, 10])
+        {
             0 => self.dialogue(),
             1 => self.factory(),
             2 => self.good_state(),
@@ -160,7 +163,8 @@ impl Aim<'_> {
         let code = chance.one_of(&[b"W1", b"R1", b"P1", b"B0", b"xx"]);
         let mut message = long_frame(chance, code, length);
         if chance.percent(30) {
-            message = long_frame_with_bcc(chance, length, chance.one_of(&[SOH, ETX, LF]));
+            let wanted = chance.one_of(&[SOH, ETX, LF]);
+            message = long_frame_with_bcc(chance, length, wanted);
         }
         if chance.percent(30) {
             // ETX or SOH somewhere near the end.
@@ -341,7 +345,8 @@ impl Aim<'_> {
 
     fn broken_state(&mut self) {
         let chance = &mut self.chance;
-        let mut meter = state(chance, chance.weighed(&[1; 5]) as u8);
+        let mode = chance.below(5) as u8;
+        let mut meter = state(chance, mode);
         for _ in 0..chance.one_of(&[1, 1, 1, 2, 4]) {
             match chance.below(12) {
                 0 => meter.mode = chance.between(5, 255) as u8,
@@ -437,12 +442,7 @@ impl Aim<'_> {
             3 => "byte 81 2048".into(),
             4 => "silence 8192".into(),
             5 => "pulse 1000".into(),
-            6 => new_line(
-                &meter.serial,
-                &meter.account,
-                &meter.password,
-                Clock::FIRST,
-            ),
+            6 => new_line(&meter.serial, &meter.account, &meter.password, Clock::FIRST),
             _ => format!("set {}", dump(meter)),
         }
         .into_bytes();
@@ -485,7 +485,9 @@ impl Aim<'_> {
             };
             self.player.send(start);
         }
-        let line = self.chance.pick(&["silence", "silence", "silence 2047", "up"]);
+        let line = self
+            .chance
+            .pick(&["silence", "silence", "silence 2047", "up"]);
         self.player.line(line);
         if self.chance.percent(50) {
             self.player.dump();

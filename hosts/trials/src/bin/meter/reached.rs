@@ -168,7 +168,6 @@ const ROOMS: [usize; 6] = [0, 1, ROOM - 1, ROOM, ROOM + 1, 8_192];
 /// Names of the events in print.
 const EVENTS: [&str; 5] = ["character", "silence", "tick", "power-up", "pulse"];
 
-#[derive(Default)]
 pub struct Reached {
     pub events: u64,
     answers: [u64; 16],
@@ -193,6 +192,26 @@ pub struct Reached {
 }
 
 impl Reached {
+    pub fn new() -> Reached {
+        Reached {
+            events: 0,
+            answers: [0; 16],
+            modes: [[0; 16]; 5],
+            kinds: [[0; 5]; 5],
+            aims: BTreeMap::new(),
+            broken: BTreeMap::new(),
+            rooms: [[0; 6]; 2],
+            line_places: [0; 31],
+            confirmation_places: [0; 6],
+            frame_places: [0; 63],
+            check_places: [0; 64],
+            tables_used: [0; 24],
+            tables_read: [0; 24],
+            tables_written: [0; 24],
+            zones: [0; 4],
+        }
+    }
+
     pub fn line(&mut self, aim: &'static str) {
         debug_assert!(AIMS.contains(&aim), "{aim}");
         *self.aims.entry(aim).or_default() += 1;
@@ -314,7 +333,10 @@ impl Reached {
                 if inside.contains(&SOH) {
                     self.line("unreachable: SOH inside a frame");
                 }
-                if inside.split_last().is_some_and(|(_, inside)| inside.contains(&ETX)) {
+                if inside
+                    .split_last()
+                    .is_some_and(|(_, inside)| inside.contains(&ETX))
+                {
                     self.line("unreachable: ETX inside a frame");
                 }
             }
@@ -609,12 +631,28 @@ impl Reached {
         row("answers in mode 1", &self.modes[1][..3], 0);
         // Of the answers to frames only 2 can't come, and 10 and 11 belong to mode 2.
         for (mode, most) in [(2, 11), (3, 9), (4, 9)] {
-            row(&format!("answers in mode {mode}"), &self.modes[mode][..2], 0);
-            row(&format!("refusals in mode {mode}"), &self.modes[mode][3..=most], 3);
+            row(
+                &format!("answers in mode {mode}"),
+                &self.modes[mode][..2],
+                0,
+            );
+            row(
+                &format!("refusals in mode {mode}"),
+                &self.modes[mode][3..=most],
+                3,
+            );
         }
         row("damage held in a line, by place", &self.line_places[1..], 1);
-        row("damage held in a confirmation, by place", &self.confirmation_places, 0);
-        row("damage held in a frame, by place", &self.frame_places[1..], 1);
+        row(
+            "damage held in a confirmation, by place",
+            &self.confirmation_places,
+            0,
+        );
+        row(
+            "damage held in a frame, by place",
+            &self.frame_places[1..],
+            1,
+        );
         row("damaged BCC, by place", &self.check_places[2..], 2);
         row("tables read", &self.tables_read, 1);
         row("tables written", &self.tables_written, 1);
@@ -659,7 +697,8 @@ fn weekday(meter: &Meter) -> u32 {
         year -= 1;
         month += 12;
     }
-    let days = u32::from(clock.day) + 13 * (month + 1) / 5 + year + year / 4 - year / 100 + year / 400;
+    let days =
+        u32::from(clock.day) + 13 * (month + 1) / 5 + year + year / 4 - year / 100 + year / 400;
     (days + 6) % 7
 }
 

@@ -8,7 +8,11 @@ use model::bench::dump;
 use model::meter::{days_in_month, Clock, Meter, ETX, LF, PLACES, SOH, STX};
 
 /// All sweeps, each a script of its own.
-pub fn all(seed: u64, reached: &mut Reached, take: &mut dyn FnMut(Played)) {
+pub fn all(
+    seed: u64,
+    reached: &mut Reached,
+    hold: &mut dyn FnMut(Played) -> Result<(), String>,
+) -> Result<(), String> {
     let sweeps: [(&str, Sweep); 14] = [
         ("every byte in every receiver", every_byte),
         ("edges of the receiver", receiver_edges),
@@ -30,8 +34,9 @@ pub fn all(seed: u64, reached: &mut Reached, take: &mut dyn FnMut(Played)) {
         let mut player = Player::new(name, reached);
         sweep(&mut chance, &mut player);
         player.dump();
-        take(player.done());
+        hold(player.done())?;
     }
+    Ok(())
 }
 
 type Sweep = fn(&mut Chance, &mut Player);
@@ -87,7 +92,11 @@ fn receiver_edges(chance: &mut Chance, player: &mut Player) {
                         held[count - 1] = last;
                     }
                     let meter = holding(state(chance, mode), &held, mark);
-                    let bytes = if chance.percent(50) { &coming } else { &damaged };
+                    let bytes = if chance.percent(50) {
+                        &coming
+                    } else {
+                        &damaged
+                    };
                     for &byte in bytes {
                         player.set(&meter);
                         player.byte(byte);
@@ -198,7 +207,11 @@ fn confirmations(chance: &mut Chance, player: &mut Player) {
             play(&message);
         }
     }
-    for start in [&b"/?!\r\n/"[..], b"\x01\x01\x01\x01\x01\x01", b"\n\n\n\n\n\n"] {
+    for start in [
+        &b"/?!\r\n/"[..],
+        b"\x01\x01\x01\x01\x01\x01",
+        b"\n\n\n\n\n\n",
+    ] {
         play(start);
     }
 }
@@ -221,12 +234,36 @@ fn commands(chance: &mut Chance, player: &mut Player) {
         Some(b"E0()"),
     ];
     let odd: [&[u8]; 30] = [
-        b"\x03", b"B\x03", b"B0B\x03", b"B0()\x03", b"\x02\x03", b"R\x02T()\x03", b"R1T()\x03",
-        b"R1R1\x02T()\x03", b"\x02R1T()\x03", b"R1\x02T()\x02\x03", b"R1\x02\x02T()\x03",
-        b"R1\x02T(\x1F)\x03", b"R1\x02T(\x7F)\x03", b"R1\x02T(\0)\x03", b"R1\x02T()\r\n\x03",
-        b"\x1F1\x02T()\x03", b"R\x7F\x02T()\x03", b"\0\0\x03", b"B\0\x03", b"\x7F0\x03",
-        b"B0\x02\x03", b"B0\x02()\x03", b"P1\x03", b"R1\x03", b"W1\x03", b"\x06051\r\n\x03",
-        b"/?!\r\n\x03", b"W1\x02K(abcdefg\x09ij)\x03", b"P1\x02(0000\x0A000)\x03", b"P1()\x02\x03",
+        b"\x03",
+        b"B\x03",
+        b"B0B\x03",
+        b"B0()\x03",
+        b"\x02\x03",
+        b"R\x02T()\x03",
+        b"R1T()\x03",
+        b"R1R1\x02T()\x03",
+        b"\x02R1T()\x03",
+        b"R1\x02T()\x02\x03",
+        b"R1\x02\x02T()\x03",
+        b"R1\x02T(\x1F)\x03",
+        b"R1\x02T(\x7F)\x03",
+        b"R1\x02T(\0)\x03",
+        b"R1\x02T()\r\n\x03",
+        b"\x1F1\x02T()\x03",
+        b"R\x7F\x02T()\x03",
+        b"\0\0\x03",
+        b"B\0\x03",
+        b"\x7F0\x03",
+        b"B0\x02\x03",
+        b"B0\x02()\x03",
+        b"P1\x03",
+        b"R1\x03",
+        b"W1\x03",
+        b"\x06051\r\n\x03",
+        b"/?!\r\n\x03",
+        b"W1\x02K(abcdefg\x09ij)\x03",
+        b"P1\x02(0000\x0A000)\x03",
+        b"P1()\x02\x03",
     ];
     for mode in 2..=4 {
         let meter = state(chance, mode);
@@ -543,12 +580,20 @@ fn broken_states(chance: &mut Chance, player: &mut Player) {
         breakings.push((4, Box::new(move |meter, _| meter.clock.month = month)));
     }
     for month in 1..=12 {
+        for over in [1, 2, 100] {
+            breakings.push((
+                0,
+                Box::new(move |meter, _| {
+                    meter.clock.month = month;
+                    meter.clock.day = days_in_month(meter.clock.year, month) + over;
+                }),
+            ));
+        }
         breakings.push((
-            0,
-            Box::new(move |meter, chance| {
+            1,
+            Box::new(move |meter, _| {
                 meter.clock.month = month;
-                let most = days_in_month(meter.clock.year, month);
-                meter.clock.day = chance.one_of(&[0, most + 1, most + 1, 32, 255]);
+                meter.clock.day = 0;
             }),
         ));
     }
@@ -668,7 +713,12 @@ fn register_characters(chance: &mut Chance, player: &mut Player) {
         spoil(&mut clock);
         player.line(new_line(&good.serial, &good.account, &good.password, clock));
         player.dump();
-        player.line(new_line(&good.serial, &good.account, &good.password, good.clock));
+        player.line(new_line(
+            &good.serial,
+            &good.account,
+            &good.password,
+            good.clock,
+        ));
         player.dump();
     }
 }
@@ -701,7 +751,7 @@ fn rooms(chance: &mut Chance, player: &mut Player) {
         (b"\x01P1\x02()\x03", 0x61),
         (b"\x01B0\x03", 0x71),
         (b"\x01B0\x03", 0x70),
-        (b"\x01R1\x02T()\x03", 0x35),
+        (b"\x01R1\x02T()\x03", 0x37),
         (b"\x01", b'x'),
     ];
     for room in [
@@ -815,21 +865,97 @@ fn calendar(chance: &mut Chance, player: &mut Player) {
 fn script_lines(chance: &mut Chance, player: &mut Player) {
     player.set(&state(chance, 4));
     let lines: [&[u8]; 92] = [
-        b"", b" ", b"  ", b"\t", b"\r", b"x", b"error", b"ok", b"#", b"-", b"0", b"\0", b"\xFF\xFE",
-        b"dump ", b" dump", b"dump\r", b"dump x", b"dumps", b"Dump", b"DUMP", b"dump\t", b"dum",
-        b"tick ", b" tick", b"tick 1", b"ticks", b"Tick", b"tick\r", b"tick\0",
-        b"up ", b"up 1", b"UP", b"upp", b"u",
-        b"pulse", b"pulse ", b"pulse -1", b"pulse +1", b"pulse 1 ", b"pulse  1", b"pulse 1 1",
-        b"pulse 0x1", b"pulse 1e3", b"pulse 1.0", b"pulse 1,000", b"pulse 4294967296",
-        b"pulse 18446744073709551616", b"pulse 99999999999999999999999999", b"pulse a", b"pulse -",
+        b"",
+        b" ",
+        b"  ",
+        b"\t",
+        b"\r",
+        b"x",
+        b"error",
+        b"ok",
+        b"#",
+        b"-",
+        b"0",
+        b"\0",
+        b"\xFF\xFE",
+        b"dump ",
+        b" dump",
+        b"dump\r",
+        b"dump x",
+        b"dumps",
+        b"Dump",
+        b"DUMP",
+        b"dump\t",
+        b"dum",
+        b"tick ",
+        b" tick",
+        b"tick 1",
+        b"ticks",
+        b"Tick",
+        b"tick\r",
+        b"tick\0",
+        b"up ",
+        b"up 1",
+        b"UP",
+        b"upp",
+        b"u",
+        b"pulse",
+        b"pulse ",
+        b"pulse -1",
+        b"pulse +1",
+        b"pulse 1 ",
+        b"pulse  1",
+        b"pulse 1 1",
+        b"pulse 0x1",
+        b"pulse 1e3",
+        b"pulse 1.0",
+        b"pulse 1,000",
+        b"pulse 4294967296",
+        b"pulse 18446744073709551616",
+        b"pulse 99999999999999999999999999",
+        b"pulse a",
+        b"pulse -",
         b"pulse 1\r",
-        b"byte", b"byte ", b"byte -", b"byte 8", b"byte 081", b"byte 8181", b"byte AF", b"byte aF",
-        b"byte 0g", b"byte 0x81", b"byte 81 ", b"byte 81  2048", b"byte 81 2048 ", b"byte 81 8193",
-        b"byte 81 65536", b"byte 81 67584", b"byte 81 -1", b"byte 81 +1", b"byte 81 x",
-        b"byte 81 2048 1", b"byte 81 4294969344", b"byte  81", b"byte\t81",
-        b"bytes", b"bytes ", b"bytes 8", b"bytes 818", b"bytes 81 ", b"bytes 81 81", b"bytes AF",
-        b"bytes 81--", b"bytes --", b"bytes 81 2048", b"bytes 8g",
-        b"silence ", b"silence 8193", b"silence -", b"silence 1 1", b"silence x", b"Silence",
+        b"byte",
+        b"byte ",
+        b"byte -",
+        b"byte 8",
+        b"byte 081",
+        b"byte 8181",
+        b"byte AF",
+        b"byte aF",
+        b"byte 0g",
+        b"byte 0x81",
+        b"byte 81 ",
+        b"byte 81  2048",
+        b"byte 81 2048 ",
+        b"byte 81 8193",
+        b"byte 81 65536",
+        b"byte 81 67584",
+        b"byte 81 -1",
+        b"byte 81 +1",
+        b"byte 81 x",
+        b"byte 81 2048 1",
+        b"byte 81 4294969344",
+        b"byte  81",
+        b"byte\t81",
+        b"bytes",
+        b"bytes ",
+        b"bytes 8",
+        b"bytes 818",
+        b"bytes 81 ",
+        b"bytes 81 81",
+        b"bytes AF",
+        b"bytes 81--",
+        b"bytes --",
+        b"bytes 81 2048",
+        b"bytes 8g",
+        b"silence ",
+        b"silence 8193",
+        b"silence -",
+        b"silence 1 1",
+        b"silence x",
+        b"Silence",
         b"new",
     ];
     for line in lines {

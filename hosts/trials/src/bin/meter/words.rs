@@ -261,7 +261,9 @@ pub fn malformed_password(chance: &mut Chance, password: &[u8; 8]) -> Vec<u8> {
         4 => [&inside[..], b")"].concat(),
         5 => [&bracketed(&inside)[..], b" "].concat(),
         6 => Vec::new(),
-        7 => chance.pick::<[u8]>(&[b"(", b")", b"( )", b"(())", b"()()", b"[]", b"(0)"]).to_vec(),
+        7 => chance
+            .pick::<[u8]>(&[b"(", b")", b"( )", b"(())", b"()()", b"[]", b"(0)"])
+            .to_vec(),
         _ => {
             let mut inside = inside;
             inside[chance.below(8)] = chance.one_of(b"/:aA -+.");

@@ -1,0 +1,151 @@
+// The clock: real dates of 2000 to 2099, the next second and the day of the week. Numbers only; their texts are in `values`.
+ghost use mathlib.Core.Path.{_≡_};
+ghost use Prim.Native.Nat.{_-_};
+ghost use Rattle.clock.specs.Dates.{leap, daysIn, realDate, realTime};
+ghost use Rattle.clock.specs.Seconds.{realClock, nextMonth, nextDay, nextSecond};
+ghost use Rattle.clock.specs.Weekday.{dayNumber, weekday};
+
+pub struct Date {
+    pub year: u16,
+    pub month: u8,
+    pub day: u8,
+}
+
+pub struct Time {
+    pub hour: u8,
+    pub minute: u8,
+    pub second: u8,
+}
+
+pub struct Clock {
+    pub date: Date,
+    pub time: Time,
+}
+
+pub fn is_leap(y: u16) -> bool
+    ensures { λ r. ⌜ r ≡ leap y ⌝ }
+{
+    (y % 4 == 0) & (!(y % 100 == 0) | (y % 400 == 0))
+}
+
+// How many days a month has.
+pub fn days_in(y: u16, m: u8) -> u8
+    ensures { λ r. ⌜ r ≡ daysIn y m ⌝ }
+{
+    if m == 2 {
+        if is_leap(y) {
+            return 29;
+        }
+        return 28;
+    }
+    let short = (((m == 4) | (m == 6)) | (m == 9)) | (m == 11);
+    if short { 30 } else { 31 }
+}
+
+pub fn is_date(y: u16, m: u8, d: u8) -> bool
+    ensures { λ r. ⌜ r ≡ realDate y m d ⌝ }
+{
+    (((2000 <= y) & (y <= 2099)) & ((1 <= m) & (m <= 12))) & ((1 <= d) & (d <= days_in(y, m)))
+}
+
+pub fn is_time(h: u8, n: u8, s: u8) -> bool
+    ensures { λ r. ⌜ r ≡ realTime h n s ⌝ }
+{
+    ((h <= 23) & (n <= 59)) & (s <= 59)
+}
+
+// Whether a clock shows a real date and time.
+pub fn is_clock(c: Clock) -> bool
+    ensures { λ r. ⌜ r ≡ realClock c ⌝ }
+{
+    let d = c.date;
+    let t = c.time;
+    is_date(d.year, d.month, d.day) & is_time(t.hour, t.minute, t.second)
+}
+
+// The first of the month after a month; after 2099 comes 2000.
+fn next_month(y: u16, m: u8) -> Date
+    ensures { λ r. ⌜ r ≡ nextMonth y m ⌝ }
+{
+    if m < 12 {
+        return Date {
+            year: y,
+            month: m + 1,
+            day: 1,
+        };
+    }
+    if y < 2099 {
+        return Date {
+            year: y + 1,
+            month: 1,
+            day: 1,
+        };
+    }
+    Date {
+        year: 2000,
+        month: 1,
+        day: 1,
+    }
+}
+
+fn next_day(d: Date) -> Date
+    ensures { λ r. ⌜ r ≡ nextDay d ⌝ }
+{
+    let y = d.year;
+    let m = d.month;
+    let day = d.day;
+    if day < days_in(y, m) {
+        return Date {
+            year: y,
+            month: m,
+            day: day + 1,
+        };
+    }
+    next_month(y, m)
+}
+
+// The clock a second later.
+pub fn next_second(c: Clock) -> Clock
+    ensures { λ r. ⌜ r ≡ nextSecond c ⌝ }
+{
+    let d = c.date;
+    let t = c.time;
+    if t.second < 59 {
+        return Clock {
+            date: d,
+            time: Time {
+                hour: t.hour,
+                minute: t.minute,
+                second: t.second + 1,
+            },
+        };
+    }
+    if t.minute < 59 {
+        return Clock {
+            date: d,
+            time: Time {
+                hour: t.hour,
+                minute: t.minute + 1,
+                second: 0,
+            },
+        };
+    }
+    if t.hour < 23 {
+        return Clock {
+            date: d,
+            time: Time {
+                hour: t.hour + 1,
+                minute: 0,
+                second: 0,
+            },
+        };
+    }
+    Clock {
+        date: next_day(d),
+        time: Time {
+            hour: 0,
+            minute: 0,
+            second: 0,
+        },
+    }
+}

@@ -1,0 +1,1 @@
+// Frames and blocks: the characters between a start and a BCC, closed and sent.

@@ -1,0 +1,48 @@
+-- Document 01, the lines of "Deciding a frame": each value as the text that shows it.
+use mathlib.Core.List.{List, [], _∷_, _++_}
+use Prim.Native.Nat.{ℕ, _-_, _/_, _%_, _^_}
+use lib.ListN.{take, drop}
+use Rattle.text.specs.Layout.{Piece, digits, fixed, layoutText}
+use Rattle.clock.specs.declared.Date.{Date}
+use Rattle.clock.specs.declared.Time.{Time}
+use Rattle.clock.specs.declared.Clock.{Clock}
+
+-- nnn nnnnnnn
+unfoldable pub serialText : List ℕ → List ℕ
+serialText s = take 3 s ++ (32 ∷ drop 3 s)
+
+-- xx
+abbrev pub tableForm : List Piece
+tableForm = digits 2 ∷ []
+
+unfoldable pub tableText : ℕ → List ℕ
+tableText n = layoutText tableForm (n ∷ [])
+
+-- yy-mm-dd
+abbrev pub dateForm : List Piece
+dateForm = digits 2 ∷ fixed (45 ∷ []) ∷ digits 2 ∷ fixed (45 ∷ []) ∷ digits 2 ∷ []
+
+unfoldable pub dateText : Date → List ℕ
+dateText d = layoutText dateForm ((d .year - 2000) ∷ d .month ∷ d .day ∷ [])
+
+-- hh:nn:ss
+abbrev pub timeForm : List Piece
+timeForm = digits 2 ∷ fixed (58 ∷ []) ∷ digits 2 ∷ fixed (58 ∷ []) ∷ digits 2 ∷ []
+
+unfoldable pub timeText : Time → List ℕ
+timeText t = layoutText timeForm (t .hour ∷ t .minute ∷ t .second ∷ [])
+
+-- dd-mm-yyyy;hh:nn:ss
+abbrev pub clockForm : List Piece
+clockForm = digits 2 ∷ fixed (45 ∷ []) ∷ digits 2 ∷ fixed (45 ∷ []) ∷ digits 4 ∷ fixed (59 ∷ []) ∷ timeForm
+
+unfoldable pub clockText : Clock → List ℕ
+clockText c =
+    layoutText clockForm (c .date .day ∷ c .date .month ∷ c .date .year ∷ c .time .hour ∷ c .time .minute ∷ c .time .second ∷ [])
+
+-- eeeeee.eee*kWh: so many digits in all, so many of them decimals
+abbrev pub counterForm : ℕ → ℕ → List Piece
+counterForm all decimals = digits (all - decimals) ∷ fixed (46 ∷ []) ∷ digits decimals ∷ fixed (42 ∷ 107 ∷ 87 ∷ 104 ∷ []) ∷ []
+
+unfoldable pub counterText : ℕ → ℕ → ℕ → List ℕ
+counterText all decimals n = layoutText (counterForm all decimals) ((n / 10 ^ decimals) ∷ (n % 10 ^ decimals) ∷ [])

@@ -1,0 +1,61 @@
+// Values that both sides of the line share: what a register may hold, the text that shows it, and the text read back.
+ghost use mathlib.Core.Path.{_≡_};
+ghost use Prim.Native.Nat.{_+_, _≤_};
+ghost use lib.ListN.{length};
+ghost use Rattle.text.specs.Decimal.{valueOf};
+ghost use Rattle.values.specs.Registers.{goodDigits, isAccountCharacter, goodAccount, goodRow, goodTable, goodZone};
+
+// A table's number, 1 to 24.
+pub struct TableNo(pub u8);
+
+// A zone's number, 1 to 4.
+pub struct ZoneNo(pub u8);
+
+// How many tables a meter of edition 1 holds.
+pub const TABLES: u8 = 24;
+
+// Whether a text is so many digits.
+pub fn is_digits(s: &[u8], n: usize) -> bool
+    ensures { λ r. ⌜ r ≡ goodDigits n (now (s .entry)) ⌝ }
+{
+    (s.len() == n) & text::all_between(s, 48, 57)
+}
+
+pub fn is_account_character(c: u8) -> bool
+    ensures { λ r. ⌜ r ≡ isAccountCharacter c ⌝ }
+{
+    let letter = ((65 <= c) & (c <= 90)) | ((97 <= c) & (c <= 122));
+    (letter | ((48 <= c) & (c <= 57))) | ((c == 32) | (c == 95))
+}
+
+pub fn is_account(s: &[u8]) -> bool
+    ensures { λ r. ⌜ r ≡ goodAccount (now (s .entry)) ⌝ }
+{
+    let mut ok = true;
+    let mut i = 0;
+    while i < s.len() {
+        ok = ok & is_account_character(s[i]);
+        i += 1;
+    }
+    (s.len() == 10) & ok
+}
+
+pub fn is_row(s: &[u8]) -> bool
+    ensures { λ r. ⌜ r ≡ goodRow (now (s .entry)) ⌝ }
+{
+    (s.len() == 24) & text::all_between(s, 49, 52)
+}
+
+pub fn is_table(t: TableNo, tables: u8) -> bool
+    ensures { λ r. ⌜ r ≡ goodTable tables (t .0) ⌝ }
+{
+    let n = t.0;
+    (1 <= n) & (n <= tables)
+}
+
+pub fn is_zone(z: ZoneNo) -> bool
+    ensures { λ r. ⌜ r ≡ goodZone (z .0) ⌝ }
+{
+    let n = z.0;
+    (1 <= n) & (n <= 4)
+}
