@@ -1,9 +1,12 @@
 // The clock: real dates of 2000 to 2099, the next second and the day of the week. Numbers only; their texts are in `values`.
 ghost use mathlib.Core.Path.{_≡_};
-ghost use Prim.Native.Nat.{_-_};
+ghost use mathlib.Core.Bool.{cond, _&&_};
+ghost use Prim.Native.Nat.{_-_, _<_};
+ghost use lib.ListN.{getD};
+ghost use lib.Dec.{ltb};
 ghost use Rattle.clock.specs.Dates.{leap, daysIn, realDate, realTime};
 ghost use Rattle.clock.specs.Seconds.{realClock, nextMonth, nextDay, nextSecond};
-ghost use Rattle.clock.specs.Weekday.{dayNumber, weekday};
+ghost use Rattle.clock.specs.Weekday.{daysBefore, weekday};
 
 pub struct Date {
     pub year: u16,
@@ -148,4 +151,51 @@ pub fn next_second(c: Clock) -> Clock
             second: 0,
         },
     }
+}
+
+const BEFORE: [u16; 12] = [0, 31, 59, 90, 120, 151, 181, 212, 243, 273, 304, 334];
+
+fn less_one(n: u8) -> usize
+    ensures { λ r. ⌜ r ≡ n - 1 ⌝ }
+    ensures small { λ r. ⌜ r < 256 ⌝ }
+{
+    if n == 0 { 0 } else { (n - 1) as usize }
+}
+
+// The days of a common year before a month.
+fn days_before(m: u8) -> u16
+    ensures { λ r. ⌜ r ≡ getD daysBefore (m - 1) 0 ⌝ }
+{
+    let k = less_one(m);
+    if k < 12 { BEFORE[k] } else { 0 }
+}
+
+fn years_since_2000(y: u16) -> u32
+    ensures { λ r. ⌜ r ≡ y - 2000 ⌝ }
+{
+    if y < 2000 { 0 } else { (y - 2000) as u32 }
+}
+
+// One more from March on in a leap year.
+fn leap_day(y: u16, m: u8) -> u32
+    ensures { λ r. ⌜ r ≡ cond (leap y && ltb 2 m) 1 0 ⌝ }
+    ensures small { λ r. ⌜ r < 2 ⌝ }
+{
+    let past = is_leap(y) & (2 < m);
+    if past { 1 } else { 0 }
+}
+
+// The day of the week: Monday is 0, Saturday 5, Sunday 6.
+pub fn day_of_week(d: Date) -> u8
+    ensures { λ r. ⌜ r ≡ weekday d ⌝ }
+{
+    let y = d.year;
+    let m = d.month;
+    let k = years_since_2000(y);
+    let days = k * 365
+        + (k + 3) / 4
+        + days_before(m) as u32
+        + leap_day(y, m)
+        + less_one(d.day) as u32;
+    ((days + 5) % 7) as u8
 }

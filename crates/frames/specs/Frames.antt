@@ -8,6 +8,11 @@ use Rattle.line.specs.Checksum.{bccOf}
 unfoldable pub closed : List ℕ → List ℕ
 closed body = (body ++ (3 ∷ [])) ++ (bccOf (body ++ (3 ∷ [])) ∷ [])
 
+-- the start character, and the rest closed
+unfoldable pub sealed : List ℕ → List ℕ
+sealed [] = []
+sealed (start ∷ body) = start ∷ closed body
+
 -- SOH, two characters, STX, data, ETX, BCC
 unfoldable pub frameOf : List ℕ → List ℕ → List ℕ
 frameOf command content = 1 ∷ closed (command ++ (2 ∷ content))

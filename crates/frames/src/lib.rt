@@ -1,1 +1,37 @@
-// Frames and blocks: the characters between a start and a BCC, closed and sent.
+// Frames and blocks: the characters from a start on, closed by ETX and BCC, with parity.
+ghost use mathlib.Core.Path.{_≡_};
+ghost use mathlib.Core.List.{_++_};
+ghost use Prim.Native.Nat.{_+_, _≤_};
+ghost use lib.ListN.{length, take, drop};
+ghost use Rattle.text.specs.Writing.{holding};
+ghost use Rattle.frames.specs.Frames.{sealed, onWire};
+
+// Puts ETX after the first n characters, and the BCC of all from the second on after that.
+fn close(buf: &mut [u8], n: usize)
+    requires { ⌜ (1 ≤ n) × (n + 2 ≤ length (now buf)) ⌝ }
+    ensures { λ _. ⌜ now (buf .exit) ≡ sealed (take n (now (buf .entry))) ++ drop (n + 2) (now (buf .entry)) ⌝ }
+{
+    let last = n + 1;
+    buf[n] = line::ETX;
+    let sum = line::bcc(&buf[1..last]);
+    buf[last] = sum;
+}
+
+// Puts parity on the first n characters.
+fn send(buf: &mut [u8], n: usize)
+    requires { ⌜ n ≤ length (now buf) ⌝ }
+    ensures { λ _. ⌜ now (buf .exit) ≡ onWire (take n (now (buf .entry))) ++ drop n (now (buf .entry)) ⌝ }
+{
+    line::put_parity(&mut buf[..n]);
+}
+
+// Closes what stands in the first n characters of the buffer, and gives the length of the whole.
+pub fn seal(buf: &mut [u8], n: usize) -> usize
+    requires { ⌜ (1 ≤ n) × (n + 2 ≤ length (now buf)) ⌝ }
+    ensures whole { λ r. ⌜ r ≡ n + 2 ⌝ }
+    ensures held { λ _. ⌜ now (buf .exit) ≡ holding (now (buf .entry)) (onWire (sealed (take n (now (buf .entry))))) ⌝ }
+{
+    close(buf, n);
+    send(buf, n + 2);
+    n + 2
+}

@@ -1,10 +1,11 @@
 -- What a loop that goes over a run once keeps: what is done so far and what is left. One law a turn, one at the end.
 -- Assumes nothing.
 use mathlib.Core.Path.{_≡_, refl, sym, ap, _∙_}
-use mathlib.Core.Bool.{Bool, true, false, _&&_, and-true}
+use mathlib.Core.Bool.{Bool, true, false, cond, _&&_, and-true}
 use mathlib.Core.List.{List, [], _∷_, _++_, map}
 use Prim.Native.Nat.{ℕ, zero, suc, _+_, _<_, _≤_}
-use native.Mathlib.Nat.{le-of-suc-le-suc, not-suc-le-zero}
+use mathlib.Core.Logic.{⊎-elim}
+use native.Mathlib.Nat.{le-of-suc-le-suc, not-suc-le-zero, eq-or-lt-of-le}
 use native.Mathlib.Numerals.{add-one}
 use native.Mathlib.Omega.{arith}
 use lib.ListN.{length, getD, take, drop, set, drop-of-length-le}
@@ -78,3 +79,19 @@ pub every-append : (p : ℕ → Bool) (s t : List ℕ) → every p s ≡ true �
 unfolding every
 every-append p [] t hs ht = ht
 every-append p (b ∷ s) t hs ht = rw (and-left (p b) (every p s) hs) (every-append p s t (and-right (p b) (every p s) hs) ht)
+
+-- a choice that shows what only its first side shows was made for it
+pub chosen : {A : Type 0} (shows : A → Bool) (b : Bool) (x y : A) → shows y ≡ false → shows (cond b x y) ≡ true → b ≡ true
+chosen shows true x y e h = refl
+chosen shows false x y e h = sym e ∙ h
+
+-- a test that is computed at every number below n says it of each
+abbrev pub allBelow : ℕ → (ℕ → Bool) → Bool
+allBelow zero p = true
+allBelow (suc n) p = p n && allBelow n p
+
+pub below-all : (n : ℕ) (p : ℕ → Bool) → allBelow n p ≡ true → (m : ℕ) → m < n → p m ≡ true
+below-all zero p e m h = absurd (omega arith)
+below-all (suc n) p e m h =
+    ⊎-elim (λ k. ap p {x = m} {y = n} (omega arith) ∙ and-left (p n) (allBelow n p) e)
+    (λ k. below-all n p (and-right (p n) (allBelow n p) e) m (omega arith)) (eq-or-lt-of-le h)

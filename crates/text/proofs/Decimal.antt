@@ -3,14 +3,14 @@ use mathlib.Core.Path.{_≡_, refl, sym, ap, ap₂, _∙_}
 use mathlib.Core.Bool.{Bool, true, false, _&&_}
 use mathlib.Core.List.{List, [], _∷_, _++_, append-assoc}
 use Prim.Native.Nat.{ℕ, zero, suc, _+_, _-_, _*_, _/_, _%_, _^_, _<_, _≤_}
-use native.Mathlib.Nat.{pow-suc, add-suc, add-zero, zero-add, mod-lt, zero-lt-suc}
+use native.Mathlib.Nat.{lt-of-lt-of-le, le-trans, le-of-eq, mul-le-mul-right, mul-assoc, mul-comm, one-mul, pow-suc, add-suc, add-zero, zero-add, mod-lt, zero-lt-suc}
 use native.Mathlib.Omega.{arith}
 use borrow.Author.Tests.{leb-true, le-leb}
 use lib.Dec.{leb, lit<}
 use lib.ListN.{length, take, drop, getD, replicate, length-append}
 use lib.Seq.{drop-cons}
 use Rattle.line.specs.Runs.{every}
-use Rattle.line.proofs.Runs.{every-append, and-left, and-right}
+use Rattle.line.proofs.Runs.{left-next, every-append, and-left, and-right}
 use Rattle.text.specs.Classes.{between, isDigit}
 use Rattle.text.specs.Decimal.{decimal, valueFrom, valueOf, numberAt}
 
@@ -78,3 +78,40 @@ decimal-digits zero n = refl
 decimal-digits (suc w) n =
     every-append isDigit (decimal w (n / 10)) ((48 + n % 10) ∷ []) (decimal-digits w (n / 10))
     (rw (digit-is (n % 10) (mod-lt n (zero-lt-suc 9))))
+
+-- reading on never makes the number smaller
+pub value-grows : (s : List ℕ) (acc : ℕ) → acc ≤ valueFrom acc s
+unfolding valueFrom
+value-grows [] acc = omega arith
+value-grows (c ∷ s) acc = omega (arith, value-grows s (acc * 10 + (c - 48)))
+
+value-below : (s : List ℕ) (acc : ℕ) → every isDigit s ≡ true → valueFrom acc s < (acc + 1) * 10 ^ length s
+unfolding valueFrom every
+value-below [] acc e = omega arith
+value-below (c ∷ s) acc e =
+    let high = digit-high c (and-left (isDigit c) (every isDigit s) e) in
+    let step = value-below s (acc * 10 + (c - 48)) (and-right (isDigit c) (every isDigit s) e) in
+    lt-of-lt-of-le step
+    (le-trans (mul-le-mul-right (10 ^ length s) (omega arith))
+    (le-of-eq (mul-assoc (acc + 1) 10 (10 ^ length s) ∙ ap (λ (k : ℕ). (acc + 1) * k) (mul-comm 10 (10 ^ length s) ∙ sym (pow-suc 10 (length s))))))
+
+-- so many digits say a number of so many digits
+pub value-lt : (s : List ℕ) → every isDigit s ≡ true → valueOf s < 10 ^ length s
+unfolding valueOf
+value-lt s e = lt-of-lt-of-le (value-below s 0 e) (le-of-eq (one-mul (10 ^ length s)))
+
+-- the two digits at a place, and a number that is cut in two
+pub two-at : (s : List ℕ) (at : ℕ) → at + 2 ≤ length s → numberAt s at 2 ≡ (getD s at 0 - 48) * 10 + (getD s (at + 1) 0 - 48)
+unfolding numberAt valueOf valueFrom
+two-at s at h =
+    rw (left-next at s (omega arith), left-next (at + 1) s (omega arith)) (omega arith)
+
+pub four-at : (s : List ℕ) (at : ℕ) → at + 4 ≤ length s → numberAt s at 4 ≡ numberAt s at 2 * 100 + numberAt s (at + 2) 2
+unfolding numberAt valueOf valueFrom
+four-at s at h =
+    let a : at < length s = omega arith in
+    let b : at + 1 < length s = omega arith in
+    let c : at + 1 + 1 < length s = omega arith in
+    let d : at + 1 + 1 + 1 < length s = omega arith in
+    let e : at + 2 ≡ at + 1 + 1 = omega arith in
+    rw (e, left-next at s a, left-next (at + 1) s b, left-next (at + 1 + 1) s c, left-next (at + 1 + 1 + 1) s d) (omega arith)

@@ -5,7 +5,7 @@ use mathlib.Core.Bool.{Bool, true, false, not, _&&_, _||_, or-false}
 use mathlib.Core.List.{List, [], _∷_, _++_, append-assoc}
 use Prim.Native.Nat.{ℕ, zero, suc, _+_, _-_, _*_, _/_, _%_, _^_, _<_, _≤_}
 use native.Mathlib.Omega.{arith}
-use borrow.Author.Tests.{ltb-true, eqb-true, eq-eqb, not-true}
+use borrow.Author.Tests.{ltb-true, lt-ltb, eqb-true, eq-eqb, not-true}
 use lib.Dec.{eqb, ltb}
 use lib.ListN.{length, take, drop, getD, replicate, length-append, length-replicate, length-take, length-drop, take-append-drop}
 use lib.Seq.{take-append-seam, drop-append-seam, drop-drop, take-at, drop-at, length-take-le}
@@ -15,7 +15,7 @@ use Rattle.text.specs.Classes.{isDigit, matching}
 use Rattle.text.specs.Decimal.{decimal, valueOf, numberAt}
 use Rattle.text.specs.Layout.{Piece, digits, fixed, layoutText, numbersFrom, pattern, agrees, fits, numbersFit, plain}
 use Rattle.text.proofs.Matching.{matching-append, matched-length}
-use Rattle.text.proofs.Decimal.{length-decimal, value-decimal, decimal-value, decimal-digits}
+use Rattle.text.proofs.Decimal.{length-decimal, value-decimal, decimal-value, decimal-digits, value-lt}
 
 marks-digits : (s : List ℕ) (w : ℕ) → length s ≡ w → every isDigit s ≡ true → fits (replicate w 35) s ≡ true
 unfolding fits matching agrees every
@@ -149,3 +149,45 @@ text-after (digits w ∷ ps) s pre q h =
 -- a text of the form is the text of the numbers that stand in it
 pub form-is-text : (ps : List Piece) (s : List ℕ) → plain ps ≡ true → fits (pattern ps) s ≡ true → layoutText ps (numbersFrom 0 ps s) ≡ s
 form-is-text ps s q h = text-after ps s [] q h
+
+first-fits : (w : ℕ) (s pre a b : List ℕ) → s ≡ a ++ b → length a ≡ w → every isDigit a ≡ true → ltb (numberAt (pre ++ s) (length pre) w) (10 ^ w) ≡ true
+unfolding numberAt
+first-fits w s pre a b e n h = rw (e, drop-append-seam pre (a ++ b), take-at a b w n) (lt-ltb _ _ (rw n at (value-lt a h)))
+
+rest-fits : (w : ℕ) (ps : List Piece) (s pre a b : List ℕ) → s ≡ a ++ b → length a ≡ w
+    → numbersFit ps (numbersFrom (length (pre ++ a)) ps ((pre ++ a) ++ b)) ≡ true → numbersFit ps (numbersFrom (length pre + w) ps (pre ++ s)) ≡ true
+rest-fits w ps s pre a b e n h = rw e (rw (length-append pre a, append-assoc pre a b, n) at h)
+
+fit-after : (ps : List Piece) (s pre : List ℕ) → fits (pattern ps) s ≡ true → numbersFit ps (numbersFrom (length pre) ps (pre ++ s)) ≡ true
+unfolding numbersFit numbersFrom pattern
+fit-after [] s pre h = refl
+fit-after (fixed t ∷ ps) s pre h =
+    let k = cut t (pattern ps) s h in
+    rest-fits (length t) ps s pre (k .first) (k .second) (k .whole) (sym (k .long)) (fit-after ps (k .second) (pre ++ k .first) (k .fits-second))
+fit-after (digits w ∷ ps) s pre h =
+    let k = cut (replicate w 35) (pattern ps) s h in
+    let n : length (k .first) ≡ w = sym (k .long) ∙ length-replicate w 35 in
+    and-both _ _ (first-fits w s pre (k .first) (k .second) (k .whole) n (digits-marks (k .first) w (k .fits-first)))
+    (rest-fits w ps s pre (k .first) (k .second) (k .whole) n (fit-after ps (k .second) (pre ++ k .first) (k .fits-second)))
+
+-- the numbers that stand in a text of the form are within their digits
+pub form-numbers-fit : (ps : List Piece) (s : List ℕ) → fits (pattern ps) s ≡ true → numbersFit ps (numbersFrom 0 ps s) ≡ true
+form-numbers-fit ps s h = fit-after ps s [] h
+
+-- the same as facts, one behind the other
+abbrev pub Within : List Piece → List ℕ → Type 0
+Within [] ns = Unit {0}
+Within (fixed t ∷ ps) ns = Within ps ns
+Within (digits w ∷ ps) [] = ⊥
+Within (digits w ∷ ps) (n ∷ ns) = (n < 10 ^ w) × Within ps ns
+
+within : (ps : List Piece) (ns : List ℕ) → numbersFit ps ns ≡ true → Within ps ns
+unfolding numbersFit
+within [] ns h = tt
+within (fixed t ∷ ps) ns h = within ps ns h
+within (digits w ∷ ps) [] h = let z : _≡_ {A = ℕ} 0 1 = cc in omega arith
+within (digits w ∷ ps) (n ∷ ns) h =
+    (ltb-true n (10 ^ w) (and-left (ltb n (10 ^ w)) (numbersFit ps ns) h), within ps ns (and-right (ltb n (10 ^ w)) (numbersFit ps ns) h))
+
+pub form-within : (ps : List Piece) (s : List ℕ) → fits (pattern ps) s ≡ true → Within ps (numbersFrom 0 ps s)
+form-within ps s h = within ps (numbersFrom 0 ps s) (form-numbers-fit ps s h)

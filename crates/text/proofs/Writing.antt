@@ -48,3 +48,8 @@ stored-is buf at xs h = as-sets buf at xs ∙ sets-eq xs buf at h
 pub stored-holding : (buf message : List ℕ) → length message ≤ length buf → stored buf 0 message ≡ holding buf message
 unfolding holding
 stored-holding buf message h = stored-is buf 0 message (omega arith) ∙ ap (λ (k : ℕ). message ++ drop k buf) (zero-add (length message))
+
+-- one write after another, as a caller has it: what the first left, the place that it gave, what the second left
+pub and-then : (buf : List ℕ) (at : ℕ) (xs mid : List ℕ) (place : ℕ) (ys after : List ℕ)
+    → mid ≡ stored buf at xs → place ≡ at + length xs → after ≡ stored mid place ys → after ≡ stored buf at (xs ++ ys)
+and-then buf at xs mid place ys after e p f = rw (f, e, p) (stored-append buf at xs ys)

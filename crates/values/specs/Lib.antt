@@ -1,2 +1,4 @@
 pub mod Registers
 pub mod Texts
+pub mod Numbers
+pub mod Reading

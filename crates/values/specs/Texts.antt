@@ -18,16 +18,20 @@ tableForm = digits 2 ∷ []
 unfoldable pub tableText : ℕ → List ℕ
 tableText n = layoutText tableForm (n ∷ [])
 
+-- three numbers of two digits, with a character between them
+abbrev pub threeTwos : ℕ → List Piece
+threeTwos sep = digits 2 ∷ fixed (sep ∷ []) ∷ digits 2 ∷ fixed (sep ∷ []) ∷ digits 2 ∷ []
+
 -- yy-mm-dd
 abbrev pub dateForm : List Piece
-dateForm = digits 2 ∷ fixed (45 ∷ []) ∷ digits 2 ∷ fixed (45 ∷ []) ∷ digits 2 ∷ []
+dateForm = threeTwos 45
 
 unfoldable pub dateText : Date → List ℕ
 dateText d = layoutText dateForm ((d .year - 2000) ∷ d .month ∷ d .day ∷ [])
 
 -- hh:nn:ss
 abbrev pub timeForm : List Piece
-timeForm = digits 2 ∷ fixed (58 ∷ []) ∷ digits 2 ∷ fixed (58 ∷ []) ∷ digits 2 ∷ []
+timeForm = threeTwos 58
 
 unfoldable pub timeText : Time → List ℕ
 timeText t = layoutText timeForm (t .hour ∷ t .minute ∷ t .second ∷ [])

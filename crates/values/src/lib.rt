@@ -5,6 +5,10 @@ ghost use lib.ListN.{length};
 ghost use Rattle.text.specs.Decimal.{valueOf};
 ghost use Rattle.values.specs.Registers.{goodDigits, isAccountCharacter, goodAccount, goodRow, goodTable, goodZone};
 
+mod number;
+pub mod reading;
+pub mod writing;
+
 // A table's number, 1 to 24.
 pub struct TableNo(pub u8);
 

@@ -1,0 +1,676 @@
+//! The meter written for speed: the state is changed in place and still checked whole at every call.
+//! It shares the record with the model and nothing else.
+
+use model::meter::{
+    Answer, Clock, Meter, ACK, BLOCK, COUNTER_END, CR, ETX, LF, NAK, PLACES, PULSE_MOST, ROOM, SOH,
+    STX,
+};
+
+/// Days of the months of a common year; 0 for what is no month.
+const DAYS: [u8; 16] = [0, 31, 28, 31, 30, 31, 30, 31, 31, 30, 31, 30, 31, 0, 0, 0];
+/// Days of a common year before each month.
+const DAYS_BEFORE: [u32; 13] = [0, 0, 31, 59, 90, 120, 151, 181, 212, 243, 273, 304, 334];
+
+/// Bits that must be 0: the window that starts at 63 - count lies over the receiver's places.
+const FORBIDDEN: [u8; 2 * PLACES] = {
+    let mut bits = [0x80; 2 * PLACES];
+    let mut place = PLACES;
+    while place < 2 * PLACES {
+        bits[place] = 0xFF;
+        place += 1;
+    }
+    bits
+};
+
+/// Letters, digits, space and underscore.
+const ACCOUNT: [bool; 256] = {
+    let mut good = [false; 256];
+    let mut character = 0;
+    while character < 256 {
+        let c = character as u8;
+        good[character] = c.is_ascii_alphanumeric() || c == b' ' || c == b'_';
+        character += 1;
+    }
+    good
+};
+
+// Where the lines of the data block start.
+const SERIAL_LINE: usize = 1;
+const DATE_LINE: usize = SERIAL_LINE + 20;
+const TIME_LINE: usize = DATE_LINE + 17;
+const ACCOUNT_LINE: usize = TIME_LINE + 17;
+const ENERGY_LINE: usize = ACCOUNT_LINE + 19;
+const ENERGY: usize = 24;
+const TABLE_LINE: usize = ENERGY_LINE + 5 * ENERGY;
+const TABLE: usize = 36;
+const END_LINE: usize = TABLE_LINE + 24 * TABLE;
+
+/// The data block without parity and BCC, its values left open.
+const TEMPLATE: [u8; BLOCK - 1] = {
+    let mut block = [0; BLOCK - 1];
+    block[0] = STX;
+    block = put(block, SERIAL_LINE, b"C.1.0(nnn nnnnnnn)\r\n");
+    block = put(block, DATE_LINE, b"0.9.2(yy-mm-dd)\r\n");
+    block = put(block, TIME_LINE, b"0.9.1(hh:nn:ss)\r\n");
+    block = put(block, ACCOUNT_LINE, b"0.0.0(aaaaaaaaaa)\r\n");
+    let mut line = 0;
+    while line < 5 {
+        let at = ENERGY_LINE + line * ENERGY;
+        block = put(block, at, b"15.8.n(eeeeee.eee*kWh)\r\n");
+        block[at + 5] = b"12340"[line];
+        line += 1;
+    }
+    let mut table = 0;
+    while table < 24 {
+        let at = TABLE_LINE + table * TABLE;
+        block = put(block, at, b"131.0.xx(rrrrrrrrrrrrrrrrrrrrrrrr)\r\n");
+        block[at + 6] = b'0' + (table as u8 + 1) / 10;
+        block[at + 7] = b'0' + (table as u8 + 1) % 10;
+        table += 1;
+    }
+    put(block, END_LINE, b"!\r\n\x03")
+};
+
+const fn put(mut block: [u8; BLOCK - 1], at: usize, text: &[u8]) -> [u8; BLOCK - 1] {
+    let mut place = 0;
+    while place < text.len() {
+        block[at + place] = text[place];
+        place += 1;
+    }
+    block
+}
+
+/// Eight bytes as one number.
+fn eight(bytes: &[u8], at: usize) -> u64 {
+    u64::from_le_bytes(bytes[at..at + 8].try_into().expect("eight bytes"))
+}
+
+/// All eight are digits: the upper half of each is 3, also after 6 is added.
+fn eight_digits(digits: u64) -> bool {
+    const HIGH: u64 = 0xF0F0_F0F0_F0F0_F0F0;
+    let over = digits.wrapping_add(0x0606_0606_0606_0606);
+    (digits & HIGH) | ((over & HIGH) >> 4) == 0x3333_3333_3333_3333
+}
+
+fn clock_good(clock: &Clock) -> bool {
+    let leap = u8::from(clock.year.is_multiple_of(4) && clock.month == 2);
+    let days = DAYS[usize::from(clock.month & 15)] + leap;
+    (clock.year.wrapping_sub(2000) < 100)
+        & (clock.month < 16)
+        & (clock.day.wrapping_sub(1) < days)
+        & (clock.hour < 24)
+        & (clock.minute < 60)
+        & (clock.second < 60)
+}
+
+fn receiver_good(meter: &Meter) -> bool {
+    let count = usize::from(meter.count);
+    let (most, first) = match meter.mode {
+        0 => (31, b'/'),
+        1 => (5, meter.held[0]),
+        2..=4 => (63, SOH),
+        _ => return false,
+    };
+    if count > most {
+        return false;
+    }
+    let forbidden = &FORBIDDEN[PLACES - count..2 * PLACES - count];
+    let mut bad = 0;
+    // The last eight overlap the ones before by one place.
+    for at in [0, 8, 16, 24, 32, 40, 48, 55] {
+        bad |= eight(&meter.held, at) & eight(forbidden, at);
+    }
+    let start = if count == 0 {
+        !meter.mark
+    } else {
+        meter.held[0] == first
+    };
+    (bad == 0) & start
+}
+
+/// Every range of the state.
+pub fn well_formed(meter: &Meter) -> bool {
+    let mut most = 0;
+    for zone in meter.tables.as_flattened() {
+        most = most.max(zone.wrapping_sub(b'1'));
+    }
+    let mut account = true;
+    for &character in &meter.account {
+        account &= ACCOUNT[usize::from(character)];
+    }
+    let mut counters = true;
+    for counter in meter.counters {
+        counters &= counter < COUNTER_END;
+    }
+    (most < 4)
+        & receiver_good(meter)
+        & account
+        & counters
+        & eight_digits(eight(&meter.serial, 0))
+        & eight_digits(eight(&meter.serial, 2))
+        & eight_digits(eight(&meter.password, 0))
+        & (meter.attempts < 4)
+        & clock_good(&meter.clock)
+}
+
+fn speed(meter: &Meter) -> u8 {
+    if meter.mode < 2 {
+        0
+    } else {
+        5
+    }
+}
+
+fn answer(number: u8, speed: u8, length: usize) -> Answer {
+    Answer {
+        number,
+        speed,
+        length,
+    }
+}
+
+fn parity(character: u8) -> u8 {
+    character | (character.count_ones() as u8) << 7
+}
+
+fn empty(meter: &mut Meter) {
+    meter.count = 0;
+    meter.mark = false;
+    meter.held = [0; PLACES];
+}
+
+fn enter(meter: &mut Meter, mode: u8) {
+    empty(meter);
+    meter.mode = mode;
+}
+
+fn restart(meter: &mut Meter, first: u8) {
+    empty(meter);
+    meter.held[0] = first;
+    meter.count = 1;
+}
+
+fn hold(meter: &mut Meter, character: u8, damaged: bool) {
+    meter.held[usize::from(meter.count)] = character;
+    meter.count += 1;
+    meter.mark |= damaged;
+}
+
+/// A received character.
+pub fn character(meter: &mut Meter, byte: u8, buffer: &mut [u8]) -> Answer {
+    if buffer.len() < ROOM {
+        return answer(12, 0, 0);
+    }
+    if !well_formed(meter) {
+        return answer(14, 0, 0);
+    }
+    let damaged = byte.count_ones() % 2 == 1;
+    let character = if damaged { 0 } else { byte & 0x7F };
+    match meter.mode {
+        0 => line_character(meter, character, damaged, buffer),
+        1 => confirmation_character(meter, character, damaged, buffer),
+        _ => frame_character(meter, character, damaged, buffer),
+    }
+}
+
+fn line_character(meter: &mut Meter, character: u8, damaged: bool, buffer: &mut [u8]) -> Answer {
+    if character == b'/' {
+        restart(meter, b'/');
+        return answer(0, 0, 0);
+    }
+    let count = usize::from(meter.count);
+    if count == 0 {
+        return answer(0, 0, 0);
+    }
+    if character == LF {
+        let ours = !meter.mark && called(&meter.held[..count], &meter.serial);
+        empty(meter);
+        if !ours {
+            return answer(0, 0, 0);
+        }
+        meter.mode = 1;
+        let identification = b"/ZZZ5SUB-VP01.00*\r\n";
+        for (place, &character) in buffer.iter_mut().zip(identification) {
+            *place = parity(character);
+        }
+        return answer(1, 0, identification.len());
+    }
+    if count == 31 {
+        empty(meter);
+    } else {
+        hold(meter, character, damaged);
+    }
+    answer(0, 0, 0)
+}
+
+/// A sign-on line up to its CR.
+fn called(line: &[u8], serial: &[u8; 10]) -> bool {
+    match line {
+        b"/?!\r" => true,
+        [b'/', b'?', a, b, c, b' ', rest @ .., b'!', CR] if rest.len() == 7 => {
+            let head = [*a, *b, *c];
+            (head == serial[..3] && rest == &serial[3..]) || (head == *b"000" && rest == b"0000000")
+        }
+        _ => false,
+    }
+}
+
+fn confirmation_character(
+    meter: &mut Meter,
+    character: u8,
+    damaged: bool,
+    buffer: &mut [u8],
+) -> Answer {
+    if meter.count < 5 {
+        hold(meter, character, damaged);
+        return answer(0, 0, 0);
+    }
+    let good = !meter.mark
+        && !damaged
+        && character == LF
+        && meter.held[..3] == [ACK, b'0', b'5']
+        && meter.held[4] == CR;
+    let choice = meter.held[3];
+    enter(meter, 0);
+    match choice {
+        b'0' | b'7' if good => answer(1, 5, data_block(meter, buffer)),
+        b'1' if good => {
+            meter.mode = 2;
+            let ask = b"\x01P0\x02(0000)\x03\x60";
+            for (place, &character) in buffer.iter_mut().zip(ask) {
+                *place = parity(character);
+            }
+            answer(1, 5, ask.len())
+        }
+        _ => answer(2, 0, 0),
+    }
+}
+
+fn frame_character(meter: &mut Meter, character: u8, damaged: bool, buffer: &mut [u8]) -> Answer {
+    let count = usize::from(meter.count);
+    if count > 0 && meter.held[count - 1] == ETX {
+        meter.mark |= damaged;
+        return match decide(meter, count, character, buffer) {
+            Ok(length) => {
+                empty(meter);
+                answer(1, 5, length)
+            }
+            Err(number) => refuse(meter, number, buffer),
+        };
+    }
+    if character == SOH {
+        restart(meter, SOH);
+    } else if count == PLACES {
+        return refuse(meter, 5, buffer);
+    } else if count > 0 {
+        hold(meter, character, damaged);
+    }
+    answer(0, 5, 0)
+}
+
+fn refuse(meter: &mut Meter, number: u8, buffer: &mut [u8]) -> Answer {
+    empty(meter);
+    if meter.mode == 2 {
+        meter.mode = 0;
+    }
+    buffer[0] = parity(NAK);
+    answer(number, 5, 1)
+}
+
+fn acknowledge(buffer: &mut [u8]) -> usize {
+    buffer[0] = ACK;
+    1
+}
+
+fn printable(character: u8) -> bool {
+    character.wrapping_sub(0x20) < 0x5F
+}
+
+/// The length of the reply, or the number of the refusal.
+fn decide(meter: &mut Meter, count: usize, check: u8, buffer: &mut [u8]) -> Result<usize, u8> {
+    if meter.mark {
+        return Err(3);
+    }
+    // Unused places are 0 and the first is SOH, so that the whole receiver can be summed.
+    let mut sum = SOH ^ check;
+    for character in meter.held {
+        sum ^= character;
+    }
+    if sum != 0 {
+        return Err(4);
+    }
+    if count < 4 || !printable(meter.held[1]) || !printable(meter.held[2]) {
+        return Err(6);
+    }
+    let command = [meter.held[1], meter.held[2]];
+    if count == 4 {
+        if command != *b"B0" {
+            return Err(7);
+        }
+        meter.mode = 0;
+        return Ok(acknowledge(buffer));
+    }
+    // The data are looked at where they are held, from a copy of the places alone.
+    let held = meter.held;
+    let data = &held[4..count - 1];
+    if held[3] != STX {
+        return Err(6);
+    }
+    let mut shape = true;
+    for &character in data {
+        shape &= printable(character);
+    }
+    if !shape {
+        return Err(6);
+    }
+    match (&command, meter.mode) {
+        (b"R1", 3 | 4) => read(meter, data, buffer),
+        (b"W1", 4) => write(meter, data, buffer),
+        (b"P1", 2) => password(meter, data, buffer),
+        (b"R1" | b"W1" | b"P1", _) => Err(8),
+        _ => Err(7),
+    }
+}
+
+fn password(meter: &mut Meter, data: &[u8], buffer: &mut [u8]) -> Result<usize, u8> {
+    match data {
+        b"()" => meter.mode = 3,
+        [b'(', given @ .., b')'] if given.len() == 8 && eight_digits(eight(given, 0)) => {
+            if meter.attempts == 3 {
+                return Err(11);
+            }
+            if given != meter.password {
+                meter.attempts += 1;
+                return Err(10);
+            }
+            meter.attempts = 0;
+            meter.mode = 4;
+        }
+        _ => return Err(9),
+    }
+    Ok(acknowledge(buffer))
+}
+
+fn read(meter: &Meter, data: &[u8], buffer: &mut [u8]) -> Result<usize, u8> {
+    // Nothing is written before the data are known to be good.
+    let to = &mut buffer[1..];
+    let length = match data {
+        b"T()" => {
+            line(to, TIME_LINE, 17);
+            time(meter, to);
+            line(&mut to[17..], DATE_LINE, 17);
+            date(meter, &mut to[17..]);
+            34
+        }
+        b"L()" => {
+            line(to, SERIAL_LINE, 20);
+            serial(meter, to);
+            20
+        }
+        b"K()" => {
+            line(to, ACCOUNT_LINE, 19);
+            account(meter, to);
+            19
+        }
+        [b'E', zone @ b'0'..=b'4', b'(', b')'] => {
+            // The total is the fifth line of the block.
+            let number = usize::from(zone.wrapping_sub(b'1')).min(4);
+            line(to, ENERGY_LINE + number * ENERGY, ENERGY);
+            energy(meter, number, to);
+            ENERGY
+        }
+        [b'Z', b'(', tens, units, b')'] => {
+            let number = table(*tens, *units).ok_or(9)?;
+            line(to, TABLE_LINE + number * TABLE, TABLE);
+            row(meter, number, to);
+            TABLE
+        }
+        _ => return Err(9),
+    };
+    buffer[0] = STX;
+    buffer[length + 1] = ETX;
+    Ok(seal(buffer, length + 2))
+}
+
+fn write(meter: &mut Meter, data: &[u8], buffer: &mut [u8]) -> Result<usize, u8> {
+    match data {
+        [b'Z', b'(', tens, units, b';', row @ .., b')'] if row.len() == 24 => {
+            let table = table(*tens, *units).ok_or(9)?;
+            let mut most = 0;
+            for zone in row {
+                most = most.max(zone.wrapping_sub(b'1'));
+            }
+            if most > 3 {
+                return Err(9);
+            }
+            meter.tables[table].copy_from_slice(row);
+        }
+        [b'K', b'(', account @ .., b')'] if account.len() == 10 => {
+            if !account.iter().all(|&c| ACCOUNT[usize::from(c)]) {
+                return Err(9);
+            }
+            meter.account.copy_from_slice(account);
+        }
+        [b'T', b'(', told @ .., b')'] if told.len() == 19 => {
+            meter.clock = clock_told(told).ok_or(9)?;
+        }
+        _ => return Err(9),
+    }
+    Ok(acknowledge(buffer))
+}
+
+/// Two digits, or 255 and more.
+fn pair(tens: u8, units: u8) -> u16 {
+    let (tens, units) = (tens.wrapping_sub(b'0'), units.wrapping_sub(b'0'));
+    if tens > 9 || units > 9 {
+        return 255;
+    }
+    u16::from(tens * 10 + units)
+}
+
+/// The table, counted from 0.
+fn table(tens: u8, units: u8) -> Option<usize> {
+    let table = usize::from(pair(tens, units).wrapping_sub(1));
+    (table < 24).then_some(table)
+}
+
+fn clock_told(told: &[u8]) -> Option<Clock> {
+    let separators = [told[2], told[5], told[10], told[13], told[16]];
+    if separators != *b"--;::" {
+        return None;
+    }
+    let field = |at: usize| pair(told[at], told[at + 1]);
+    let year = field(8);
+    if field(6) != 20 || year > 99 {
+        return None;
+    }
+    let clock = Clock {
+        year: 2000 + year,
+        month: field(3) as u8,
+        day: field(0) as u8,
+        hour: field(11) as u8,
+        minute: field(14) as u8,
+        second: field(17) as u8,
+    };
+    clock_good(&clock).then_some(clock)
+}
+
+/// Writes a line of the template, its value still open.
+fn line(to: &mut [u8], at: usize, length: usize) {
+    to[..length].copy_from_slice(&TEMPLATE[at..at + length]);
+}
+
+fn two(to: &mut [u8], value: u8) {
+    to[0] = b'0' + value / 10;
+    to[1] = b'0' + value % 10;
+}
+
+// Each of these writes the value into its line.
+
+fn serial(meter: &Meter, to: &mut [u8]) {
+    to[6..9].copy_from_slice(&meter.serial[..3]);
+    to[10..17].copy_from_slice(&meter.serial[3..]);
+}
+
+fn date(meter: &Meter, to: &mut [u8]) {
+    two(&mut to[6..], (meter.clock.year - 2000) as u8);
+    two(&mut to[9..], meter.clock.month);
+    two(&mut to[12..], meter.clock.day);
+}
+
+fn time(meter: &Meter, to: &mut [u8]) {
+    two(&mut to[6..], meter.clock.hour);
+    two(&mut to[9..], meter.clock.minute);
+    two(&mut to[12..], meter.clock.second);
+}
+
+fn account(meter: &Meter, to: &mut [u8]) {
+    to[6..16].copy_from_slice(&meter.account);
+}
+
+/// Numbers 0 to 3 are the zones, 4 is the total.
+fn energy(meter: &Meter, number: usize, to: &mut [u8]) {
+    let wh = match meter.counters.get(number) {
+        Some(&wh) => wh,
+        // Four full counters fit u32.
+        None => meter.counters.iter().sum::<u32>() % COUNTER_END,
+    };
+    let mut three = |at: usize, value: u32| {
+        to[at] = b'0' + (value / 100) as u8;
+        to[at + 1] = b'0' + (value / 10 % 10) as u8;
+        to[at + 2] = b'0' + (value % 10) as u8;
+    };
+    three(7, wh / 1_000_000);
+    three(10, wh / 1_000 % 1_000);
+    three(14, wh % 1_000);
+}
+
+fn row(meter: &Meter, table: usize, to: &mut [u8]) {
+    to[9..33].copy_from_slice(&meter.tables[table]);
+}
+
+/// Puts parity on STX to ETX and the BCC behind; gives the length of it all.
+fn seal(buffer: &mut [u8], length: usize) -> usize {
+    let (block, rest) = buffer.split_at_mut(length);
+    let mut sum = STX;
+    for character in block {
+        sum ^= *character;
+        *character = parity(*character);
+    }
+    rest[0] = parity(sum);
+    length + 1
+}
+
+/// Writes the data block; the state must be well-formed and the buffer long enough.
+pub fn data_block(meter: &Meter, buffer: &mut [u8]) -> usize {
+    let block = &mut buffer[..BLOCK];
+    block[..BLOCK - 1].copy_from_slice(&TEMPLATE);
+    serial(meter, &mut block[SERIAL_LINE..]);
+    date(meter, &mut block[DATE_LINE..]);
+    time(meter, &mut block[TIME_LINE..]);
+    account(meter, &mut block[ACCOUNT_LINE..]);
+    for number in 0..5 {
+        energy(meter, number, &mut block[ENERGY_LINE + number * ENERGY..]);
+    }
+    for table in 0..24 {
+        row(meter, table, &mut block[TABLE_LINE + table * TABLE..]);
+    }
+    seal(block, BLOCK - 1)
+}
+
+/// Eight seconds of silence.
+pub fn silence(meter: &mut Meter, buffer: &mut [u8]) -> Answer {
+    if buffer.len() < ROOM {
+        return answer(12, 0, 0);
+    }
+    if !well_formed(meter) {
+        return answer(14, 0, 0);
+    }
+    let mode = meter.mode;
+    enter(meter, 0);
+    match mode {
+        0 => answer(0, 0, 0),
+        1 => {
+            buffer[0] = parity(NAK);
+            answer(1, 0, 1)
+        }
+        _ => answer(1, 0, 0),
+    }
+}
+
+/// One second of the clock.
+pub fn tick(meter: &mut Meter) -> Answer {
+    if !well_formed(meter) {
+        return answer(14, 0, 0);
+    }
+    let clock = &mut meter.clock;
+    clock.second += 1;
+    if clock.second == 60 {
+        clock.second = 0;
+        clock.minute += 1;
+        if clock.minute == 60 {
+            clock.minute = 0;
+            clock.hour += 1;
+            if clock.hour == 24 {
+                clock.hour = 0;
+                next_day(clock);
+            }
+        }
+    }
+    answer(1, speed(meter), 0)
+}
+
+fn next_day(clock: &mut Clock) {
+    clock.day += 1;
+    if clock_good(clock) {
+        return;
+    }
+    clock.day = 1;
+    clock.month += 1;
+    if clock.month == 13 {
+        clock.month = 1;
+        clock.year = if clock.year == 2099 {
+            2000
+        } else {
+            clock.year + 1
+        };
+    }
+}
+
+/// The power comes back.
+pub fn power_up(meter: &mut Meter) -> Answer {
+    if !well_formed(meter) {
+        return answer(14, 0, 0);
+    }
+    enter(meter, 0);
+    meter.attempts = 0;
+    answer(1, 0, 0)
+}
+
+/// Energy used.
+pub fn pulse(meter: &mut Meter, wh: u32) -> Answer {
+    if wh > PULSE_MOST {
+        return answer(13, 0, 0);
+    }
+    if !well_formed(meter) {
+        return answer(14, 0, 0);
+    }
+    let clock = &meter.clock;
+    let year = u32::from(clock.year) - 2000;
+    let leap_passed = u32::from(year.is_multiple_of(4) && clock.month > 2);
+    let month = usize::from(clock.month);
+    let days = 365 * year + year.div_ceil(4) + DAYS_BEFORE[month] + leap_passed;
+    // Counted from 2000-01-01, a Saturday.
+    let weekend = (days + u32::from(clock.day) - 1) % 7 < 2;
+    let table = if weekend { month + 11 } else { month - 1 };
+    let zone = meter.tables[table][usize::from(clock.hour)] - b'1';
+    let counter = &mut meter.counters[usize::from(zone)];
+    *counter += wh;
+    if *counter >= COUNTER_END {
+        *counter -= COUNTER_END;
+    }
+    answer(1, speed(meter), 0)
+}
+
+#[cfg(test)]
+mod tests;

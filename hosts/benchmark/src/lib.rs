@@ -1,2 +1,3 @@
 pub mod fast_head;
+pub mod fast_meter;
 pub mod fast_post;

@@ -280,7 +280,7 @@ fn hex(field: &[u8]) -> Option<Vec<u8>> {
     if field == b"-" {
         return Some(Vec::new());
     }
-    if field.is_empty() || field.len() % 2 != 0 {
+    if field.is_empty() || !field.len().is_multiple_of(2) {
         return None;
     }
     field

@@ -1,5 +1,5 @@
+pub mod bench;
 pub mod head;
 pub mod line;
-pub mod post;
-pub mod bench;
 pub mod meter;
+pub mod post;

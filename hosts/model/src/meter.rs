@@ -96,7 +96,8 @@ pub fn bcc(characters: &[u8]) -> u8 {
 
 /// Days of a month between 1 and 12.
 pub fn days_in_month(year: u16, month: u8) -> u8 {
-    let leap = year % 4 == 0 && (year % 100 != 0 || year % 400 == 0);
+    let century = year.is_multiple_of(100) && !year.is_multiple_of(400);
+    let leap = year.is_multiple_of(4) && !century;
     match month {
         2 if leap => 29,
         2 => 28,

@@ -221,7 +221,11 @@ impl Fixed {
 }
 
 pub fn all() -> Vec<Played> {
-    let mut scripts = vec![by_hand().done(), last_line_without_lf()];
+    let mut scripts = vec![
+        by_hand().done(),
+        last_line_without_lf(),
+        Fixed::empty("nothing at all").done(),
+    ];
     scripts.extend(
         [
             facts(),

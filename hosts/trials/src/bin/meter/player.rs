@@ -65,10 +65,10 @@ impl<'a> Player<'a> {
         let answers = &self.transcript[start..];
         self.answers += answers.matches('\n').count();
         match parse(line) {
-            None => self.reached.line("script line that is an error"),
+            None => self.reached.reach("script line that is an error"),
             Some(Command::New { .. }) => self.reached.made(answers),
-            Some(Command::Set(_)) => self.reached.line("set"),
-            Some(Command::Dump) => self.reached.line("dump"),
+            Some(Command::Set(_)) => self.reached.reach("set"),
+            Some(Command::Dump) => self.reached.reach("dump"),
             Some(Command::Play(_)) => {}
         }
     }

@@ -212,7 +212,7 @@ impl Reached {
         }
     }
 
-    pub fn line(&mut self, aim: &'static str) {
+    pub fn reach(&mut self, aim: &'static str) {
         debug_assert!(AIMS.contains(&aim), "{aim}");
         *self.aims.entry(aim).or_default() += 1;
     }
@@ -221,10 +221,10 @@ impl Reached {
     pub fn made(&mut self, answer: &str) {
         if answer == "1\n" {
             self.answers[1] += 1;
-            self.line("new, good facts");
+            self.reach("new, good facts");
         } else {
             self.answers[15] += 1;
-            self.line("new, bad facts");
+            self.reach("new, bad facts");
         }
     }
 
@@ -245,10 +245,10 @@ impl Reached {
         }
         if let Event::Pulse { wh } = event {
             match wh {
-                0 => self.line("pulse of 0"),
-                PULSE_MOST => self.line("pulse of 1,000,000"),
-                1_000_001 => self.line("pulse of 1,000,001"),
-                u32::MAX => self.line("pulse of 4,294,967,295"),
+                0 => self.reach("pulse of 0"),
+                PULSE_MOST => self.reach("pulse of 1,000,000"),
+                1_000_001 => self.reach("pulse of 1,000,001"),
+                u32::MAX => self.reach("pulse of 4,294,967,295"),
                 _ => {}
             }
         }
@@ -271,10 +271,10 @@ impl Reached {
             Event::Tick => self.tick(before, after),
             Event::PowerUp => {
                 if before.attempts > 0 {
-                    self.line("power-up clears attempts");
+                    self.reach("power-up clears attempts");
                 }
                 if before.count > 0 {
-                    self.line("power-up with something held");
+                    self.reach("power-up with something held");
                 }
             }
             Event::Pulse { wh } => self.pulse(before, wh, after),
@@ -284,9 +284,9 @@ impl Reached {
     fn malformed(&mut self, broken: &[&'static str], kind: usize, number: u8) {
         match broken {
             [range] => *self.broken.entry(range).or_default() += 1,
-            _ => self.line("several ranges broken"),
+            _ => self.reach("several ranges broken"),
         }
-        self.line(match (number, kind) {
+        self.reach(match (number, kind) {
             (12, 0) => "12 before 14, character",
             (12, _) => "12 before 14, silence",
             (13, _) => "13 before 14",
@@ -304,7 +304,7 @@ impl Reached {
         let got = data_bits(byte);
         let count = usize::from(before.count);
         if got == Some(0) && after.count > before.count && !after.mark {
-            self.line("NUL held without the mark");
+            self.reach("NUL held without the mark");
         }
         match before.mode {
             0 => self.line_character(before, got, count, after),
@@ -317,27 +317,27 @@ impl Reached {
         let held = before.held();
         let inside = held.get(1..).unwrap_or(&[]);
         if before.mark && !held.contains(&0) {
-            self.line("unreachable: mark with no 0 held");
+            self.reach("unreachable: mark with no 0 held");
         }
         match before.mode {
             0 => {
                 if inside.contains(&LF) {
-                    self.line("unreachable: LF held in mode 0");
+                    self.reach("unreachable: LF held in mode 0");
                 }
                 if inside.contains(&b'/') {
-                    self.line("unreachable: second '/' held");
+                    self.reach("unreachable: second '/' held");
                 }
             }
             1 => {}
             _ => {
                 if inside.contains(&SOH) {
-                    self.line("unreachable: SOH inside a frame");
+                    self.reach("unreachable: SOH inside a frame");
                 }
                 if inside
                     .split_last()
                     .is_some_and(|(_, inside)| inside.contains(&ETX))
                 {
-                    self.line("unreachable: ETX inside a frame");
+                    self.reach("unreachable: ETX inside a frame");
                 }
             }
         }
@@ -345,25 +345,25 @@ impl Reached {
 
     fn line_character(&mut self, before: &Meter, got: Option<u8>, count: usize, after: &Meter) {
         match got {
-            None if count == 0 => self.line("damaged character dropped, mode 0"),
-            None if count == 31 => self.line("32nd character is damaged"),
+            None if count == 0 => self.reach("damaged character dropped, mode 0"),
+            None if count == 31 => self.reach("32nd character is damaged"),
             None => self.line_places[count] += 1,
             Some(b'/') => {
                 if before.mark {
-                    self.line("'/' clears the mark");
+                    self.reach("'/' clears the mark");
                 }
                 if count == 31 {
-                    self.line("32nd character is '/'");
+                    self.reach("32nd character is '/'");
                 }
             }
             Some(LF) if count > 0 => {
                 match count {
-                    30 => self.line("line of 31 characters"),
-                    31 => self.line("line of 32 characters"),
+                    30 => self.reach("line of 31 characters"),
+                    31 => self.reach("line of 32 characters"),
                     _ => {}
                 }
                 let zero_line = before.held() == b"/?000 0000000!\r";
-                self.line(match (after.mode, before.mark) {
+                self.reach(match (after.mode, before.mark) {
                     (1, _) if before.held() == b"/?!\r" => "sign-on by /?!",
                     (1, _) if zero_line && before.serial == *b"0000000000" => {
                         "sign-on by the zero serial that is ours"
@@ -374,7 +374,7 @@ impl Reached {
                     (_, false) => "line not ours, unmarked",
                 });
             }
-            Some(_) if count == 31 => self.line("32nd character empties the line"),
+            Some(_) if count == 31 => self.reach("32nd character empties the line"),
             Some(_) => {}
         }
     }
@@ -390,15 +390,15 @@ impl Reached {
             self.confirmation_places[count] += 1;
         }
         if count == 0 && matches!(got, Some(b'/' | SOH)) {
-            self.line("'/' or SOH first in mode 1");
+            self.reach("'/' or SOH first in mode 1");
         }
         if count < 5 {
             return;
         }
         if before.held[0] == 0 && before.mark {
-            self.line("confirmation that starts damaged");
+            self.reach("confirmation that starts damaged");
         }
-        self.line(match (after.mode, before.held[3]) {
+        self.reach(match (after.mode, before.held[3]) {
             (2, _) => "confirmation '1'",
             _ if before.mark || got.is_none() => "confirmation with the mark",
             (_, b'0') if before.held().starts_with(b"\x06050\r") && got == Some(LF) => {
@@ -424,22 +424,22 @@ impl Reached {
         }
         if got.is_none() {
             match count {
-                0 => self.line("damaged character dropped, modes 2 to 4"),
-                63 => self.line("64th character is damaged"),
+                0 => self.reach("damaged character dropped, modes 2 to 4"),
+                63 => self.reach("64th character is damaged"),
                 _ => self.frame_places[count] += 1,
             }
         }
         if got == Some(SOH) && before.mark {
-            self.line("SOH clears the mark");
+            self.reach("SOH clears the mark");
         }
         if count == 63 {
-            self.line(match got {
+            self.reach(match got {
                 Some(SOH) => "64th character is SOH and restarts",
                 Some(ETX) => "64th character is ETX (frame of 65)",
                 _ => "64th character is too long",
             });
             if before.mark && got != Some(SOH) {
-                self.line("64th character, mark set");
+                self.reach("64th character, mark set");
             }
         }
     }
@@ -453,26 +453,26 @@ impl Reached {
         after: &Meter,
     ) {
         match count {
-            62 => self.line("whole frame of 63 characters"),
-            63 => self.line("whole frame of 64 characters"),
+            62 => self.reach("whole frame of 63 characters"),
+            63 => self.reach("whole frame of 64 characters"),
             _ => {}
         }
         if count == 63 && got == Some(SOH) {
-            self.line("64th character is SOH and the BCC");
+            self.reach("64th character is SOH and the BCC");
         }
         let Some(check) = got else {
             self.check_places[count] += 1;
-            return self.line("damaged BCC");
+            return self.reach("damaged BCC");
         };
         match (number, check) {
-            (1, SOH) => self.line("accepted frame, BCC is SOH"),
-            (1, STX) => self.line("accepted frame, BCC is STX"),
-            (1, ETX) => self.line("accepted frame, BCC is ETX"),
-            (1, b'\r') => self.line("accepted frame, BCC is CR"),
-            (1, LF) => self.line("accepted frame, BCC is LF"),
+            (1, SOH) => self.reach("accepted frame, BCC is SOH"),
+            (1, STX) => self.reach("accepted frame, BCC is STX"),
+            (1, ETX) => self.reach("accepted frame, BCC is ETX"),
+            (1, b'\r') => self.reach("accepted frame, BCC is CR"),
+            (1, LF) => self.reach("accepted frame, BCC is LF"),
             (1, _) => {}
-            (_, SOH) => self.line("refused frame, SOH in the BCC's place"),
-            (_, ETX) => self.line("refused frame, ETX in the BCC's place"),
+            (_, SOH) => self.reach("refused frame, SOH in the BCC's place"),
+            (_, ETX) => self.reach("refused frame, ETX in the BCC's place"),
             _ => {}
         }
         // A frame that got as far as its data has the shape SOH, command, STX, data, ETX.
@@ -480,14 +480,14 @@ impl Reached {
         let command = frame.get(1..3).unwrap_or(b"");
         let data = frame.get(4..count - 1).unwrap_or(b"");
         match (command, number) {
-            (b"B0", 1) => self.line(match before.mode {
+            (b"B0", 1) => self.reach(match before.mode {
                 2 => "B0 in mode 2",
                 3 => "B0 in mode 3",
                 _ => "B0 in mode 4",
             }),
             (b"P1", 1 | 9 | 10 | 11) => self.password(before, data, number),
             (b"R1", 1) => self.read(before, data),
-            (b"R1", 9) => self.line("read refused with 9"),
+            (b"R1", 9) => self.reach("read refused with 9"),
             (b"W1", 1 | 9) => self.write(before, data, number, after),
             _ => {}
         }
@@ -495,7 +495,7 @@ impl Reached {
 
     fn password(&mut self, before: &Meter, data: &[u8], number: u8) {
         let right = data.get(1..9) == Some(&before.password);
-        self.line(match (number, before.attempts) {
+        self.reach(match (number, before.attempts) {
             (1, 3) => "P1 () while locked",
             (1, _) if data == b"()" => "P1 ()",
             (1, 0) => "right password",
@@ -511,7 +511,7 @@ impl Reached {
     }
 
     fn read(&mut self, before: &Meter, data: &[u8]) {
-        self.line(match &data[..2] {
+        self.reach(match &data[..2] {
             b"T(" => "read T",
             b"L(" => "read L",
             b"K(" => "read K",
@@ -524,7 +524,7 @@ impl Reached {
         });
         let total: u64 = before.counters.iter().map(|&wh| u64::from(wh)).sum();
         if data.starts_with(b"E0") && total >= u64::from(COUNTER_END) {
-            self.line("total over 1,000,000,000");
+            self.reach("total over 1,000,000,000");
         }
         if data.starts_with(b"Z") {
             self.tables_read[named(data)] += 1;
@@ -532,7 +532,7 @@ impl Reached {
     }
 
     fn write(&mut self, before: &Meter, data: &[u8], number: u8, after: &Meter) {
-        self.line(match (data.first(), number) {
+        self.reach(match (data.first(), number) {
             (Some(b'T'), 1) => "write T",
             (Some(b'K'), 1) => "write K",
             (Some(b'Z'), 1) => "write Z",
@@ -549,7 +549,7 @@ impl Reached {
 
     fn silence(&mut self, before: &Meter) {
         if before.count > 0 {
-            self.line(match before.mode {
+            self.reach(match before.mode {
                 0 => "silence with something held, mode 0",
                 1 => "silence with something held, mode 1",
                 _ => "silence with something held, modes 2 to 4",
@@ -560,33 +560,33 @@ impl Reached {
     fn tick(&mut self, before: &Meter, after: &Meter) {
         let (from, to) = (before.clock, after.clock);
         if from.minute != to.minute {
-            self.line("tick over a minute");
+            self.reach("tick over a minute");
         }
         if from.hour != to.hour {
-            self.line("tick over an hour");
+            self.reach("tick over an hour");
         }
         if from.day == to.day {
             return;
         }
         match (from.month, from.day, days_in_month(from.year, from.month)) {
-            (2, 28, 29) => self.line("tick 28 February, leap year"),
-            (2, 29, _) => self.line("tick 29 February"),
-            (2, 28, _) => self.line("tick 28 February, other year"),
+            (2, 28, 29) => self.reach("tick 28 February, leap year"),
+            (2, 29, _) => self.reach("tick 29 February"),
+            (2, 28, _) => self.reach("tick 28 February, other year"),
             _ => {}
         }
         if from.month != to.month {
-            self.line("tick over a month's end");
+            self.reach("tick over a month's end");
         }
         if from.year == 2099 && from.month == 12 && to.month == 1 {
-            self.line("tick over the end of 2099");
+            self.reach("tick over the end of 2099");
         } else if from.year != to.year {
-            self.line("tick over a year's end");
+            self.reach("tick over a year's end");
         }
     }
 
     fn pulse(&mut self, before: &Meter, wh: u32, after: &Meter) {
         let day = weekday(before);
-        self.line(match day {
+        self.reach(match day {
             6 => "pulse, Saturday",
             0 => "pulse, Sunday",
             _ => "pulse, Monday to Friday",
@@ -599,9 +599,9 @@ impl Reached {
                 self.zones[zone] += 1;
             }
             if after.counters[zone] < before.counters[zone] {
-                self.line("pulse over the roll-over");
+                self.reach("pulse over the roll-over");
                 if wh > 0 && after.counters[zone] == 0 {
-                    self.line("pulse to exactly 0");
+                    self.reach("pulse to exactly 0");
                 }
             }
         }
@@ -730,11 +730,10 @@ fn broken_ranges(meter: &Meter) -> Vec<&'static str> {
             _ => {}
         }
     }
-    let digit = |c: &u8| matches!(c, b'0'..=b'9');
-    must(meter.serial.iter().all(digit), "serial");
+    must(meter.serial.iter().all(u8::is_ascii_digit), "serial");
     let account = |c: &u8| matches!(c, b'0'..=b'9' | b'A'..=b'Z' | b'a'..=b'z' | b' ' | b'_');
     must(meter.account.iter().all(account), "account");
-    must(meter.password.iter().all(digit), "password");
+    must(meter.password.iter().all(u8::is_ascii_digit), "password");
     must(meter.attempts < 4, "attempts");
     let clock = meter.clock;
     must(clock.year > 1999, "year below");
@@ -744,7 +743,7 @@ fn broken_ranges(meter: &Meter) -> Vec<&'static str> {
     must(clock.day != 0, "day 0");
     let days = [31, 28, 31, 30, 31, 30, 31, 31, 30, 31, 30, 31];
     let mut last = days.get(usize::from(clock.month).wrapping_sub(1)).copied();
-    if clock.month == 2 && clock.year % 4 == 0 {
+    if clock.month == 2 && clock.year.is_multiple_of(4) {
         last = Some(29);
     }
     must(clock.day <= last.unwrap_or(31), "day above");

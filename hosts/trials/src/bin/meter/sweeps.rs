@@ -72,8 +72,8 @@ fn every_byte(chance: &mut Chance, player: &mut Player) {
     }
 }
 
-/// Receivers that are empty, nearly full and full, whatever stands last, before every kind of
-/// character.
+/// Receivers that hold little, are nearly full and full, whatever stands last, before every kind of
+/// character, good and damaged.
 fn receiver_edges(chance: &mut Chance, player: &mut Player) {
     let coming = wire(&[SOH, STX, ETX, LF, b'/', b'0', 0, 0x7F]);
     let damaged: Vec<u8> = coming.iter().map(|byte| byte ^ 0x80).collect();
@@ -92,12 +92,7 @@ fn receiver_edges(chance: &mut Chance, player: &mut Player) {
                         held[count - 1] = last;
                     }
                     let meter = holding(state(chance, mode), &held, mark);
-                    let bytes = if chance.percent(50) {
-                        &coming
-                    } else {
-                        &damaged
-                    };
-                    for &byte in bytes {
+                    for &byte in coming.iter().chain(&damaged) {
                         player.set(&meter);
                         player.byte(byte);
                         if chance.percent(50) {

@@ -1,0 +1,136 @@
+-- What a real date and a real time are bounded by, and that the next second of a real clock is real. Assumes nothing.
+use mathlib.Core.Path.{_≡_, refl, sym, ap, _∙_}
+use mathlib.Core.Bool.{Bool, true, false, cond, _&&_, _||_}
+use Prim.Native.Nat.{ℕ, _+_, _%_, _≤_, _<_}
+use native.Mathlib.Omega.{arith}
+use borrow.Author.Tests.{leb-true, le-leb, ltb-true, ltb-false, lt-ltb, le-ltb, eqb-true, eq-eqb, eqb-false}
+use lib.Dec.{leb, ltb, eqb}
+use Rattle.line.proofs.Runs.{and-left, and-right, and-both}
+use Rattle.clock.specs.Dates.{leap, thirty, daysIn, realDate, realTime}
+use Rattle.clock.specs.Seconds.{realClock, dateOf, timeOf, nextMonth, nextDay, nextSecond}
+use Rattle.clock.specs.declared.Date.{Date}
+use Rattle.clock.specs.declared.Clock.{Clock}
+
+pub record RealDate (y m d : ℕ) : Type 0 where
+  pub first-year : 2000 ≤ y
+  pub last-year : y ≤ 2099
+  pub first-month : 1 ≤ m
+  pub last-month : m ≤ 12
+  pub first-day : 1 ≤ d
+  pub last-day : d ≤ daysIn y m
+
+pub record RealTime (h n s : ℕ) : Type 0 where
+  pub hour : h ≤ 23
+  pub minute : n ≤ 59
+  pub second : s ≤ 59
+
+pub date-facts : (y m d : ℕ) → realDate y m d ≡ true → RealDate y m d
+unfolding realDate
+date-facts y m d e =
+    let ym = and-left _ (leb 1 d && leb d (daysIn y m)) e in
+    let dd = and-right ((leb 2000 y && leb y 2099) && (leb 1 m && leb m 12)) (leb 1 d && leb d (daysIn y m)) e in
+    let yy = and-left (leb 2000 y && leb y 2099) (leb 1 m && leb m 12) ym in
+    let mm = and-right (leb 2000 y && leb y 2099) (leb 1 m && leb m 12) ym in
+    record {
+      first-year = leb-true 2000 y (and-left (leb 2000 y) (leb y 2099) yy);
+      last-year = leb-true y 2099 (and-right (leb 2000 y) (leb y 2099) yy);
+      first-month = leb-true 1 m (and-left (leb 1 m) (leb m 12) mm);
+      last-month = leb-true m 12 (and-right (leb 1 m) (leb m 12) mm);
+      first-day = leb-true 1 d (and-left (leb 1 d) (leb d (daysIn y m)) dd);
+      last-day = leb-true d (daysIn y m) (and-right (leb 1 d) (leb d (daysIn y m)) dd);
+    }
+
+pub date-real : (y m d : ℕ) → RealDate y m d → realDate y m d ≡ true
+unfolding realDate
+date-real y m d r =
+    rw (le-leb 2000 y (r .first-year), le-leb y 2099 (r .last-year), le-leb 1 m (r .first-month), le-leb m 12 (r .last-month), le-leb 1 d (r .first-day), le-leb d (daysIn y m) (r .last-day))
+
+pub time-facts : (h n s : ℕ) → realTime h n s ≡ true → RealTime h n s
+unfolding realTime
+time-facts h n s e =
+    let hn = and-left (leb h 23 && leb n 59) (leb s 59) e in
+    record {
+      hour = leb-true h 23 (and-left (leb h 23) (leb n 59) hn);
+      minute = leb-true n 59 (and-right (leb h 23) (leb n 59) hn);
+      second = leb-true s 59 (and-right (leb h 23 && leb n 59) (leb s 59) e);
+    }
+
+pub time-real : (h n s : ℕ) → RealTime h n s → realTime h n s ≡ true
+unfolding realTime
+time-real h n s r = rw (le-leb h 23 (r .hour), le-leb n 59 (r .minute), le-leb s 59 (r .second))
+
+days-least : (y m : ℕ) → 28 ≤ daysIn y m
+unfolding daysIn
+days-least y m = pick (eqb m 2) (leap y) (thirty m)
+  where
+    pick : (a b c : Bool) → 28 ≤ cond a (cond b 29 28) (cond c 30 31)
+    pick true true c = omega arith
+    pick true false c = omega arith
+    pick false b true = omega arith
+    pick false b false = omega arith
+
+pub days-most : (y m : ℕ) → daysIn y m ≤ 31
+unfolding daysIn
+days-most y m = pick (eqb m 2) (leap y) (thirty m)
+  where
+    pick : (a b c : Bool) → cond a (cond b 29 28) (cond c 30 31) ≤ 31
+    pick true true c = omega arith
+    pick true false c = omega arith
+    pick false b true = omega arith
+    pick false b false = omega arith
+
+first-of : (y m : ℕ) → 2000 ≤ y → y ≤ 2099 → 1 ≤ m → m ≤ 12 → realDate y m 1 ≡ true
+first-of y m a b c d =
+    date-real y m 1 (record { first-year = a; last-year = b; first-month = c; last-month = d; first-day = omega arith; last-day = omega (arith, days-least y m) })
+
+-- a date of parts that are real
+unfoldable pub realDay : Date → Bool
+realDay d = realDate (d .year) (d .month) (d .day)
+
+next-month-real : (y m : ℕ) → 2000 ≤ y → y ≤ 2099 → 1 ≤ m → m ≤ 12 → realDay (nextMonth y m) ≡ true
+unfolding nextMonth realDay
+next-month-real y m a b c d = go (ltb m 12) refl (ltb y 2099) refl
+  where
+    go : (p : Bool) → ltb m 12 ≡ p → (q : Bool) → ltb y 2099 ≡ q → realDay (cond p (dateOf y (m + 1) 1) (dateOf (cond q (y + 1) 2000) 1 1)) ≡ true
+    go true e q f = first-of y (m + 1) a b (omega arith) (omega (arith, ltb-true m 12 e))
+    go false e true f = first-of (y + 1) 1 (omega arith) (omega (arith, ltb-true y 2099 f)) (omega arith) (omega arith)
+    go false e false f = first-of 2000 1 (omega arith) (omega arith) (omega arith) (omega arith)
+
+next-day-real : (d : Date) → realDay d ≡ true → realDay (nextDay d) ≡ true
+unfolding nextDay realDay
+next-day-real d h = go (ltb (d .day) (daysIn (d .year) (d .month))) refl
+  where
+    r : RealDate (d .year) (d .month) (d .day)
+    r = date-facts (d .year) (d .month) (d .day) h
+
+    go : (p : Bool) → ltb (d .day) (daysIn (d .year) (d .month)) ≡ p
+        → realDay (cond p (dateOf (d .year) (d .month) (d .day + 1)) (nextMonth (d .year) (d .month))) ≡ true
+    go true e =
+        date-real (d .year) (d .month) (d .day + 1)
+        (record { first-year = r .first-year; last-year = r .last-year; first-month = r .first-month; last-month = r .last-month; first-day = omega arith; last-day = omega (arith, ltb-true (d .day) (daysIn (d .year) (d .month)) e) })
+    go false e = next-month-real (d .year) (d .month) (r .first-year) (r .last-year) (r .first-month) (r .last-month)
+
+-- a real clock stays real
+pub next-second-real : (c : Clock) → realClock c ≡ true → realClock (nextSecond c) ≡ true
+unfolding realClock nextSecond realDay
+next-second-real c h = go (ltb (c .time .second) 59) refl (ltb (c .time .minute) 59) refl (ltb (c .time .hour) 23) refl
+  where
+    d : realDay (c .date) ≡ true
+    d = and-left (realDay (c .date)) (realTime (c .time .hour) (c .time .minute) (c .time .second)) h
+
+    t : RealTime (c .time .hour) (c .time .minute) (c .time .second)
+    t = time-facts (c .time .hour) (c .time .minute) (c .time .second) (and-right (realDay (c .date)) (realTime (c .time .hour) (c .time .minute) (c .time .second)) h)
+
+    go : (p : Bool) → ltb (c .time .second) 59 ≡ p → (q : Bool) → ltb (c .time .minute) 59 ≡ q → (r : Bool) → ltb (c .time .hour) 23 ≡ r
+        → realClock (cond p (record { date = c .date; time = timeOf (c .time .hour) (c .time .minute) (c .time .second + 1) })
+        (cond q (record { date = c .date; time = timeOf (c .time .hour) (c .time .minute + 1) 0 })
+        (cond r (record { date = c .date; time = timeOf (c .time .hour + 1) 0 0 })
+        (record { date = nextDay (c .date); time = timeOf 0 0 0 })))) ≡ true
+    go true e q f r g =
+        and-both _ _ d (time-real _ _ _ (record { hour = t .hour; minute = t .minute; second = omega (arith, ltb-true (c .time .second) 59 e) }))
+    go false e true f r g =
+        and-both _ _ d (time-real _ _ _ (record { hour = t .hour; minute = omega (arith, ltb-true (c .time .minute) 59 f); second = omega arith }))
+    go false e false f true g =
+        and-both _ _ d (time-real _ _ _ (record { hour = omega (arith, ltb-true (c .time .hour) 23 g); minute = omega arith; second = omega arith }))
+    go false e false f false g =
+        and-both _ _ (next-day-real (c .date) d) (time-real 0 0 0 (record { hour = omega arith; minute = omega arith; second = omega arith }))

@@ -1,0 +1,241 @@
+// Dates, times, counters and table numbers read back from their texts.
+ghost use mathlib.Core.Path.{_≡_};
+ghost use Prim.Native.Nat.{_+_, _<_};
+ghost use Rattle.values.specs.Numbers.{ClockAt, CounterAt};
+ghost use Rattle.values.specs.Reading.{someDate, someTime, someClock, noClock, clockIn, counterIn, someTable, dateRead, timeRead, clockRead, counterRead, tableRead};
+use crate::TableNo;
+use crate::number::Three;
+use crate::number::number;
+use crate::number::three_at;
+use crate::number::two;
+use clock::Clock;
+use clock::Date;
+use clock::Time;
+
+pub struct DateRead {
+    pub ok: bool,
+    pub date: Date,
+}
+
+pub struct TimeRead {
+    pub ok: bool,
+    pub time: Time,
+}
+
+pub struct ClockRead {
+    pub ok: bool,
+    pub clock: Clock,
+}
+
+pub struct CounterRead {
+    pub ok: bool,
+    pub wh: u32,
+}
+
+pub struct TableRead {
+    pub ok: bool,
+    pub table: TableNo,
+}
+
+// The date that three numbers say, if it is real.
+fn date_of(t: Three) -> DateRead
+    requires { ⌜ t .first < 100 ⌝ }
+    ensures { λ r. ⌜ r ≡ someDate (2000 + t .first) (t .second) (t .third) ⌝ }
+{
+    let y = 2000 + t.first as u16;
+    let m = t.second;
+    let d = t.third;
+    if clock::is_date(y, m, d) {
+        return DateRead {
+            ok: true,
+            date: Date {
+                year: y,
+                month: m,
+                day: d,
+            },
+        };
+    }
+    DateRead {
+        ok: false,
+        date: Date {
+            year: 0,
+            month: 0,
+            day: 0,
+        },
+    }
+}
+
+// A date from `yy-mm-dd`, of 20yy.
+pub fn read_date(s: &[u8]) -> DateRead
+    ensures { λ r. ⌜ r ≡ dateRead (now (s .entry)) ⌝ }
+{
+    if text::has_form(b"##-##-##", s) {
+        return date_of(three_at(s, 0));
+    }
+    DateRead {
+        ok: false,
+        date: Date {
+            year: 0,
+            month: 0,
+            day: 0,
+        },
+    }
+}
+
+// The time that three numbers say, if it is real.
+fn time_of(t: Three) -> TimeRead
+    ensures { λ r. ⌜ r ≡ someTime (t .first) (t .second) (t .third) ⌝ }
+{
+    let h = t.first;
+    let n = t.second;
+    let e = t.third;
+    if clock::is_time(h, n, e) {
+        return TimeRead {
+            ok: true,
+            time: Time {
+                hour: h,
+                minute: n,
+                second: e,
+            },
+        };
+    }
+    TimeRead {
+        ok: false,
+        time: Time {
+            hour: 0,
+            minute: 0,
+            second: 0,
+        },
+    }
+}
+
+// A time from `hh:nn:ss`.
+pub fn read_time(s: &[u8]) -> TimeRead
+    ensures { λ r. ⌜ r ≡ timeRead (now (s .entry)) ⌝ }
+{
+    if text::has_form(b"##:##:##", s) {
+        return time_of(three_at(s, 0));
+    }
+    TimeRead {
+        ok: false,
+        time: Time {
+            hour: 0,
+            minute: 0,
+            second: 0,
+        },
+    }
+}
+
+// The clock of a text of its form, real or not.
+fn clock_in(s: &[u8]) -> Clock
+    requires { ⌜ ClockAt (now s) ⌝ }
+    ensures { λ r. ⌜ r ≡ clockIn (now (s .entry)) ⌝ }
+{
+    let d = two(s, 0);
+    let m = two(s, 3);
+    let y = two(s, 6) * 100 + two(s, 8);
+    let t = three_at(s, 11);
+    Clock {
+        date: Date {
+            year: y,
+            month: m as u8,
+            day: d as u8,
+        },
+        time: Time {
+            hour: t.first,
+            minute: t.second,
+            second: t.third,
+        },
+    }
+}
+
+// The clock, if it is real.
+fn clock_if_real(c: Clock) -> ClockRead
+    ensures { λ r. ⌜ r ≡ someClock c ⌝ }
+{
+    if clock::is_clock(c) {
+        return ClockRead { ok: true, clock: c };
+    }
+    no_clock()
+}
+
+fn no_clock() -> ClockRead
+    ensures { λ r. ⌜ r ≡ noClock ⌝ }
+{
+    ClockRead {
+        ok: false,
+        clock: Clock {
+            date: Date {
+                year: 0,
+                month: 0,
+                day: 0,
+            },
+            time: Time {
+                hour: 0,
+                minute: 0,
+                second: 0,
+            },
+        },
+    }
+}
+
+// A clock from `dd-mm-yyyy;hh:nn:ss`.
+pub fn read_clock(s: &[u8]) -> ClockRead
+    ensures { λ r. ⌜ r ≡ clockRead (now (s .entry)) ⌝ }
+{
+    if text::has_form(b"##-##-####;##:##:##", s) {
+        return clock_if_real(clock_in(s));
+    }
+    no_clock()
+}
+
+// The Wh of a counter's text.
+fn counter_in(s: &[u8]) -> u32
+    requires { ⌜ CounterAt (now s) ⌝ }
+    ensures { λ r. ⌜ r ≡ counterIn 9 3 (now (s .entry)) ⌝ }
+{
+    let kwh = number(&s[0..6]);
+    let rest = number(&s[7..10]);
+    kwh * 1000 + rest
+}
+
+// A counter's Wh from `eeeeee.eee*kWh`.
+pub fn read_counter(s: &[u8]) -> CounterRead
+    ensures { λ r. ⌜ r ≡ counterRead 9 3 (now (s .entry)) ⌝ }
+{
+    if text::has_form(b"######.###*kWh", s) {
+        return CounterRead {
+            ok: true,
+            wh: counter_in(s),
+        };
+    }
+    CounterRead { ok: false, wh: 0 }
+}
+
+// The table that a number of two digits names, of so many tables.
+fn table_of(n: u16, tables: u8) -> TableRead
+    requires { ⌜ n < 256 ⌝ }
+    ensures { λ r. ⌜ r ≡ someTable tables n ⌝ }
+{
+    let t = TableNo(n as u8);
+    if crate::is_table(t, tables) {
+        return TableRead { ok: true, table: t };
+    }
+    TableRead {
+        ok: false,
+        table: TableNo(0),
+    }
+}
+
+// A table's number from `xx`, of so many tables.
+pub fn read_table(s: &[u8], tables: u8) -> TableRead
+    ensures { λ r. ⌜ r ≡ tableRead tables (now (s .entry)) ⌝ }
+{
+    if text::has_form(b"##", s) {
+        return table_of(two(s, 0), tables);
+    }
+    TableRead {
+        ok: false,
+        table: TableNo(0),
+    }
+}

@@ -1,0 +1,136 @@
+// Values put into a lent buffer as the texts that show them. Each gives the place after its text.
+ghost use mathlib.Core.Path.{_≡_};
+ghost use Prim.Native.Nat.{_+_, _-_, _≤_, _<_};
+ghost use lib.ListN.{length};
+ghost use Rattle.text.specs.Writing.{stored};
+ghost use Rattle.values.specs.Texts.{serialText, tableText, dateText, timeText, clockText, counterText};
+use crate::TableNo;
+use clock::Clock;
+use clock::Date;
+use clock::Time;
+
+// A serial as `nnn nnnnnnn`.
+pub fn put_serial(buf: &mut [u8], at: usize, s: &[u8]) -> usize
+    requires { ⌜ (length (now s) ≡ 10) × (at + 11 ≤ length (now buf)) ⌝ }
+    ensures next { λ r. ⌜ r ≡ at + 11 ⌝ }
+    ensures held { λ _. ⌜ now (buf .exit) ≡ stored (now (buf .entry)) at (serialText (now (s .entry))) ⌝ }
+{
+    let a = text::put(buf, at, &s[0..3]);
+    let b = text::put(buf, a, b" ");
+    text::put(buf, b, &s[3..10])
+}
+
+// A table's number as `xx`.
+pub fn put_table(buf: &mut [u8], at: usize, t: TableNo) -> usize
+    requires { ⌜ at + 2 ≤ length (now buf) ⌝ }
+    ensures next { λ r. ⌜ r ≡ at + 2 ⌝ }
+    ensures held { λ _. ⌜ now (buf .exit) ≡ stored (now (buf .entry)) at (tableText (t .0)) ⌝ }
+{
+    let n = t.0;
+    let digits = [48 + n / 10 % 10, 48 + n % 10];
+    text::put(buf, at, &digits)
+}
+
+fn years_since_2000(y: u16) -> u16
+    ensures { λ r. ⌜ r ≡ y - 2000 ⌝ }
+{
+    if y < 2000 { 0 } else { y - 2000 }
+}
+
+// A date as `yy-mm-dd`.
+pub fn put_date(buf: &mut [u8], at: usize, date: Date) -> usize
+    requires { ⌜ at + 8 ≤ length (now buf) ⌝ }
+    ensures next { λ r. ⌜ r ≡ at + 8 ⌝ }
+    ensures held { λ _. ⌜ now (buf .exit) ≡ stored (now (buf .entry)) at (dateText date) ⌝ }
+{
+    let y = years_since_2000(date.year);
+    let m = date.month;
+    let d = date.day;
+    let shown = [
+        48 + (y / 10 % 10) as u8,
+        48 + (y % 10) as u8,
+        b'-',
+        48 + m / 10 % 10,
+        48 + m % 10,
+        b'-',
+        48 + d / 10 % 10,
+        48 + d % 10,
+    ];
+    text::put(buf, at, &shown)
+}
+
+// A time as `hh:nn:ss`.
+pub fn put_time(buf: &mut [u8], at: usize, time: Time) -> usize
+    requires { ⌜ at + 8 ≤ length (now buf) ⌝ }
+    ensures next { λ r. ⌜ r ≡ at + 8 ⌝ }
+    ensures held { λ _. ⌜ now (buf .exit) ≡ stored (now (buf .entry)) at (timeText time) ⌝ }
+{
+    let h = time.hour;
+    let n = time.minute;
+    let s = time.second;
+    let shown = [
+        48 + h / 10 % 10,
+        48 + h % 10,
+        b':',
+        48 + n / 10 % 10,
+        48 + n % 10,
+        b':',
+        48 + s / 10 % 10,
+        48 + s % 10,
+    ];
+    text::put(buf, at, &shown)
+}
+
+// A clock as `dd-mm-yyyy;hh:nn:ss`.
+pub fn put_clock(buf: &mut [u8], at: usize, c: Clock) -> usize
+    requires { ⌜ at + 19 ≤ length (now buf) ⌝ }
+    ensures next { λ r. ⌜ r ≡ at + 19 ⌝ }
+    ensures held { λ _. ⌜ now (buf .exit) ≡ stored (now (buf .entry)) at (clockText c) ⌝ }
+{
+    let date = c.date;
+    let d = date.day;
+    let m = date.month;
+    let y = date.year;
+    let shown = [
+        48 + d / 10 % 10,
+        48 + d % 10,
+        b'-',
+        48 + m / 10 % 10,
+        48 + m % 10,
+        b'-',
+        48 + (y / 10 / 10 / 10 % 10) as u8,
+        48 + (y / 10 / 10 % 10) as u8,
+        48 + (y / 10 % 10) as u8,
+        48 + (y % 10) as u8,
+        b';',
+    ];
+    let a = text::put(buf, at, &shown);
+    put_time(buf, a, c.time)
+}
+
+// A counter's Wh as `eeeeee.eee*kWh`.
+pub fn put_counter(buf: &mut [u8], at: usize, wh: u32) -> usize
+    requires { ⌜ at + 14 ≤ length (now buf) ⌝ }
+    ensures next { λ r. ⌜ r ≡ at + 14 ⌝ }
+    ensures held { λ _. ⌜ now (buf .exit) ≡ stored (now (buf .entry)) at (counterText 9 3 wh) ⌝ }
+{
+    let e = wh / 1000;
+    let f = wh % 1000;
+    let shown = [
+        48 + (e / 10 / 10 / 10 / 10 / 10 % 10) as u8,
+        48 + (e / 10 / 10 / 10 / 10 % 10) as u8,
+        48 + (e / 10 / 10 / 10 % 10) as u8,
+        48 + (e / 10 / 10 % 10) as u8,
+        48 + (e / 10 % 10) as u8,
+        48 + (e % 10) as u8,
+        b'.',
+        48 + (f / 10 / 10 % 10) as u8,
+        48 + (f / 10 % 10) as u8,
+        48 + (f % 10) as u8,
+        b'*',
+        b'k',
+        b'W',
+        b'h',
+    ];
+    text::put(buf, at, &shown)
+}

@@ -1,0 +1,271 @@
+//! The fast meter and the model side by side: answers, buffers and states must be equal.
+
+use super::*;
+
+/// xorshift64*.
+struct Chance(u64);
+
+impl Chance {
+    fn below(&mut self, end: usize) -> usize {
+        self.0 ^= self.0 >> 12;
+        self.0 ^= self.0 << 25;
+        self.0 ^= self.0 >> 27;
+        (self.0.wrapping_mul(0x2545_F491_4F6C_DD1D) >> 33) as usize % end
+    }
+
+    fn byte(&mut self) -> u8 {
+        self.below(256) as u8
+    }
+
+    fn of(&mut self, characters: &[u8]) -> u8 {
+        characters[self.below(characters.len())]
+    }
+}
+
+struct Pair {
+    fast: Meter,
+    slow: Meter,
+    numbers: [usize; 16],
+}
+
+impl Pair {
+    fn set(&mut self, meter: Meter) {
+        self.fast = meter.clone();
+        self.slow = meter;
+    }
+
+    fn same(&mut self, fast: Answer, slow: Answer, what: &str) {
+        assert_eq!(fast, slow, "{what}");
+        assert_eq!(self.fast, self.slow, "{what}");
+        self.numbers[usize::from(slow.number)] += 1;
+    }
+
+    fn byte(&mut self, byte: u8, room: usize) {
+        let mut buffers = [vec![0xAA; room], vec![0xAA; room]];
+        let [left, right] = &mut buffers;
+        let fast = character(&mut self.fast, byte, left);
+        let slow = self.slow.character(byte, right);
+        self.same(fast, slow, "character");
+        assert_eq!(buffers[0], buffers[1]);
+    }
+
+    fn silence(&mut self, room: usize) {
+        let mut buffers = [vec![0xAA; room], vec![0xAA; room]];
+        let [left, right] = &mut buffers;
+        let fast = silence(&mut self.fast, left);
+        let slow = self.slow.silence(right);
+        self.same(fast, slow, "silence");
+        assert_eq!(buffers[0], buffers[1]);
+    }
+
+    fn other(&mut self, chance: &mut Chance) {
+        match chance.below(4) {
+            0 => {
+                let (fast, slow) = (power_up(&mut self.fast), self.slow.power_up());
+                self.same(fast, slow, "power-up");
+            }
+            1 => {
+                let wh = [0, 1, 999_999, 1_000_000, 1_000_001, u32::MAX][chance.below(6)];
+                let (fast, slow) = (pulse(&mut self.fast, wh), self.slow.pulse(wh));
+                self.same(fast, slow, "pulse");
+            }
+            _ => {
+                let (fast, slow) = (tick(&mut self.fast), self.slow.tick());
+                self.same(fast, slow, "tick");
+            }
+        }
+    }
+
+    /// Characters with good parity, of which some are hurt.
+    fn send(&mut self, chance: &mut Chance, message: &[u8], hurt: usize) {
+        for &character in message {
+            let byte = match chance.below(1_000) < hurt {
+                false => parity(character),
+                true => match chance.below(3) {
+                    0 => parity(character) ^ 0x80,
+                    1 => parity(chance.of(b"\x01\x02\x03\n\r/0\0")),
+                    _ => chance.byte(),
+                },
+            };
+            self.byte(byte, ROOM);
+        }
+    }
+}
+
+fn framed(command: &[u8], data: Option<&[u8]>) -> Vec<u8> {
+    let mut frame = [&[SOH], command].concat();
+    if let Some(data) = data {
+        frame.push(STX);
+        frame.extend(data);
+    }
+    frame.push(ETX);
+    frame.push(frame[1..].iter().fold(0, |sum, c| sum ^ c));
+    frame
+}
+
+fn state(chance: &mut Chance, mode: u8) -> Meter {
+    let mut meter = Meter::blank();
+    meter.mode = mode;
+    meter.serial = meter.serial.map(|_| chance.of(b"0123456789"));
+    meter.account = meter.account.map(|_| chance.of(b"09AZaz _"));
+    meter.password = meter.password.map(|_| chance.of(b"0123456789"));
+    meter.attempts = chance.below(4) as u8;
+    meter.counters = meter.counters.map(|_| match chance.below(2) {
+        0 => chance.below(1_000_000_000) as u32,
+        _ => 999_999_999 - chance.below(5) as u32,
+    });
+    meter.tables = meter.tables.map(|row| row.map(|_| chance.of(b"1234")));
+    let year = 2000 + chance.below(100) as u16;
+    let month = 1 + chance.below(12) as u8;
+    meter.clock = Clock {
+        year,
+        month,
+        day: model::meter::days_in_month(year, month) - chance.below(2) as u8,
+        hour: 23,
+        minute: 59,
+        second: 58 + chance.below(2) as u8,
+    };
+    meter
+}
+
+/// What leads on in this mode, or nearly.
+fn message(chance: &mut Chance, meter: &Meter) -> Vec<u8> {
+    let serial = &meter.serial;
+    match meter.mode {
+        0 => match chance.below(4) {
+            0 => b"/?!\r\n".to_vec(),
+            1 => b"/?000 0000000!\r\n".to_vec(),
+            2 => [b"/", &[b'x'; 40][..26 + chance.below(8)], b"\n"].concat(),
+            _ => [b"/?", &serial[..3], b" ", &serial[3..], b"!\r\n"].concat(),
+        },
+        1 => vec![ACK, b'0', b'5', chance.of(b"011172"), CR, LF],
+        2 => match chance.below(5) {
+            0 => framed(b"P1", Some(b"()")),
+            1 => framed(b"P1", Some(b"(1234567a)")),
+            2 => framed(b"P1", Some(b"(12345678)")),
+            _ => framed(b"P1", Some(&[b"(", &meter.password[..], b")"].concat())),
+        },
+        _ => command(chance),
+    }
+}
+
+fn command(chance: &mut Chance) -> Vec<u8> {
+    let table = chance.below(27);
+    match chance.below(12) {
+        0 => framed(b"R1", Some(b"T()")),
+        1 => framed(b"R1", Some(b"L()")),
+        2 => framed(b"R1", Some(b"K()")),
+        3 => framed(b"R1", Some(&[b'E', chance.of(b"012345"), b'(', b')'])),
+        4 => framed(b"R1", Some(format!("Z({table:02})").as_bytes())),
+        5 | 6 => {
+            let row: String = (0..24).map(|_| char::from(chance.of(b"1234"))).collect();
+            framed(b"W1", Some(format!("Z({table:02};{row})").as_bytes()))
+        }
+        7 => framed(b"W1", Some(b"K(a_B 9zZ0 x)")),
+        8 | 9 => {
+            let field = |chance: &mut Chance, most: usize| chance.below(most + 2);
+            let told = format!(
+                "T({:02}-{:02}-{:04};{:02}:{:02}:{:02})",
+                field(chance, 31),
+                field(chance, 12),
+                1999 + chance.below(102),
+                field(chance, 23),
+                field(chance, 59),
+                field(chance, 59)
+            );
+            framed(b"W1", Some(told.as_bytes()))
+        }
+        10 => {
+            let data = [b'x'; 60];
+            framed(b"W1", Some(&data[..56 + chance.below(4)]))
+        }
+        _ => match chance.below(8) {
+            0 => framed(b"B0", None),
+            1 => framed(b"P1", Some(b"()")),
+            2 => framed(b"B0", Some(b"")),
+            _ => framed(&[chance.of(b"BPRWx"), chance.of(b"01")], Some(b"T()")),
+        },
+    }
+}
+
+/// One field of a state is given any value.
+fn spoil(chance: &mut Chance, meter: &mut Meter) {
+    let byte = chance.byte();
+    match chance.below(15) {
+        0 => meter.mode = byte % 8,
+        1 => meter.count = byte % 80,
+        2 => meter.held[chance.below(PLACES)] = byte,
+        3 => meter.mark = !meter.mark,
+        4 => meter.serial[chance.below(10)] = byte,
+        5 => meter.account[chance.below(10)] = byte,
+        6 => meter.password[chance.below(8)] = byte,
+        7 => meter.attempts = byte % 6,
+        8 => meter.clock.year = 1998 + u16::from(byte % 104),
+        9 => meter.clock.month = byte % 20,
+        10 => meter.clock.day = byte % 34,
+        11 => meter.clock.hour = byte % 26,
+        12 => meter.clock.second = byte % 62,
+        13 => meter.counters[chance.below(4)] = 999_999_990 + u32::from(byte % 20),
+        _ => meter.tables[chance.below(24)][chance.below(24)] = byte,
+    }
+}
+
+#[test]
+fn equal_on_random_events() {
+    let mut chance = Chance(20_000_101);
+    let mut pair = Pair {
+        fast: Meter::blank(),
+        slow: Meter::blank(),
+        numbers: [0; 16],
+    };
+    for step in 0..10_000 {
+        if step % 16 == 0 {
+            let mode = chance.below(5) as u8;
+            let meter = state(&mut chance, mode);
+            pair.set(meter);
+        }
+        match chance.below(20) {
+            0 => pair.silence(ROOM - chance.below(2)),
+            1 | 2 => pair.other(&mut chance),
+            3 => {
+                let (byte, room) = (chance.byte(), ROOM - chance.below(2));
+                pair.byte(byte, room);
+            }
+            4 => {
+                let mut meter = pair.slow.clone();
+                for _ in 0..=chance.below(2) {
+                    spoil(&mut chance, &mut meter);
+                }
+                assert_eq!(well_formed(&meter), meter.well_formed(), "{meter:?}");
+                let good = pair.slow.clone();
+                pair.set(meter);
+                let byte = chance.byte();
+                pair.byte(byte, ROOM);
+                pair.silence(ROOM);
+                pair.other(&mut chance);
+                pair.set(good);
+            }
+            _ => {
+                let message = message(&mut chance, &pair.slow);
+                let hurt = [0, 0, 30][chance.below(3)];
+                pair.send(&mut chance, &message, hurt);
+            }
+        }
+    }
+    for number in 0..15 {
+        assert!(pair.numbers[number] > 0, "number {number} never came");
+    }
+}
+
+#[test]
+fn data_block_of_any_state() {
+    let mut chance = Chance(63);
+    for _ in 0..200 {
+        let meter = state(&mut chance, 0);
+        let mut buffer = [0xAA; ROOM];
+        assert_eq!(data_block(&meter, &mut buffer), BLOCK);
+        let block: Vec<u8> = meter.data_block().iter().map(|&c| parity(c)).collect();
+        assert_eq!(buffer[..BLOCK], block);
+        assert!(buffer[BLOCK..].iter().all(|&byte| byte == 0xAA));
+    }
+}
