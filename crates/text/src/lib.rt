@@ -1,7 +1,7 @@
 // Text: characters put into a lent buffer, texts compared, and the form of a line with numbers in it.
 ghost use mathlib.Core.Path.{_≡_};
 ghost use Prim.Native.Nat.{_+_, _-_, _≤_};
-ghost use lib.ListN.{length};
+ghost use lib.ListN.{length, take, drop};
 ghost use Rattle.line.specs.Runs.{every};
 ghost use Rattle.text.specs.Writing.{stored};
 ghost use Rattle.text.specs.Classes.{between, sameText, isDigit};
@@ -20,6 +20,27 @@ pub fn put(buf: &mut [u8], at: usize, s: &[u8]) -> usize
         i += 1;
     }
     at + s.len()
+}
+
+// The characters from the n-th on; none where there are no more.
+pub fn rest(s: &[u8], n: usize) -> &[u8]
+    ensures { λ r. ⌜ now r ≡ drop n (now (s .entry)) ⌝ }
+{
+    if n <= s.len() {
+        return &s[n..];
+    }
+    let end = s.len();
+    &s[end..]
+}
+
+// The first n characters; all where there are no more.
+pub fn first(s: &[u8], n: usize) -> &[u8]
+    ensures { λ r. ⌜ now r ≡ take n (now (s .entry)) ⌝ }
+{
+    if n <= s.len() {
+        return &s[..n];
+    }
+    s
 }
 
 // Whether two texts are the same.

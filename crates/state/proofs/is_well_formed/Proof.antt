@@ -1,0 +1,18 @@
+-- `state::is_well_formed` meets its contract: each way out is the case of the definition that its tests name. Assumes nothing.
+use Rattle.state.specs.WellFormed.{wellFormed}
+use borrow.Author.Needs.{needs}
+use Rattle.state.proofs.is_well_formed.Statement.{statement}
+use Rattle.state.proofs.is_well_formed.Tie as tie
+
+receiver-good-requires : tie.Need-receiver-good-requires
+receiver-good-requires c κs = search needs
+
+registers-good-requires : tie.Need-registers-good-requires
+registers-good-requires c κs = search needs
+
+returns : tie.Need-returns
+unfolding wellFormed
+returns c = rw (c .before .receiver-good .ensures, c .registers-good .ensures)
+
+pub is-well-formed-spec : {M : Type 1} → statement M
+is-well-formed-spec = tie.close (tie.spec receiver-good-requires registers-good-requires returns)

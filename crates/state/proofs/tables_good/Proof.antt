@@ -1,0 +1,15 @@
+-- `state::tables_good` meets its contract: each way out is the case of the definition that its tests name. Assumes nothing.
+use Rattle.state.specs.WellFormed.{tablesGood}
+use borrow.Author.Needs.{needs}
+use Rattle.state.proofs.tables_good.Statement.{statement}
+use Rattle.state.proofs.tables_good.Tie as tie
+
+all-between-requires : tie.Need-all-between-requires
+all-between-requires c κs = search needs
+
+returns : tie.Need-returns
+unfolding tablesGood
+returns c = rw (c .all-between .ensures)
+
+pub tables-good-spec : {M : Type 1} → statement M
+tables-good-spec = tie.close (tie.spec all-between-requires returns)

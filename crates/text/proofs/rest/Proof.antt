@@ -1,0 +1,56 @@
+-- `text::rest` meets its contract. Assumes nothing.
+use mathlib.Core.Path.{_≡_, sym, _∙_}
+use mathlib.Core.List.{[]}
+use Prim.Native.Nat.{_-_}
+use native.Mathlib.Nat.{le-refl}
+use native.Mathlib.Omega.{arith}
+use lib.ListN.{length, drop, length-drop, drop-of-length-le}
+use lib.Seq.{take-all}
+use borrow.Author.Needs.{needs}
+use Rattle.text.proofs.rest.Statement.{statement}
+use Rattle.text.proofs.rest.Tie as tie
+
+sub-result : tie.Need-sub-result
+sub-result c = search needs
+
+part-result-start : tie.Need-part-result-start
+part-result-start c = search needs
+
+part-result-end : tie.Need-part-result-end
+part-result-end c = search needs
+
+returns : tie.Need-returns
+returns c =
+    let a = c .before .before .args in
+    take-all (length (a .s .now) - a .n) (drop (a .n) (a .s .now)) (omega (arith, length-drop (a .n) (a .s .now)))
+
+sub-result-2 : tie.Need-sub-result-2
+sub-result-2 c = search needs
+
+part-result-start-2 : tie.Need-part-result-start-2
+part-result-start-2 c = search needs
+
+part-result-end-2 : tie.Need-part-result-end-2
+part-result-end-2 c = search needs
+
+returns-2 : tie.Need-returns-2
+returns-2 c =
+    let a = c .before .before .args in
+    let s = a .s .now in
+    let none : drop (length s) s ≡ [] = drop-of-length-le s (le-refl (length s)) in
+    take-all (length s - length s) (drop (length s) s) (omega (arith, length-drop (length s) s))
+    ∙ none
+    ∙ sym (drop-of-length-le s {i = a .n} (omega arith))
+
+pub rest-spec : {M : Type 1} → statement M
+rest-spec =
+    tie.close
+    (tie.spec
+    sub-result
+    part-result-start
+    part-result-end
+    returns
+    sub-result-2
+    part-result-start-2
+    part-result-end-2
+    returns-2)
