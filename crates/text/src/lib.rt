@@ -1,7 +1,7 @@
 // Text: characters put into a lent buffer, texts compared, and the form of a line with numbers in it.
 ghost use mathlib.Core.Path.{_≡_};
 ghost use Prim.Native.Nat.{_+_, _-_, _≤_};
-ghost use lib.ListN.{length, take, drop};
+ghost use lib.ListN.{length, take, drop, getD};
 ghost use Rattle.line.specs.Runs.{every};
 ghost use Rattle.text.specs.Writing.{stored};
 ghost use Rattle.text.specs.Classes.{between, sameText, isDigit};
@@ -41,6 +41,13 @@ pub fn first(s: &[u8], n: usize) -> &[u8]
         return &s[..n];
     }
     s
+}
+
+// The character at a place; 0 past the end.
+pub fn at(s: &[u8], i: usize) -> u8
+    ensures { λ r. ⌜ r ≡ getD (now (s .entry)) i 0 ⌝ }
+{
+    if i < s.len() { s[i] } else { 0 }
 }
 
 // Whether two texts are the same.

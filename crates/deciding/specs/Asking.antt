@@ -1,0 +1,37 @@
+-- Document 01, "Deciding a frame": R1 data. T(), L(), K(), E0() to E4(), Z(xx) with xx 01 to 24; else 9.
+use mathlib.Core.Bool.{cond}
+use mathlib.Core.List.{List}
+use Prim.Native.Nat.{ℕ}
+use lib.ListN.{take, drop}
+use Rattle.text.specs.Classes.{sameText}
+use Rattle.text.specs.Layout.{fits}
+use mathlib.Core.List.{[], _∷_}
+use Rattle.values.specs.Reading.{tableRead}
+use Rattle.values.specs.declared.reading.TableRead.{TableRead}
+use Rattle.frames.specs.Commands.{askClock, askSerial, askAccount, askEnergy}
+use Rattle.replies.specs.declared.Ask.the-variants.{Clock, Serial, Account, Energy, Table}
+use Rattle.deciding.specs.declared.Verdict.{Verdict}
+use Rattle.deciding.specs.declared.Verdict.the-variants.{Refuse, Read}
+
+abbrev pub tableNamed : TableRead → Verdict
+tableNamed t = cond (t .ok) (Read (Table (t .table))) (Refuse 9)
+
+-- `Z(##)`, a number of table
+unfoldable pub tableAsked : List ℕ → Verdict
+tableAsked d = cond (fits (90 ∷ 40 ∷ 35 ∷ 35 ∷ 41 ∷ []) d) (tableNamed (tableRead 24 (take 2 (drop 2 d)))) (Refuse 9)
+
+unfoldable pub energyAsked : List ℕ → Verdict
+energyAsked d =
+    cond (sameText d (askEnergy 0)) (Read (Energy 0))
+    (cond (sameText d (askEnergy 1)) (Read (Energy 1))
+    (cond (sameText d (askEnergy 2)) (Read (Energy 2))
+    (cond (sameText d (askEnergy 3)) (Read (Energy 3))
+    (cond (sameText d (askEnergy 4)) (Read (Energy 4))
+    (tableAsked d)))))
+
+unfoldable pub asked : List ℕ → Verdict
+asked d =
+    cond (sameText d askClock) (Read Clock)
+    (cond (sameText d askSerial) (Read Serial)
+    (cond (sameText d askAccount) (Read Account)
+    (energyAsked d)))

@@ -1,0 +1,4 @@
+pub mod Shape
+pub mod Asking
+pub mod Telling
+pub mod Verdict

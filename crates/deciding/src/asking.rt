@@ -1,0 +1,57 @@
+// R1: what is asked for.
+ghost use mathlib.Core.Path.{_≡_};
+ghost use Rattle.deciding.specs.Asking.{tableAsked, energyAsked, asked};
+use crate::Verdict;
+use replies::Ask;
+
+// Z(xx)
+fn table(d: &[u8]) -> Verdict
+    ensures { λ r. ⌜ r ≡ tableAsked (now (d .entry)) ⌝ }
+{
+    if text::has_form(b"Z(##)", d) {
+        let t = values::reading::read_table(text::first(text::rest(d, 2), 2), values::TABLES);
+        if t.ok {
+            let named = t.table;
+            return Verdict::Read(Ask::Table(named));
+        }
+        return Verdict::Refuse(9);
+    }
+    Verdict::Refuse(9)
+}
+
+// E0() to E4()
+fn energy(d: &[u8]) -> Verdict
+    ensures { λ r. ⌜ r ≡ energyAsked (now (d .entry)) ⌝ }
+{
+    if text::same(d, b"E0()") {
+        return Verdict::Read(Ask::Energy(0));
+    }
+    if text::same(d, b"E1()") {
+        return Verdict::Read(Ask::Energy(1));
+    }
+    if text::same(d, b"E2()") {
+        return Verdict::Read(Ask::Energy(2));
+    }
+    if text::same(d, b"E3()") {
+        return Verdict::Read(Ask::Energy(3));
+    }
+    if text::same(d, b"E4()") {
+        return Verdict::Read(Ask::Energy(4));
+    }
+    table(d)
+}
+
+pub fn asks(d: &[u8]) -> Verdict
+    ensures { λ r. ⌜ r ≡ asked (now (d .entry)) ⌝ }
+{
+    if text::same(d, b"T()") {
+        return Verdict::Read(Ask::Clock);
+    }
+    if text::same(d, b"L()") {
+        return Verdict::Read(Ask::Serial);
+    }
+    if text::same(d, b"K()") {
+        return Verdict::Read(Ask::Account);
+    }
+    energy(d)
+}
