@@ -1,0 +1,4 @@
+pub mod Outcomes
+pub mod Acting
+pub mod Character
+pub mod Events
