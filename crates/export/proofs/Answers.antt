@@ -6,13 +6,14 @@ use mathlib.Core.Bool.{true}
 use mathlib.Core.List.{List, [], _∷_, _++_}
 use Prim.Native.Nat.{ℕ, _+_, _-_, _*_, _/_, _<_, _≤_}
 use native.Mathlib.Omega.{arith}
-use lib.ListN.{length}
+use lib.ListN.{length, take}
+use lib.Seq.{length-take-le}
 use Rattle.text.specs.Writing.{stored, holding}
 use Rattle.text.proofs.Writing.{stored-holding}
 use Rattle.post.specs.Grammar.{Entry, postText, rising, goodEntries, IsPost}
 use Rattle.post.specs.Place.{Longest, Accepted, Refused, CheckedAs}
-use Rattle.post.proofs.Reading.{good-rising, one-reading, length-post}
-use Rattle.post.proofs.Answers.{one-longest}
+use Rattle.post.proofs.Reading.{good-rising, one-reading, length-post, count-entries}
+use Rattle.post.proofs.Answers.{one-longest, longest-text, long-answer}
 use Rattle.export.specs.Frames.{framesOf, Done, NoRoom, NoPost, ExportedAs}
 use Rattle.export.specs.Changed.{changedLines}
 use Rattle.export.proofs.Lines.{length-lines, lines-are}
@@ -91,3 +92,32 @@ one-export tables text out n s p a m t q b few (inr (inr x)) (inl y) = absurd (x
 one-export tables text out n s p a m t q b few (inr (inr x)) (inr (inl y)) = absurd (x .no-post (y .is-post))
 one-export tables text out n s p a m t q b few (inr (inr x)) (inr (inr y)) =
     (x .refused ∙ sym (y .refused), x .no-length ∙ sym (y .no-length), one-longest (IsPost tables) text p q (x .longest) (y .longest), x .kept ∙ sym (y .kept))
+
+lines-bound : (tables : ℕ) (text : List ℕ) (p : IsPost tables text) → length (p .entries) ≤ tables
+lines-bound tables text p = omega (arith, count-entries tables 0 (p .entries) (omega arith) (good-rising tables (p .entries) (p .good)))
+
+-- no more frames than tables
+pub frames-bound : (tables : ℕ) (text out : List ℕ) (n s p : ℕ) (a : List ℕ) → ExportedAs tables text out n s p a → s ≤ 36 * tables
+unfolding ExportedAs
+frames-bound tables text out n s p a (inl x) = omega (arith, x .long, lines-bound tables text (x .is-post))
+frames-bound tables text out n s p a (inr (inl x)) = omega (arith, x .no-length)
+frames-bound tables text out n s p a (inr (inr x)) = omega (arith, x .no-length)
+
+-- a buffer for as many frames as there are tables is never too small
+pub room-enough : (tables : ℕ) (text out : List ℕ) (n s p : ℕ) (a : List ℕ) → 36 * tables ≤ length out → ExportedAs tables text out n s p a → (n ≡ 1) ⊎ (n ≡ 20)
+unfolding ExportedAs
+room-enough tables text out n s p a h (inl x) = inl (x .done)
+room-enough tables text out n s p a h (inr (inl x)) = absurd (omega (arith, x .short, lines-bound tables text (x .is-post)))
+room-enough tables text out n s p a h (inr (inr x)) = inr (x .refused)
+
+-- a text that is longer than every post is answered as its beginning is, if that is longer too
+pub long-export : (tables size : ℕ) (text out : List ℕ) (n s p : ℕ) (a : List ℕ) → 36 * tables + 3 < size → size ≤ length text
+    → ExportedAs tables (take size text) out n s p a → ExportedAs tables text out n s p a
+unfolding ExportedAs CheckedAs
+long-export tables size text out n s p a more long (inl x) =
+    absurd (omega (arith, longest-text tables (take size text) (x .is-post), length-take-le size text long))
+long-export tables size text out n s p a more long (inr (inl x)) =
+    absurd (omega (arith, longest-text tables (take size text) (x .is-post), length-take-le size text long))
+long-export tables size text out n s p a more long (inr (inr x)) =
+    let r = refusal-of tables text 20 p (long-answer tables size text more long 20 p (inr (record { refused = refl; no-post = x .no-post; longest = x .longest }))) (λ e. omega arith) in
+    inr (inr (record { refused = x .refused; no-post = r .no-post; longest = r .longest; no-length = x .no-length; kept = x .kept }))
