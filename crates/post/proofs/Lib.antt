@@ -6,3 +6,4 @@ pub mod Answers
 pub mod Windows
 pub mod LinePlaces
 pub mod Last
+pub mod Strays

@@ -114,6 +114,21 @@ unfolding every
 every-of p [] h = refl
 every-of p (c ∷ s) h = and-both (p c) (every p s) (h 0 (omega arith)) (every-of p s (λ i k. h (suc i) (omega arith)))
 
+pub every-at : (p : ℕ → Bool) (s : List ℕ) → every p s ≡ true → (i : ℕ) → i < length s → p (getD s i 0) ≡ true
+unfolding every
+every-at p [] e i h = absurd (omega arith)
+every-at p (c ∷ s) e zero h = and-left (p c) (every p s) e
+every-at p (c ∷ s) e (suc i) h = every-at p s (and-right (p c) (every p s) e) i (le-of-suc-le-suc h)
+
+-- a row's columns hold zones
+pub row-lowest : (i : ℕ) → i < 24 → getD lowest (9 + i) 0 ≡ 49
+unfolding lowest
+row-lowest i h = sym (getD-drop 9 lowest i 0) ∙ List·getD-append (replicate 24 49) ending 0 i (simp length-replicate h) ∙ getD-replicate 24 i 49 0 h
+
+pub row-highest : (i : ℕ) → i < 24 → getD highest (9 + i) 0 ≡ 52
+unfolding highest
+row-highest i h = sym (getD-drop 9 highest i 0) ∙ List·getD-append (replicate 24 52) ending 0 i (simp length-replicate h) ∙ getD-replicate 24 i 52 0 h
+
 -- the laws of the columns of a text that fits
 module _ (u : List ℕ) (long : length u ≡ 36) (all : (j : ℕ) → j < 36 → columnFits u j ≡ true) where
   low : (j : ℕ) → j < 36 → getD lowest j 0 ≤ getD u j 0
@@ -185,12 +200,10 @@ module _ (u : List ℕ) (long : length u ≡ 36) (all : (j : ℕ) → j < 36 →
   length-row = length-take-le 24 (drop 9 u) (rw (length-drop 9 u) (omega arith))
 
   zone : (i : ℕ) → i < 24 → between 49 52 (getD (rowOf u) i 0) ≡ true
-  unfolding rowOf lowest highest
+  unfolding rowOf
   zone i h =
       let e : getD (take 24 (drop 9 u)) i 0 ≡ getD u (9 + i) 0 = getD-take 24 (drop 9 u) i 0 h ∙ getD-drop 9 u i 0 in
-      let l : getD lowest (9 + i) 0 ≡ 49 = sym (getD-drop 9 lowest i 0) ∙ List·getD-append (replicate 24 49) ending 0 i (simp length-replicate h) ∙ getD-replicate 24 i 49 0 h in
-      let k : getD highest (9 + i) 0 ≡ 52 = sym (getD-drop 9 highest i 0) ∙ List·getD-append (replicate 24 52) ending 0 i (simp length-replicate h) ∙ getD-replicate 24 i 52 0 h in
-      between-is 49 52 (getD (take 24 (drop 9 u)) i 0) (omega (arith, low (9 + i) (omega arith))) (omega (arith, high (9 + i) (omega arith)))
+      between-is 49 52 (getD (take 24 (drop 9 u)) i 0) (omega (arith, low (9 + i) (omega arith), row-lowest i h)) (omega (arith, high (9 + i) (omega arith), row-highest i h))
 
   pub fits-row : goodRow (rowOf u) ≡ true
   unfolding goodRow

@@ -77,3 +77,15 @@ pub record FirstStray (s : List ℕ) (column : ℕ) : Type 0 where
 -- a line stands above, and the text begins like the last line
 unfoldable pub beginsLast : ℕ → List ℕ → Bool
 beginsLast above s = ltb 0 above && (ltb 0 (length s) && eqb (getD s 0 0) 33)
+
+-- so many characters of a fixed part stand at the front
+pub record SharedPart (s part : List ℕ) (n : ℕ) : Type 0 where
+  pub in-part : n ≤ length part
+  pub same : (j : ℕ) → j < n → getD s j 0 ≡ getD part j 0
+  pub differs : n < length part → getD s n 0 ≡ getD part n 0 → ⊥
+
+-- so many zones stand at the front of a row
+pub record RowZones (row : List ℕ) (n : ℕ) : Type 0 where
+  pub in-row : n ≤ 24
+  pub zones : (j : ℕ) → j < n → between 49 52 (getD row j 0) ≡ true
+  pub strays : n < 24 → between 49 52 (getD row n 0) ≡ false

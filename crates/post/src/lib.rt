@@ -6,7 +6,7 @@ ghost use Prim.Native.Nat.{_+_, _<_, _≤_};
 ghost use lib.ListN.{length, drop};
 ghost use Rattle.post.specs.Grammar.{lastLine};
 ghost use Rattle.post.specs.Place.{Longest, CheckedAs};
-ghost use Rattle.post.specs.Columns.{columnFits, columnsFit, nextNumber, FirstStray, LinePlace, LastPlace, beginsLast};
+ghost use Rattle.post.specs.Columns.{lowest, highest, columnFits, nextNumber, SharedPart, RowZones, FirstStray, LinePlace, LastPlace, beginsLast};
 ghost use Rattle.post.specs.Rest.{Rest, Scanned};
 
 // The lowest and the highest character of each column of a line, `131.0.xx(row)` CR LF.
@@ -100,31 +100,75 @@ pub struct Reached {
     pub above: u8,
 }
 
-// Whether the character in a column of the line at a place is one that the column may hold.
-fn column_fits(text: &[u8], at: usize, j: usize) -> bool
-    requires { ⌜ (j < 36) × (at + j < length (now text)) ⌝ }
+// Whether the character in a column of the line at a place is one that the column may hold. The bounds are lent, so that a loop has
+// them at hand.
+fn column_fits(low: &[u8; 36], high: &[u8; 36], text: &[u8], at: usize, j: usize) -> bool
+    requires { ⌜ (now low ≡ lowest) × (now high ≡ highest) × (j < 36) × (at + j < length (now text)) ⌝ }
     ensures { λ r. ⌜ r ≡ columnFits (drop at (now (text .entry))) j ⌝ }
 {
     let c = text[at + j];
-    (LOWEST[j] <= c) & (c <= HIGHEST[j])
+    (low[j] <= c) & (c <= high[j])
 }
 
-// Whether the 36 characters from a place on are a line's, but for the value of its number.
-// Three windows of 16 columns, the last two overlapping, are tested together, so that no column is left over.
-fn columns_fit(text: &[u8], at: usize) -> bool
-    requires { ⌜ at + 36 ≤ length (now text) ⌝ }
-    ensures { λ r. ⌜ r ≡ columnsFit (drop at (now (text .entry))) 36 ⌝ }
+// How many of a fixed part's characters stand at a place, up to the first that does not.
+fn shared(text: &[u8], at: usize, part: &[u8]) -> usize
+    requires { ⌜ at + length (now part) ≤ length (now text) ⌝ }
+    ensures { λ r. ⌜ SharedPart (drop at (now (text .entry))) (now (part .entry)) r ⌝ }
 {
-    let mut ok = true;
-    let mut j = 0;
-    while j < 16 {
-        let first = column_fits(text, at, j);
-        let second = column_fits(text, at, 16 + j);
-        let third = column_fits(text, at, 20 + j);
-        ok = ok & ((first & second) & third);
-        j += 1;
+    let mut i = 0;
+    while i < part.len() {
+        if text[at + i] != part[i] {
+            return i;
+        }
+        i += 1;
     }
-    ok
+    i
+}
+
+// How many of the 24 characters of a row are zones, up to the first that is not. A whole row is seen at once.
+fn row_zones(row: &[u8]) -> usize
+    requires { ⌜ 24 ≡ length (now row) ⌝ }
+    ensures { λ r. ⌜ RowZones (now (row .entry)) r ⌝ }
+{
+    if text::all_between(row, 49, 52) {
+        return 24;
+    }
+    let mut i = 0;
+    while i < 24 {
+        let zone = (49 <= row[i]) & (row[i] <= 52);
+        if !zone {
+            return i;
+        }
+        i += 1;
+    }
+    i
+}
+
+// The first column of the 36 from a place on that strays; 36 where they are a line's, but for the value of its number.
+fn stray_at(text: &[u8], at: usize) -> usize
+    requires { ⌜ at + 36 ≤ length (now text) ⌝ }
+    ensures { λ r. ⌜ FirstStray (drop at (now (text .entry))) r ⌝ }
+{
+    let head = shared(text, at, b"131.0.");
+    if head < 6 {
+        return head;
+    }
+    if !text::is_digit(text[at + 6]) {
+        return 6;
+    }
+    if !text::is_digit(text[at + 7]) {
+        return 7;
+    }
+    if text[at + 8] != 40 {
+        return 8;
+    }
+    let start = at + 9;
+    let end = at + 33;
+    let zones = row_zones(&text[start..end]);
+    if zones < 24 {
+        return 9 + zones;
+    }
+    33 + shared(text, end, b")\r\n")
 }
 
 // The number of the line that stands at a place, below another; 0 where none does that may come next.
@@ -132,7 +176,7 @@ fn next_number(text: &[u8], at: usize, above: u8, tables: u8) -> u8
     requires { ⌜ at + 36 ≤ length (now text) ⌝ }
     ensures { λ r. ⌜ r ≡ nextNumber tables above (drop at (now (text .entry))) ⌝ }
 {
-    if !columns_fit(text, at) {
+    if stray_at(text, at) < 36 {
         return 0;
     }
     let n = (text[at + 6] - 48) * 10 + (text[at + 7] - 48);
@@ -163,16 +207,18 @@ pub fn scan(text: &[u8], tables: u8) -> Reached
     Reached { at, above }
 }
 
-// The first column of a line that strays.
+// The first column of a line that strays, in a text that may be shorter than a line.
 fn first_stray(s: &[u8]) -> usize
     ensures { λ r. ⌜ FirstStray (now (s .entry)) r ⌝ }
 {
+    if 36 <= s.len() {
+        return stray_at(s, 0);
+    }
+    let low = LOWEST;
+    let high = HIGHEST;
     let mut j = 0;
-    while j < 36 {
-        if s.len() <= j {
-            return j;
-        }
-        if !column_fits(s, 0, j) {
+    while j < s.len() {
+        if !column_fits(&low, &high, s, 0, j) {
             return j;
         }
         j += 1;
