@@ -4,7 +4,7 @@ ghost use Prim.Native.Nat.{_+_, _*_, _<_, _≤_};
 ghost use lib.ListN.{length, drop};
 ghost use Rattle.text.specs.Writing.{stored};
 ghost use Rattle.export.specs.Frames.{ExportedAs};
-ghost use Rattle.export.specs.Changed.{changedLine, changedLines};
+ghost use Rattle.export.specs.Changed.{change, changedLine, changedLines};
 
 // What a line's column differs from its frame's in.
 const CHANGE: [u8; 36] = [
@@ -53,14 +53,14 @@ pub struct Exported {
     pub place: usize,
 }
 
-// Writes the frame of the line at a place to the same place of the buffer.
-fn write_frame(text: &[u8], at: usize, out: &mut [u8])
-    requires { ⌜ (at + 36 ≤ length (now text)) × (at + 36 ≤ length (now out)) ⌝ }
+// Writes the frame of the line at a place to the same place of the buffer. What changes is lent, so that it is at hand for each line.
+fn write_frame(changes: &[u8; 36], text: &[u8], at: usize, out: &mut [u8])
+    requires { ⌜ (now changes ≡ change) × (at + 36 ≤ length (now text)) × (at + 36 ≤ length (now out)) ⌝ }
     ensures { λ _. ⌜ now (out .exit) ≡ stored (now (out .entry)) at (changedLine (drop at (now (text .entry)))) ⌝ }
 {
     let mut j = 0;
     while j < 36 {
-        out[at + j] = line::wire(text[at + j] ^ CHANGE[j]);
+        out[at + j] = line::wire(text[at + j] ^ changes[j]);
         j += 1;
     }
     let end = at + 36;
@@ -73,9 +73,10 @@ fn write_frames(text: &[u8], lines: usize, out: &mut [u8])
     requires { ⌜ (36 * lines ≤ length (now text)) × (36 * lines ≤ length (now out)) ⌝ }
     ensures { λ _. ⌜ now (out .exit) ≡ stored (now (out .entry)) 0 (changedLines (now (text .entry)) lines) ⌝ }
 {
+    let changes = CHANGE;
     let mut i = 0;
     while i < lines {
-        write_frame(text, 36 * i, out);
+        write_frame(&changes, text, 36 * i, out);
         i += 1;
     }
 }

@@ -16,12 +16,6 @@ use Rattle.export.proofs.Changed.{changed-next, changed-last}
 use Rattle.export.proofs.write_frame.Statement.{statement}
 use Rattle.export.proofs.write_frame.Tie as tie
 
-abbrev Inv-loop : tie.InvT-loop
-Inv-loop text at out₀ j₀ out j = (j ≤ 36) × (length out ≡ length out₀) × (out ≡ stored out₀ at (changedTo (drop at text) j))
-
-abbrev μ-loop : tie.MeasureT-loop
-μ-loop text at out₀ j₀ out j = 36 - j
-
 turn : (buf out text : List ℕ) (at j x : ℕ) → out ≡ stored buf at (changedTo (drop at text) j) → x ≡ sent (bitXor (getD text (at + j) 0) (getD change j 0))
     → set out (at + j) x ≡ stored buf at (changedTo (drop at text) (j + 1))
 turn buf out text at j x e w =
@@ -35,6 +29,12 @@ last buf out text at j sum x k e b w =
     let v : x ≡ sent (bitXor (bccOf (take 36 (drop at text))) 2) = w ∙ ap (λ (y : ℕ). sent (bitXor y 2)) (b ∙ ap (λ (i : ℕ). bccOf (take i (drop at text))) n) in
     rw (e, k, v) (changed-last buf at (drop at text) _)
 
+abbrev Inv-loop : tie.InvT-loop
+Inv-loop changes text at out₀ j₀ out j = (j ≤ 36) × (length out ≡ length out₀) × (out ≡ stored out₀ at (changedTo (drop at text) j))
+
+abbrev μ-loop : tie.MeasureT-loop
+μ-loop changes text at out₀ j₀ out j = 36 - j
+
 loop-holds : tie.Need-loop-holds Inv-loop μ-loop
 unfolding stored changedTo
 loop-holds c = (omega arith, refl, refl)
@@ -45,8 +45,8 @@ add-wire c = omega arith
 shared-slice-read-wire : tie.Need-shared-slice-read-wire Inv-loop μ-loop
 shared-slice-read-wire c = omega arith
 
-array-read-wire : tie.Need-array-read-wire Inv-loop μ-loop
-array-read-wire c = omega arith
+element-copy-out-wire : tie.Need-element-copy-out-wire Inv-loop μ-loop
+element-copy-out-wire c = omega arith
 
 wire-requires : tie.Need-wire-requires Inv-loop μ-loop
 wire-requires c κs = tt
@@ -64,11 +64,11 @@ loop-less : tie.Need-loop-less Inv-loop μ-loop
 loop-less c = omega arith
 
 loop-again : tie.Need-loop-again Inv-loop μ-loop
-unfolding change
 loop-again c =
-    let l = (c .before .before .before .loop) in
-    let a = (c .before .before .before .before .before .before .args) in
-    (omega arith, simp length-set (l .inv .1), turn (a .out .now) (l .out) (a .text .now) (a .at) (l .j) _ (l .inv .2) (c .wire .ensures))
+    let l = (c .before .before .before .before .loop) in
+    let a = (c .before .before .before .before .before .before .before .args) in
+    let w = c .wire .ensures ∙ ap (λ (d : List ℕ). sent (bitXor (getD (a .text .now) (a .at + l .j) 0) (getD d (l .j) 0))) (c .before .before .before .before .before .before .before .pre .0) in
+    (omega arith, simp length-set (l .inv .1), turn (a .out .now) (l .out) (a .text .now) (a .at) (l .j) _ (l .inv .2) w)
 
 add-end : tie.Need-add-end Inv-loop μ-loop
 add-end c = omega arith
@@ -112,7 +112,7 @@ write-frame-spec =
     loop-holds
     add-wire
     shared-slice-read-wire
-    array-read-wire
+    element-copy-out-wire
     wire-requires
     add-out
     slice-write-out
