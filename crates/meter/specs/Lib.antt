@@ -1,4 +1,0 @@
-pub mod Outcomes
-pub mod Acting
-pub mod Character
-pub mod Events
