@@ -8,6 +8,7 @@ use Rattle.text.specs.Classes.{sameText}
 use Rattle.text.specs.Writing.{stored}
 use Rattle.frames.specs.Frames.{blockOf}
 use Rattle.state.specs.declared.Meter.{Meter}
+use Rattle.values.specs.Registers.{goodTable}
 use Rattle.replies.specs.Answers.{askedData}
 use Rattle.changes.specs.Changes.{inMode, withAttempts, withRegisters, withClock, withAccount, withTables}
 use Rattle.deciding.specs.declared.Verdict.{Verdict}
@@ -31,6 +32,13 @@ tried m =
     (cond (sameText (passwordGiven m) (m .registers .password)) (ack (inMode (withAttempts m 0) 4))
     (nak 10 (withAttempts m (m .attempts + 1))))
 
+-- the account, a table's row: what a write leaves, the receiver aside
+abbrev pub accountTaken : Meter → Meter
+accountTaken m = withRegisters m (withAccount (m .registers) (accountGiven m))
+
+abbrev pub rowTaken : Meter → ℕ → Meter
+rowTaken m n = withRegisters m (withTables (m .registers) (stored (m .registers .tables) ((n - 1) * 24) (rowGiven m)))
+
 -- only that register changes
 abbrev pub wrote : Meter → Meter → Outcome
 wrote m changed = ack (inMode changed (m .mode))
@@ -42,5 +50,5 @@ acted m Enter = ack (inMode m 3)
 acted m Password = tried m
 acted m (Read a) = saying 1 5 (blockOf (askedData (m .registers) a)) (inMode m (m .mode))
 acted m (WriteClock c) = wrote m (withRegisters m (withClock (m .registers) c))
-acted m WriteAccount = wrote m (withRegisters m (withAccount (m .registers) (accountGiven m)))
-acted m (WriteTable t) = wrote m (withRegisters m (withTables (m .registers) (stored (m .registers .tables) ((t .0 - 1) * 24) (rowGiven m))))
+acted m WriteAccount = wrote m (accountTaken m)
+acted m (WriteTable t) = cond (goodTable 24 (t .0)) (wrote m (rowTaken m (t .0))) (nak 9 m)

@@ -1,13 +1,10 @@
 -- Document 01, "Receiving": a received character.
 use mathlib.Core.Bool.{Bool, cond, _||_}
-use mathlib.Core.List.{List, [], _∷_, _++_}
+use mathlib.Core.List.{List}
 use Prim.Native.Nat.{ℕ}
 use lib.Dec.{eqb, ltb}
-use lib.ListN.{replicate}
 use Rattle.line.specs.Characters.{damagedAt, seven}
-use Rattle.text.specs.Classes.{sameText}
 use Rattle.frames.specs.Frames.{blockOf}
-use Rattle.frames.specs.Session.{signOn, signOnTo, confirmation}
 use Rattle.state.specs.declared.Meter.{Meter}
 use Rattle.state.specs.WellFormed.{wellFormed}
 use Rattle.state.specs.Making.{emptyReceiver}
@@ -20,30 +17,26 @@ use Rattle.replies.specs.Block.{blockData}
 use Rattle.replies.specs.Fixed.{identification, passwordAsk}
 use Rattle.changes.specs.Changes.{withReceiver, inMode}
 use Rattle.meter.specs.Outcomes.{Outcome, silent, unheard, saying, nak}
+use Rattle.meter.specs.SignOn.{signsOnBy, wantsBlock, wantsProgram}
 use Rattle.meter.specs.Acting.{acted}
 
 -- a damaged character is held as 0
 unfoldable pub symbol : ℕ → ℕ
 symbol b = cond (damagedAt b) 0 (seven b)
 
--- the line with its LF is a sign-on: `/?!`, or with our serial, or with zeros
-unfoldable pub signsOn : Meter → List ℕ → Bool
-signsOn m line = (sameText line signOn || sameText line (signOnTo (m .registers .serial))) || sameText line (signOnTo (replicate 10 48))
-
 -- an unmarked line that signs on is answered at speed 0, then mode 1; any other line: empty, answer 0
 unfoldable pub lineEnded : Meter → Outcome
 lineEnded m =
     cond (m .receiver .mark) (silent 0 (inMode m 0))
-    (cond (signsOn m (heldText (m .receiver) ++ (10 ∷ []))) (saying 1 0 identification (inMode m 1))
+    (cond (signsOnBy (heldText (m .receiver)) (m .registers .serial)) (saying 1 0 identification (inMode m 1))
     (silent 0 (inMode m 0)))
 
 -- six characters, the last of them c: unmarked ACK 0 5 Y CR LF
 unfoldable pub confirmed : Meter → ℕ → Bool → Outcome
 confirmed m c damaged =
     cond (m .receiver .mark || damaged) (silent 2 (inMode m 0))
-    (cond (sameText (heldText (m .receiver) ++ (c ∷ [])) (confirmation 48) || sameText (heldText (m .receiver) ++ (c ∷ [])) (confirmation 55))
-    (saying 1 5 (blockOf (blockData 24 (m .registers))) (inMode m 0))
-    (cond (sameText (heldText (m .receiver) ++ (c ∷ [])) (confirmation 49)) (saying 1 5 passwordAsk (inMode m 2))
+    (cond (wantsBlock (heldText (m .receiver)) c) (saying 1 5 (blockOf (blockData 24 (m .registers))) (inMode m 0))
+    (cond (wantsProgram (heldText (m .receiver)) c) (saying 1 5 passwordAsk (inMode m 2))
     (silent 2 (inMode m 0))))
 
 unfoldable pub heard : Meter → ℕ → Bool → Hearing → Outcome
