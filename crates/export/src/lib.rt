@@ -1,0 +1,119 @@
+// The export of a post: one frame a line, which sets the line's table.
+ghost use mathlib.Core.Path.{_≡_};
+ghost use Prim.Native.Nat.{_+_, _*_, _<_, _≤_};
+ghost use lib.ListN.{length, drop};
+ghost use Rattle.text.specs.Writing.{stored};
+ghost use Rattle.export.specs.Frames.{ExportedAs};
+ghost use Rattle.export.specs.Changed.{change, changedLine, changedLines};
+
+// What a line's column differs from its frame's in.
+const CHANGE: [u8; 36] = [
+    48,
+    100,
+    0,
+    44,
+    106,
+    6,
+    0,
+    0,
+    19,
+    0,
+    0,
+    0,
+    0,
+    0,
+    0,
+    0,
+    0,
+    0,
+    0,
+    0,
+    0,
+    0,
+    0,
+    0,
+    0,
+    0,
+    0,
+    0,
+    0,
+    0,
+    0,
+    0,
+    0,
+    0,
+    14,
+    0,
+];
+
+// The export's answer: 1 with the length, 20 with the place, or 21.
+pub struct Exported {
+    pub number: u8,
+    pub length: usize,
+    pub place: usize,
+}
+
+// Writes the frame of the line at a place to the same place of the buffer. What changes is lent, so that it is at hand for each line.
+fn write_frame(changes: &[u8; 36], text: &[u8], at: usize, out: &mut [u8])
+    requires { ⌜ (now changes ≡ change) × (at + 36 ≤ length (now text)) × (at + 36 ≤ length (now out)) ⌝ }
+    ensures { λ _. ⌜ now (out .exit) ≡ stored (now (out .entry)) at (changedLine (drop at (now (text .entry)))) ⌝ }
+{
+    let mut j = 0;
+    while j < 36 {
+        out[at + j] = line::wire(text[at + j] ^ changes[j]);
+        j += 1;
+    }
+    let end = at + 36;
+    let sum = line::bcc(&text[at..end]);
+    out[at + 35] = line::wire(sum ^ 2);
+}
+
+// Writes the frames of so many lines.
+fn write_frames(text: &[u8], lines: usize, out: &mut [u8])
+    requires { ⌜ (36 * lines ≤ length (now text)) × (36 * lines ≤ length (now out)) ⌝ }
+    ensures { λ _. ⌜ now (out .exit) ≡ stored (now (out .entry)) 0 (changedLines (now (text .entry)) lines) ⌝ }
+{
+    let changes = CHANGE;
+    let mut i = 0;
+    while i < lines {
+        write_frame(&changes, text, 36 * i, out);
+        i += 1;
+    }
+}
+
+// The export, for so many tables.
+pub fn export_of(text: &[u8], out: &mut [u8], tables: u8) -> Exported
+    requires { ⌜ (0 < tables) × (tables < 100) ⌝ }
+    ensures { λ r. ⌜ ExportedAs tables (now (text .entry)) (now (out .entry)) (r .number) (r .length) (r .place) (now (out .exit)) ⌝ }
+{
+    let checked = post::check_of(text, tables);
+    let number = checked.number;
+    if number != 1 {
+        return Exported {
+            number: 20,
+            length: 0,
+            place: checked.place,
+        };
+    }
+    let lines = text.len() / 36;
+    if out.len() < 36 * lines {
+        return Exported {
+            number: 21,
+            length: 0,
+            place: 0,
+        };
+    }
+    write_frames(text, lines, out);
+    Exported {
+        number: 1,
+        length: 36 * lines,
+        place: 0,
+    }
+}
+
+// The export: the frames of a post, or why there are none; a refusal leaves the buffer as it was.
+pub fn export(text: &[u8], out: &mut [u8]) -> Exported
+    ensures { λ r. ⌜ ExportedAs 24 (now (text .entry)) (now (out .entry)) (r .number) (r .length) (r .place) (now (out .exit)) ⌝ }
+{
+    export_of(text, out, values::TABLES)
+}

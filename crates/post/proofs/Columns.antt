@@ -1,0 +1,163 @@
+-- Columns and lines: a line's columns are good, columns that are shared are good as well, and good columns can be completed to a line.
+-- Assumes nothing.
+use mathlib.Core.Path.{_≡_, refl, sym, ap, ap₂, _∙_}
+use mathlib.Core.Logic.{_⊎_, inl, inr, ⊎-elim}
+use mathlib.Core.Bool.{Bool, true, false, _&&_}
+use mathlib.Core.List.{List, [], _∷_, _++_}
+use Prim.Native.Nat.{ℕ, zero, suc, _+_, _-_, _*_, _/_, _%_, _<_, _≤_}
+use native.Mathlib.Nat.{le-of-suc-le-suc, zero-lt-suc}
+use native.Mathlib.Omega.{arith}
+use lib.ListN.{length, getD, take, drop, replicate, length-append, length-drop, List·getD-append}
+use lib.Seq.{take-at, length-take-le, getD-take, getD-drop, getD-append-add, take-append-le, take-all}
+use Rattle.line.specs.Runs.{every}
+use Rattle.text.specs.Classes.{between}
+use Rattle.values.specs.Registers.{goodRow}
+use Rattle.post.specs.Grammar.{lineText}
+use Rattle.post.specs.Columns.{lowest, highest, columnFits, tensOf, numberOf, rowOf, Column}
+use Rattle.post.proofs.Lines.{line-columns, length-line, number-line, line-fits, fits-line, fits-row, between-low, between-high}
+
+pub le-or-lt : (a b : ℕ) → (a ≤ b) ⊎ (b < a)
+le-or-lt zero b = inl (omega arith)
+le-or-lt (suc a) zero = inr (omega arith)
+le-or-lt (suc a) (suc b) = ⊎-elim (λ h. inl (omega arith)) (λ h. inr (omega arith)) (le-or-lt a b)
+
+-- what is the same in the first k characters is the same at each of them
+pub same-at : (k : ℕ) (s t : List ℕ) → take k s ≡ take k t → (j : ℕ) → j < k → getD s j 0 ≡ getD t j 0
+same-at k s t e j h = sym (getD-take k s j 0 h) ∙ ap (λ (l : List ℕ). getD l j 0) e ∙ getD-take k t j 0 h
+
+pub same-fits : (s t : List ℕ) (j : ℕ) → getD s j 0 ≡ getD t j 0 → columnFits s j ≡ columnFits t j
+unfolding columnFits
+same-fits s t j e = ap (λ (c : ℕ). between (getD lowest j 0) (getD highest j 0) c) e
+
+pub same-number-of : (s t : List ℕ) → getD s 6 0 ≡ getD t 6 0 → getD s 7 0 ≡ getD t 7 0 → numberOf s ≡ numberOf t
+unfolding numberOf
+same-number-of s t a b = rw (a, b)
+
+same-tens : (s t : List ℕ) → getD s 6 0 ≡ getD t 6 0 → tensOf s ≡ tensOf t
+unfolding tensOf
+same-tens s t a = rw a
+
+-- a good column that is shared
+pub shared-column : (tables above k : ℕ) (s t : List ℕ) → take k s ≡ take k t → (j : ℕ) → j < k → Column tables above s j → Column tables above t j
+shared-column tables above k s t e j h c =
+    let same = same-at k s t e in
+    record {
+      held = sym (same-fits s t j (same j h)) ∙ c .held;
+      first = c .first;
+      tens = λ i. let d : tensOf s ≡ tensOf t = same-tens s t (same 6 (omega arith)) in (omega (arith, c .tens i), omega (arith, c .tens i));
+      unit = λ i.
+          let d : numberOf s ≡ numberOf t = same-number-of s t (same 6 (omega arith)) (same 7 (omega arith)) in
+          (omega (arith, c .unit i), omega (arith, c .unit i));
+    }
+
+line-tens : (n : ℕ) (row : List ℕ) → n < 100 → tensOf (lineText n row) ≡ n / 10
+unfolding tensOf
+line-tens n row h = rw (line-columns n row) (omega arith)
+
+-- every column of a line that may come next
+pub line-column : (tables above n : ℕ) (row : List ℕ) → tables < 100 → above < n → n ≤ tables → goodRow row ≡ true → (j : ℕ) → j < 36 → Column tables above (lineText n row) j
+line-column tables above n row few low high good j h =
+    record {
+      held = line-fits n row good j h;
+      first = λ i. omega arith;
+      tens = λ i. let d = line-tens n row (omega arith) in (omega arith, omega arith);
+      unit = λ i. let d = number-line n row (omega arith) in (omega arith, omega arith);
+    }
+
+-- a line that may come next and has the first k columns of s
+pub record Completed (tables above : ℕ) (s : List ℕ) (k : ℕ) : Type 0 where
+  pub number : ℕ
+  pub row : List ℕ
+  pub low : above < number
+  pub high : number ≤ tables
+  pub good-row : goodRow row ≡ true
+  pub same : take k (lineText number row) ≡ take k s
+
+abbrev ones : List ℕ
+ones = replicate 24 49
+
+ones-good : goodRow ones ≡ true
+unfolding goodRow every between
+ones-good = refl
+
+-- the first k columns of s, and then those of a line for table n
+unfoldable mixed : ℕ → ℕ → List ℕ → List ℕ
+mixed k n s = take k s ++ drop k (lineText n ones)
+
+module _ (tables above k n : ℕ) (s : List ℕ) (few : tables < 100) (in-line : k ≤ 36) (in-text : k ≤ length s)
+    (low : above < n) (high : n ≤ tables) (before : (j : ℕ) → j < k → Column tables above s j) (tens : k ≡ 7 → 48 + n / 10 % 10 ≡ getD s 6 0) where
+  taken : length (take k s) ≡ k
+  taken = length-take-le k s in-text
+
+  length-mixed : length (mixed k n s) ≡ 36
+  unfolding mixed
+  length-mixed =
+      omega (arith, length-append (take k s) (drop k (lineText n ones)), taken, length-drop k (lineText n ones), length-line n ones ones-good)
+
+  same-mixed : take k (mixed k n s) ≡ take k s
+  unfolding mixed
+  same-mixed = take-at (take k s) (drop k (lineText n ones)) k taken
+
+  mixed-front : (j : ℕ) → j < k → getD (mixed k n s) j 0 ≡ getD s j 0
+  mixed-front = same-at k (mixed k n s) s same-mixed
+
+  mixed-back : (j : ℕ) → k ≤ j → getD (mixed k n s) j 0 ≡ getD (lineText n ones) j 0
+  unfolding mixed
+  mixed-back j h =
+      ap (λ (i : ℕ). getD (take k s ++ drop k (lineText n ones)) i 0) (omega (arith, taken))
+      ∙ getD-append-add (take k s) (drop k (lineText n ones)) (j - k) 0
+      ∙ getD-drop k (lineText n ones) (j - k) 0
+      ∙ ap (λ (i : ℕ). getD (lineText n ones) i 0) (omega arith)
+
+  mixed-fits : (j : ℕ) → j < 36 → columnFits (mixed k n s) j ≡ true
+  mixed-fits j h =
+      ⊎-elim (λ b. same-fits (mixed k n s) (lineText n ones) j (mixed-back j b) ∙ line-fits n ones ones-good j h)
+      (λ f. same-fits (mixed k n s) s j (mixed-front j f) ∙ before j f .held) (le-or-lt k j)
+
+  line-six : getD (lineText n ones) 6 0 ≡ 48 + n / 10 % 10
+  line-six = rw (line-columns n ones)
+
+  mixed-six : k ≤ 7 → getD (mixed k n s) 6 0 ≡ getD (lineText n ones) 6 0
+  mixed-six h =
+      ⊎-elim (λ b. mixed-back 6 b) (λ f. mixed-front 6 f ∙ sym (tens (omega arith)) ∙ sym line-six) (le-or-lt k 6)
+
+  -- its number may come next
+  mixed-number : (above < numberOf (mixed k n s)) × (numberOf (mixed k n s) ≤ tables)
+  mixed-number =
+      ⊎-elim
+      (λ b.
+      let e : numberOf (mixed k n s) ≡ n = same-number-of (mixed k n s) (lineText n ones) (mixed-six b) (mixed-back 7 b) ∙ number-line n ones (omega arith) in
+      (omega arith, omega arith))
+      (λ f.
+      let e : numberOf (mixed k n s) ≡ numberOf s = same-number-of (mixed k n s) s (mixed-front 6 (omega arith)) (mixed-front 7 f) in
+      (omega (arith, before 7 f .unit refl), omega (arith, before 7 f .unit refl))) (le-or-lt k 7)
+
+  completed-by : Completed tables above s k
+  completed-by =
+      record {
+        number = numberOf (mixed k n s);
+        row = rowOf (mixed k n s);
+        low = mixed-number .0;
+        high = mixed-number .1;
+        good-row = fits-row (mixed k n s) length-mixed mixed-fits;
+        same = ap (take k) (sym (fits-line (mixed k n s) length-mixed mixed-fits)) ∙ same-mixed;
+      }
+
+tens-digit-small : (s : List ℕ) → columnFits s 6 ≡ true → (48 ≤ getD s 6 0) × (getD s 6 0 ≤ 57)
+unfolding columnFits lowest highest
+tens-digit-small s e = (between-low 48 57 (getD s 6 0) e, between-high 48 57 (getD s 6 0) e)
+
+-- good columns can be completed: with the next number, or, behind a tens digit, with the first that starts with it
+pub complete : (tables above k : ℕ) (s : List ℕ) → tables < 100 → k ≤ 36 → k ≤ length s → above < tables → ((j : ℕ) → j < k → Column tables above s j) → Completed tables above s k
+unfolding tensOf
+complete tables above k s few in-line in-text room before =
+    ⊎-elim
+    (λ h. completed-by tables above k (above + 1) s few in-line in-text (omega arith) (omega arith) before (λ e. absurd (omega arith)))
+    (λ h.
+    let six = before 6 (omega arith) in
+    let t = tens-digit-small s (six .held) in
+    let d = six .tens refl in
+    ⊎-elim
+    (λ b. completed-by tables above k (above + 1) s few in-line in-text (omega arith) (omega arith) before (λ e. omega (arith, t .0, t .1, d .0, d .1)))
+    (λ b. completed-by tables above k (tensOf s * 10) s few in-line in-text b (d .1) before (λ e. omega (arith, t .0, t .1, d .0, d .1)))
+    (le-or-lt (tensOf s * 10) above)) (le-or-lt k 6)

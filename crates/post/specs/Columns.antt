@@ -1,0 +1,91 @@
+-- How a line is tested: what each of its 36 columns may hold, and which number may come next.
+use mathlib.Core.Path.{_≡_}
+use mathlib.Core.Bool.{Bool, true, false, _&&_}
+use mathlib.Core.List.{List, [], _∷_, _++_}
+use Prim.Native.Nat.{ℕ, zero, suc, _+_, _-_, _*_, _<_, _≤_}
+use lib.Dec.{ltb, leb, eqb}
+use lib.ListN.{length, getD, take, drop, replicate}
+use Rattle.text.specs.Classes.{between}
+use Rattle.post.specs.Grammar.{lastLine}
+
+-- the lowest and the highest character of each column
+unfoldable pub lowest : List ℕ
+lowest = 49 ∷ 51 ∷ 49 ∷ 46 ∷ 48 ∷ 46 ∷ 48 ∷ 48 ∷ 40 ∷ (replicate 24 49 ++ (41 ∷ 13 ∷ 10 ∷ []))
+
+unfoldable pub highest : List ℕ
+highest = 49 ∷ 51 ∷ 49 ∷ 46 ∷ 48 ∷ 46 ∷ 57 ∷ 57 ∷ 40 ∷ (replicate 24 52 ++ (41 ∷ 13 ∷ 10 ∷ []))
+
+unfoldable pub columnFits : List ℕ → ℕ → Bool
+columnFits s j = between (getD lowest j 0) (getD highest j 0) (getD s j 0)
+
+-- the first n columns
+unfoldable pub columnsFit : List ℕ → ℕ → Bool
+columnsFit s zero = true
+columnsFit s (suc n) = columnsFit s n && columnFits s n
+
+-- the tens digit, the number and the row of a line
+unfoldable pub tensOf : List ℕ → ℕ
+tensOf s = getD s 6 0 - 48
+
+unfoldable pub numberOf : List ℕ → ℕ
+numberOf s = (getD s 6 0 - 48) * 10 + (getD s 7 0 - 48)
+
+unfoldable pub rowOf : List ℕ → List ℕ
+rowOf s = take 24 (drop 9 s)
+
+-- the number may come below another, of so many tables
+unfoldable pub mayFollow : ℕ → ℕ → ℕ → Bool
+mayFollow tables above n = ltb above n && leb n tables
+
+-- the number of the line that a text begins with, below another number; 0 where it begins with none
+unfoldable pub pick : Bool → ℕ → ℕ
+pick true n = n
+pick false n = 0
+
+unfoldable pub nextNumber : ℕ → ℕ → List ℕ → ℕ
+nextNumber tables above s = pick (columnsFit s 36 && mayFollow tables above (numberOf s)) (numberOf s)
+
+-- column j is as in some line that may come next and that is the same in the columns before it
+pub record Column (tables above : ℕ) (s : List ℕ) (j : ℕ) : Type 0 where
+  pub held : columnFits s j ≡ true
+  pub first : j ≡ 0 → above < tables
+  pub tens : j ≡ 6 → (above < tensOf s * 10 + 9) × (tensOf s * 10 ≤ tables)
+  pub unit : j ≡ 7 → (above < numberOf s) × (numberOf s ≤ tables)
+
+-- the first column that is not, or the end of the text or of the line
+pub record LinePlace (tables above : ℕ) (s : List ℕ) (place : ℕ) : Type 0 where
+  pub in-text : place ≤ length s
+  pub in-line : place ≤ 36
+  pub before : (j : ℕ) → j < place → Column tables above s j
+  pub stops : place < 36 → place < length s → Column tables above s place → ⊥
+
+-- how much of the last line a text that begins like it has
+pub record LastPlace (s : List ℕ) (place : ℕ) : Type 0 where
+  pub some : 0 < place
+  pub in-text : place ≤ length s
+  pub in-line : place ≤ 3
+  pub same : take place lastLine ≡ take place s
+  pub stops : place < 3 → place < length s → getD lastLine place 0 ≡ getD s place 0 → ⊥
+
+-- the first column that strays, or the end of the text or of the line
+pub record FirstStray (s : List ℕ) (column : ℕ) : Type 0 where
+  pub in-text : column ≤ length s
+  pub in-line : column ≤ 36
+  pub before : (j : ℕ) → j < column → columnFits s j ≡ true
+  pub stops : column < 36 → column < length s → columnFits s column ≡ false
+
+-- a line stands above, and the text begins like the last line
+unfoldable pub beginsLast : ℕ → List ℕ → Bool
+beginsLast above s = ltb 0 above && (ltb 0 (length s) && eqb (getD s 0 0) 33)
+
+-- so many characters of a fixed part stand at the front
+pub record SharedPart (s part : List ℕ) (n : ℕ) : Type 0 where
+  pub in-part : n ≤ length part
+  pub same : (j : ℕ) → j < n → getD s j 0 ≡ getD part j 0
+  pub differs : n < length part → getD s n 0 ≡ getD part n 0 → ⊥
+
+-- so many zones stand at the front of a row
+pub record RowZones (row : List ℕ) (n : ℕ) : Type 0 where
+  pub in-row : n ≤ 24
+  pub zones : (j : ℕ) → j < n → between 49 52 (getD row j 0) ≡ true
+  pub strays : n < 24 → between 49 52 (getD row n 0) ≡ false

@@ -1,0 +1,4 @@
+pub mod Grammar
+pub mod Place
+pub mod Columns
+pub mod Rest

@@ -1,0 +1,331 @@
+// Posts: whether a text is one, and where it leaves every post.
+// Whole lines are accepted at once; the place is looked for only in the line that failed. All is said over the number of tables.
+ghost use mathlib.Core.Path.{_≡_};
+ghost use mathlib.Core.Bool.{true};
+ghost use Prim.Native.Nat.{_+_, _<_, _≤_};
+ghost use lib.ListN.{length, drop};
+ghost use Rattle.post.specs.Grammar.{lastLine};
+ghost use Rattle.post.specs.Place.{Longest, CheckedAs};
+ghost use Rattle.post.specs.Columns.{lowest, highest, columnFits, nextNumber, SharedPart, RowZones, FirstStray, LinePlace, LastPlace, beginsLast};
+ghost use Rattle.post.specs.Rest.{Rest, Scanned};
+
+// The lowest and the highest character of each column of a line, `131.0.xx(row)` CR LF.
+const LOWEST: [u8; 36] = [
+    49,
+    51,
+    49,
+    46,
+    48,
+    46,
+    48,
+    48,
+    40,
+    49,
+    49,
+    49,
+    49,
+    49,
+    49,
+    49,
+    49,
+    49,
+    49,
+    49,
+    49,
+    49,
+    49,
+    49,
+    49,
+    49,
+    49,
+    49,
+    49,
+    49,
+    49,
+    49,
+    49,
+    41,
+    13,
+    10,
+];
+
+const HIGHEST: [u8; 36] = [
+    49,
+    51,
+    49,
+    46,
+    48,
+    46,
+    57,
+    57,
+    40,
+    52,
+    52,
+    52,
+    52,
+    52,
+    52,
+    52,
+    52,
+    52,
+    52,
+    52,
+    52,
+    52,
+    52,
+    52,
+    52,
+    52,
+    52,
+    52,
+    52,
+    52,
+    52,
+    52,
+    52,
+    41,
+    13,
+    10,
+];
+
+// The check's answer: 1, or 20 with the place.
+pub struct Checked {
+    pub number: u8,
+    pub place: usize,
+}
+
+// How far whole lines reach, and the number of the last.
+pub struct Reached {
+    pub at: usize,
+    pub above: u8,
+}
+
+// Whether the character in a column of the line at a place is one that the column may hold. The bounds are lent, so that a loop has
+// them at hand.
+fn column_fits(low: &[u8; 36], high: &[u8; 36], text: &[u8], at: usize, j: usize) -> bool
+    requires { ⌜ (now low ≡ lowest) × (now high ≡ highest) × (j < 36) × (at + j < length (now text)) ⌝ }
+    ensures { λ r. ⌜ r ≡ columnFits (drop at (now (text .entry))) j ⌝ }
+{
+    let c = text[at + j];
+    (low[j] <= c) & (c <= high[j])
+}
+
+// How many of a fixed part's characters stand at a place, up to the first that does not.
+fn shared(text: &[u8], at: usize, part: &[u8]) -> usize
+    requires { ⌜ at + length (now part) ≤ length (now text) ⌝ }
+    ensures { λ r. ⌜ SharedPart (drop at (now (text .entry))) (now (part .entry)) r ⌝ }
+{
+    let mut i = 0;
+    while i < part.len() {
+        if text[at + i] != part[i] {
+            return i;
+        }
+        i += 1;
+    }
+    i
+}
+
+// How many of the 24 characters of a row are zones, up to the first that is not. A whole row is seen at once.
+fn row_zones(row: &[u8]) -> usize
+    requires { ⌜ 24 ≡ length (now row) ⌝ }
+    ensures { λ r. ⌜ RowZones (now (row .entry)) r ⌝ }
+{
+    if text::all_between(row, 49, 52) {
+        return 24;
+    }
+    let mut i = 0;
+    while i < 24 {
+        let zone = (49 <= row[i]) & (row[i] <= 52);
+        if !zone {
+            return i;
+        }
+        i += 1;
+    }
+    i
+}
+
+// The first column of the 36 from a place on that strays; 36 where they are a line's, but for the value of its number.
+fn stray_at(text: &[u8], at: usize) -> usize
+    requires { ⌜ at + 36 ≤ length (now text) ⌝ }
+    ensures { λ r. ⌜ FirstStray (drop at (now (text .entry))) r ⌝ }
+{
+    let head = shared(text, at, b"131.0.");
+    if head < 6 {
+        return head;
+    }
+    if !text::is_digit(text[at + 6]) {
+        return 6;
+    }
+    if !text::is_digit(text[at + 7]) {
+        return 7;
+    }
+    if text[at + 8] != 40 {
+        return 8;
+    }
+    let start = at + 9;
+    let end = at + 33;
+    let zones = row_zones(&text[start..end]);
+    if zones < 24 {
+        return 9 + zones;
+    }
+    33 + shared(text, end, b")\r\n")
+}
+
+// The number of the line that stands at a place, below another; 0 where none does that may come next.
+fn next_number(text: &[u8], at: usize, above: u8, tables: u8) -> u8
+    requires { ⌜ at + 36 ≤ length (now text) ⌝ }
+    ensures { λ r. ⌜ r ≡ nextNumber tables above (drop at (now (text .entry))) ⌝ }
+{
+    if stray_at(text, at) < 36 {
+        return 0;
+    }
+    let n = (text[at + 6] - 48) * 10 + (text[at + 7] - 48);
+    if n <= above {
+        return 0;
+    }
+    if tables < n {
+        return 0;
+    }
+    n
+}
+
+// Goes over the lines that stand one below the other with rising numbers.
+pub fn scan(text: &[u8], tables: u8) -> Reached
+    requires { ⌜ tables < 100 ⌝ }
+    ensures { λ r. ⌜ Scanned tables (now (text .entry)) (r .at) (r .above) ⌝ }
+{
+    let mut at = 0;
+    let mut above = 0;
+    while 36 <= text.len() - at {
+        let n = next_number(text, at, above, tables);
+        if n == 0 {
+            return Reached { at, above };
+        }
+        above = n;
+        at += 36;
+    }
+    Reached { at, above }
+}
+
+// The first column of a line that strays, in a text that may be shorter than a line.
+fn first_stray(s: &[u8]) -> usize
+    ensures { λ r. ⌜ FirstStray (now (s .entry)) r ⌝ }
+{
+    if 36 <= s.len() {
+        return stray_at(s, 0);
+    }
+    let low = LOWEST;
+    let high = HIGHEST;
+    let mut j = 0;
+    while j < s.len() {
+        if !column_fits(&low, &high, s, 0, j) {
+            return j;
+        }
+        j += 1;
+    }
+    j
+}
+
+// The first column in which no line that may come next is like this text: a tens digit needs some number that may follow, a unit digit has to make one.
+fn line_place(s: &[u8], above: u8, tables: u8) -> usize
+    ensures { λ r. ⌜ LinePlace tables above (now (s .entry)) r ⌝ }
+{
+    if tables <= above {
+        return 0;
+    }
+    let stray = first_stray(s);
+    if stray < 7 {
+        return stray;
+    }
+    let tens = (s[6] - 48) * 10;
+    if tables < tens {
+        return 6;
+    }
+    if tens + 9 <= above {
+        return 6;
+    }
+    if stray < 8 {
+        return stray;
+    }
+    let n = tens + (s[7] - 48);
+    if n <= above {
+        return 7;
+    }
+    if tables < n {
+        return 7;
+    }
+    stray
+}
+
+// How much of the last line a text has that begins like it.
+fn last_place(s: &[u8]) -> usize
+    requires { ⌜ beginsLast 1 (now s) ≡ true ⌝ }
+    ensures { λ r. ⌜ LastPlace (now (s .entry)) r ⌝ }
+{
+    if s.len() < 2 {
+        return 1;
+    }
+    if s[1] != 13 {
+        return 1;
+    }
+    if s.len() < 3 {
+        return 2;
+    }
+    if s[2] != 10 {
+        return 2;
+    }
+    3
+}
+
+// Whether a text below some line begins like the last line.
+fn begins_last(s: &[u8], above: u8) -> bool
+    ensures { λ r. ⌜ r ≡ beginsLast above (now (s .entry)) ⌝ }
+{
+    if above == 0 {
+        return false;
+    }
+    if s.len() == 0 {
+        return false;
+    }
+    s[0] == 33
+}
+
+// The place of what stands below the lines, where it begins with no line.
+fn rest_place(s: &[u8], above: u8, tables: u8) -> usize
+    requires { ⌜ (0 < tables) × (tables < 100) × (above ≤ tables) × (36 ≤ length (now s) → nextNumber tables above (now s) ≡ 0) ⌝ }
+    ensures { λ r. ⌜ Longest (Rest tables above) (now (s .entry)) r ⌝ }
+{
+    if begins_last(s, above) {
+        return last_place(s);
+    }
+    line_place(s, above, tables)
+}
+
+// The check, for so many tables.
+pub fn check_of(text: &[u8], tables: u8) -> Checked
+    requires { ⌜ (0 < tables) × (tables < 100) ⌝ }
+    ensures { λ r. ⌜ CheckedAs tables (now (text .entry)) (r .number) (r .place) ⌝ }
+{
+    let lines = scan(text, tables);
+    let at = lines.at;
+    let above = lines.above;
+    let rest = &text[at..];
+    if (0 < above) & text::same(rest, b"!\r\n") {
+        return Checked {
+            number: 1,
+            place: 0,
+        };
+    }
+    let place = rest_place(rest, above, tables);
+    Checked {
+        number: 20,
+        place: at + place,
+    }
+}
+
+// The check: whether a text is a post, and if not, where it leaves every post.
+pub fn check(text: &[u8]) -> Checked
+    ensures { λ r. ⌜ CheckedAs 24 (now (text .entry)) (r .number) (r .place) ⌝ }
+{
+    check_of(text, values::TABLES)
+}

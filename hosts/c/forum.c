@@ -1,0 +1,117 @@
+/* forum.c: uses the post check and the export as the forum server does, and tries the fixed cases of document 01.
+ * Buffers come from malloc at their exact size, so that the address sanitizer sees a byte too many. Prints one line, and
+ * exits with 1 on any difference. */
+#include "dirgemist.h"
+
+#include <stdio.h>
+#include <stdlib.h>
+#include <string.h>
+
+#define TABLES 24
+
+static int wrong = 0;
+
+static void expect(int right, const char *what) {
+    if (!right) {
+        printf("forum: differs: %s\n", what);
+        wrong = 1;
+    }
+}
+
+/* A copy of its exact size, so that a read past it is seen. */
+static uint8_t *copy_of(const void *bytes, size_t length) {
+    uint8_t *copy = malloc(length > 0 ? length : 1);
+    if (copy == NULL) {
+        exit(1);
+    }
+    memcpy(copy, bytes, length);
+    return copy;
+}
+
+/* The posts of tables 1 to `lines`, every row all '1', into text; its length. */
+static size_t post_of(uint8_t *text, int lines) {
+    size_t at = 0;
+    for (int number = 1; number <= lines; number++) {
+        at += (size_t)sprintf((char *)text + at, "131.0.%02d(111111111111111111111111)\r\n", number);
+    }
+    memcpy(text + at, "!\r\n", 3);
+    return at + 3;
+}
+
+/* One text through both functions, in a buffer of `room` bytes of 0x5A; what the export wrote is compared with `frames`. */
+static void try_text(const char *what, const void *text, size_t text_length, size_t room, uint8_t number, size_t length, size_t place,
+                     const uint8_t *frames) {
+    uint8_t *own = copy_of(text, text_length);
+    uint8_t *out = malloc(room > 0 ? room : 1);
+    if (out == NULL) {
+        exit(1);
+    }
+    memset(out, 0x5A, room > 0 ? room : 1);
+
+    size_t got_place = 99, got_length = 99;
+    uint8_t got = dirgemist_post_check(own, text_length, &got_place);
+    expect(got == (number == DIRGEMIST_NOT_A_POST ? DIRGEMIST_NOT_A_POST : DIRGEMIST_DONE), what);
+    expect(got_place == place, what);
+
+    got_place = 99;
+    got = dirgemist_post_export(own, text_length, out, room, &got_length, &got_place);
+    expect(got == number && got_length == length && got_place == place, what);
+    if (frames != NULL) {
+        expect(memcmp(out, frames, length) == 0, what);
+    }
+    for (size_t at = length; at < room; at++) {
+        expect(out[at] == 0x5A, what);
+    }
+    free(out);
+    free(own);
+}
+
+int main(void) {
+    static const uint8_t one_frame[DIRGEMIST_FRAME] = {
+        0x81, 0xD7, 0xB1, 0x82, 0x5A, 0x28, 0x30, 0xB1, 0xBB, 0xB1, 0xB1, 0xB1, 0xB1, 0xB1, 0xB1, 0xB1, 0xB1, 0xB1,
+        0xB1, 0xB1, 0xB1, 0xB1, 0xB1, 0xB1, 0xB1, 0xB1, 0xB1, 0xB1, 0xB1, 0xB1, 0xB1, 0xB1, 0xB1, 0xA9, 0x03, 0x06,
+    };
+    uint8_t text[DIRGEMIST_LONGEST_POST + 64];
+
+    size_t one = post_of(text, 1);
+    expect(one == DIRGEMIST_LINE + 3, "length of a line");
+    try_text("one line, exact room", text, one, DIRGEMIST_FRAME, DIRGEMIST_DONE, DIRGEMIST_FRAME, 0, one_frame);
+    try_text("one line, more room", text, one, 100, DIRGEMIST_DONE, DIRGEMIST_FRAME, 0, one_frame);
+    try_text("one line, room one too small", text, one, DIRGEMIST_FRAME - 1, DIRGEMIST_NO_ROOM, 0, 0, NULL);
+    try_text("one line, no room", text, one, 0, DIRGEMIST_NO_ROOM, 0, 0, NULL);
+    try_text("one line and more", text, one + 1, 100, DIRGEMIST_NOT_A_POST, 0, one, NULL);
+    for (size_t length = 0; length < one; length++) {
+        try_text("beginning of a line", text, length, 100, DIRGEMIST_NOT_A_POST, 0, length, NULL);
+    }
+
+    size_t longest = post_of(text, TABLES);
+    size_t all = (size_t)TABLES * DIRGEMIST_FRAME;
+    expect(longest == DIRGEMIST_LONGEST_POST, "length of the longest post");
+    try_text("longest post, exact room", text, longest, all, DIRGEMIST_DONE, all, 0, NULL);
+    try_text("longest post, room one too small", text, longest, all - 1, DIRGEMIST_NO_ROOM, 0, 0, NULL);
+    for (size_t at = 0; at < longest; at++) {
+        uint8_t kept = text[at];
+        text[at] = 0x7F;
+        try_text("longest post, one byte damaged", text, longest, all, DIRGEMIST_NOT_A_POST, 0, at, NULL);
+        text[at] = kept;
+    }
+
+    /* 20 before 21, and nothing to read or to write. */
+    try_text("empty text, no room", "", 0, 0, DIRGEMIST_NOT_A_POST, 0, 0, NULL);
+    try_text("the last line alone", "!\r\n", 3, 100, DIRGEMIST_NOT_A_POST, 0, 0, NULL);
+    try_text("'!' alone", "!", 1, 100, DIRGEMIST_NOT_A_POST, 0, 0, NULL);
+
+    /* Below table 24 no line may stand. */
+    static const char last[] = "131.0.24(111111111111111111111111)\r\n1";
+    try_text("below table 24", last, sizeof last - 1, 100, DIRGEMIST_NOT_A_POST, 0, DIRGEMIST_LINE, NULL);
+
+    /* What did the harm: a second command hidden in a row. */
+    static const char crafted[] = "131.0.01(1111)\x03\x06\x01W1\x02K(somebody__)\x03\x15)\r\n!\r\n";
+    try_text("crafted row", crafted, sizeof crafted - 1, 100, DIRGEMIST_NOT_A_POST, 0, 13, NULL);
+
+    if (wrong) {
+        return 1;
+    }
+    printf("forum: every case as document 01 says\n");
+    return 0;
+}
