@@ -14,7 +14,8 @@ use Rattle.state.specs.declared.Registers.{Registers}
 use Rattle.frames.specs.Frames.{blockOf}
 use Rattle.frames.proofs.Sealing.{block-length}
 use Rattle.text.specs.Writing.{stored}
-use Rattle.datasets.proofs.Joined.{Lines, single}
+use Rattle.text.proofs.Writing.{and-then}
+use Rattle.datasets.proofs.Joined.{Lines, single, joined}
 use Rattle.datasets.specs.Sets.{DataSet, linesOf, lineOf, tableSet, timeSet, dateSet, serialSet, accountSet, energySet}
 use Rattle.datasets.proofs.Lengths.{lines-append, lines-cons, time-line, date-line, serial-line, account-line, energy-line, table-line}
 use Rattle.replies.specs.declared.Ask.{Ask}
@@ -138,3 +139,22 @@ module _ (g : Registers) (a : Ask) (buf : List ℕ) (at place : ℕ) (after : Li
       let row = rowOf (g .tables) (t .0) in
       let s = tableSet (t .0) row in
       asked g a (s ∷ []) buf at place after (ap (askedSets g) told) (single s (12 + length row) buf at place after (table-line (t .0) row) (omega arith) q)
+
+-- facts, energies, tables and the end, put in one after the other, are the block's data
+pub whole : (g : Registers) (buf : List ℕ) (at : ℕ) (b1 : List ℕ) (p1 : ℕ) (b2 : List ℕ) (p2 : ℕ) (b3 : List ℕ) (p3 : ℕ) (b4 : List ℕ)
+    → Lengths 24 g → p1 ≡ at + 73 → b1 ≡ stored buf at (linesOf (factSets (g .serial) (g .clock) (g .account)))
+    → p2 ≡ p1 + 120 → b2 ≡ stored b1 p1 (linesOf (energySets (g .counters)))
+    → p3 ≡ p2 + 864 → b3 ≡ stored b2 p2 (linesOf (tableSets (g .tables) 24))
+    → b4 ≡ stored b3 p3 (33 ∷ 13 ∷ 10 ∷ []) → b4 ≡ stored buf at (blockData 24 g)
+unfolding blockData blockSets
+whole g buf at b1 p1 b2 p2 b3 p3 b4 h q1 e1 q2 e2 q3 e3 e4 =
+    let f = factSets (g .serial) (g .clock) (g .account) in
+    let e = energySets (g .counters) in
+    let t = tableSets (g .tables) 24 in
+    let facts : Lines buf at f p1 b1 =
+    record { next = omega (arith, facts-long (g .serial) (g .clock) (g .account) (h .serial) (h .account)); held = e1 } in
+    let energies : Lines b1 p1 e p2 b2 = record { next = omega (arith, energies-long (g .counters)); held = e2 } in
+    let tables : Lines b2 p2 t p3 b3 =
+    record { next = omega (arith, tables-long (g .tables) 24 (omega (arith, h .rows))); held = e3 } in
+    let all = joined f (e ++ t) buf at p1 b1 p3 b3 facts (joined e t b1 p1 p2 b2 p3 b3 energies tables) in
+    and-then buf at (linesOf (f ++ (e ++ t))) b3 p3 (33 ∷ 13 ∷ 10 ∷ []) b4 (all .held) (all .next) e4

@@ -21,7 +21,7 @@ put-asked-requires : tie.Need-put-asked-requires
 put-asked-requires c κs = search needs
 
 seal-requires : tie.Need-seal-requires
-seal-requires c κs = 
+seal-requires c κs =
     let start = c .before .before .before .before .before .before .before .before .before .before .before in
     let a = start .args in
     let first = c .before .before .before .before .before .before .before .put .ensures in
@@ -33,7 +33,7 @@ same-length : tie.Need-same-length
 same-length c = search needs
 
 returns : tie.Need-returns
-returns c = 
+returns c =
     let start = c .before .before .before .before .before .before .before .before .before .before .before .before .before .before in
     let a = start .args in
     let content = askedData (a .g) (a .a) in

@@ -25,7 +25,7 @@ same-length c = search needs
 
 returns : tie.Need-returns
 unfolding passwordAsk frameOf bracketed sealed
-returns c = 
+returns c =
     let start = c .before .before .before .before .before .before .before .before .before .before in
     let written = c .before .before .before .before .before .before .put .ensures in
     let shut = c .before .before .seal .ensures in

@@ -16,7 +16,7 @@ slice-relend-prefix-put-parity : tie.Need-slice-relend-prefix-put-parity
 slice-relend-prefix-put-parity c = search needs
 
 slice-aggregate-put-parity : tie.Need-slice-aggregate-put-parity
-slice-aggregate-put-parity c = 
+slice-aggregate-put-parity c =
     let written = c .before .before .before .put .ensures in
     sym (length-take-le (c .before .before .before .put .result) (c .before .before .before .put .last .0) (rw (written .1, length-stored (c .before .before .before .before .before .before .before .args .buf .now) 0 (c .before .before .before .before .before .before .before .args .s .now)) (omega (arith, written .0, c .before .before .before .before .before .before .before .pre))))
 
@@ -27,7 +27,7 @@ same-length : tie.Need-same-length
 same-length c = search needs
 
 returns : tie.Need-returns
-returns c = 
+returns c =
     let start = c .before .before .before .before .before .before .before .before .before .before in
     let written = c .before .before .before .before .before .before .put .ensures in
     (omega (arith, written .0), rw (c .before .before .put-parity .ensures) (sent-front (start .args .buf .now) (start .args .s .now) (c .before .before .before .before .before .before .put .last .0) (c .before .before .before .before .before .before .put .result) (start .pre) (omega (arith, written .0)) (written .1)))

@@ -20,13 +20,13 @@ array-read-result c = search needs
 
 returns : tie.Need-returns
 unfolding energy
-returns c = 
+returns c =
     let a = c .before .before .args in
     ap (λ (x : ℕ). getD (x ∷ a .c .t1 ∷ a .c .t2 ∷ a .c .t3 ∷ a .c .t4 ∷ []) (a .n) 0) (c .before .total-of .ensures)
 
 returns-2 : tie.Need-returns-2
 unfolding energy
-returns-2 c = 
+returns-2 c =
     let a = c .before .before .args in
     sym (List·getD-eq-default (total (a .c) ∷ a .c .t1 ∷ a .c .t2 ∷ a .c .t3 ∷ a .c .t4 ∷ []) 0 (c .if1 .left))
 

@@ -23,7 +23,7 @@ same-length c = search needs
 
 returns : tie.Need-returns
 unfolding askedSets
-returns c = 
+returns c =
     let start = c .before .before .before .before .before .before .before in
     let a = start .args in
     let e = c .before .before .put-clock-sets .ensures in
@@ -44,7 +44,7 @@ same-length-2 c = search needs
 
 returns-2 : tie.Need-returns-2
 unfolding askedSets
-returns-2 c = 
+returns-2 c =
     let start = c .before .before .before .before .before .before .before .before .before in
     let a = start .args in
     let e = c .before .before .put-serial-set .ensures in
@@ -65,7 +65,7 @@ same-length-3 c = search needs
 
 returns-3 : tie.Need-returns-3
 unfolding askedSets
-returns-3 c = 
+returns-3 c =
     let start = c .before .before .before .before .before .before .before .before .before in
     let a = start .args in
     let e = c .before .before .put-account-set .ensures in
