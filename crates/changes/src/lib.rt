@@ -152,13 +152,33 @@ pub fn count(c: Counters, zone: ZoneNo, wh: u32) -> Counters
 {
     let z = zone.0;
     if z == 1 {
-        return Counters { t1: grow(c.t1, wh), t2: c.t2, t3: c.t3, t4: c.t4 };
+        return Counters {
+            t1: grow(c.t1, wh),
+            t2: c.t2,
+            t3: c.t3,
+            t4: c.t4,
+        };
     }
     if z == 2 {
-        return Counters { t1: c.t1, t2: grow(c.t2, wh), t3: c.t3, t4: c.t4 };
+        return Counters {
+            t1: c.t1,
+            t2: grow(c.t2, wh),
+            t3: c.t3,
+            t4: c.t4,
+        };
     }
     if z == 3 {
-        return Counters { t1: c.t1, t2: c.t2, t3: grow(c.t3, wh), t4: c.t4 };
+        return Counters {
+            t1: c.t1,
+            t2: c.t2,
+            t3: grow(c.t3, wh),
+            t4: c.t4,
+        };
     }
-    Counters { t1: c.t1, t2: c.t2, t3: c.t3, t4: grow(c.t4, wh) }
+    Counters {
+        t1: c.t1,
+        t2: c.t2,
+        t3: c.t3,
+        t4: grow(c.t4, wh),
+    }
 }

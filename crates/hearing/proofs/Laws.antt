@@ -80,15 +80,18 @@ restart-first mode count last c e = go (eqb mode 0) (eqb mode 1) e
     listened false a false true s h = absurd (let z : _≡_ {A = ℕ} 0 1 = cc in omega arith)
     listened false a false false true h = absurd (let z : _≡_ {A = ℕ} 0 1 = cc in omega arith)
     listened false a false false false h = absurd (let z : _≡_ {A = ℕ} 0 1 = cc in omega arith)
+
     framed : (p r : Bool) → eqb c 1 ≡ r → (q s : Bool) → cond p Frame (cond r Restart (cond q Drop (cond s TooLong Hold))) ≡ Restart → eqb c 1 ≡ true
     framed true r a q s h = absurd (let z : _≡_ {A = ℕ} 0 1 = cc in omega arith)
     framed false true a q s h = a
     framed false false a true s h = absurd (let z : _≡_ {A = ℕ} 0 1 = cc in omega arith)
     framed false false a false true h = absurd (let z : _≡_ {A = ℕ} 0 1 = cc in omega arith)
     framed false false a false false h = absurd (let z : _≡_ {A = ℕ} 0 1 = cc in omega arith)
+
     collected : (p : Bool) → cond p Confirm Hold ≡ Restart → ⊥
     collected true h = let z : _≡_ {A = ℕ} 0 1 = cc in omega arith
     collected false h = let z : _≡_ {A = ℕ} 0 1 = cc in omega arith
+
     go : (p q : Bool) → cond p (listening count c) (cond q (confirming count) (framing count last c)) ≡ Restart
         → cond p (false || eqb c 47) (false || (q || eqb c 1)) ≡ true
     go true q h = unfold listening in (listened (eqb c 47) refl (eqb count 0) (eqb c 10) (leb 31 count) h)

@@ -11,8 +11,8 @@ ghost use Rattle.deciding.specs.Verdict.{verdict};
 ghost use Rattle.changes.specs.Changes.{withRegisters, withClock};
 ghost use Rattle.meter.specs.Outcomes.{answerOf};
 ghost use Rattle.meter.specs.Acting.{tried, acted, accountTaken, rowTaken};
-use crate::answers;
 use crate::Answer;
+use crate::answers;
 use changes::in_mode;
 use changes::with_attempts;
 use changes::with_registers;
@@ -36,7 +36,7 @@ fn try_password(m: Meter, reply: &mut [u8]) -> Answer
     if attempts == 3 {
         return answers::refuse(11, m, reply);
     }
-    if text::same(&held[5..13], &password) {
+    if text::same(text::first(text::rest(&held, 5), 8), &password) {
         return answers::accept(in_mode(with_attempts(m, 0), 4), reply);
     }
     answers::refuse(10, with_attempts(m, attempts + 1), reply)
@@ -60,24 +60,32 @@ fn read(m: Meter, a: Ask, reply: &mut [u8]) -> Answer
 
 // The state that a write of the account leaves, the receiver aside.
 fn take_account(m: Meter) -> Meter
+    requires { ⌜ wellFormed m ≡ true ⌝ }
     ensures { λ r. ⌜ r ≡ accountTaken m ⌝ }
 {
     let r = m.receiver;
     let g = m.registers;
     let held = r.held;
-    with_registers(m, changes::with_account(g, changes::ten(&held[6..16])))
+    with_registers(
+        m,
+        changes::with_account(g, changes::ten(text::first(text::rest(&held, 6), 10))),
+    )
 }
 
 // The state that a write of a table leaves, the receiver aside.
 fn take_row(m: Meter, t: TableNo) -> Meter
-    requires { ⌜ (1 ≤ t .0) × (t .0 ≤ 24) ⌝ }
+    requires { ⌜ (wellFormed m ≡ true) × ((1 ≤ t .0) × (t .0 ≤ 24)) ⌝ }
     ensures { λ r. ⌜ r ≡ rowTaken m (t .0) ⌝ }
 {
     let r = m.receiver;
     let g = m.registers;
     let held = r.held;
     let tables = g.tables;
-    with_registers(m, changes::with_tables(g, changes::with_row(tables, t, &held[9..33])))
+    let row = text::first(text::rest(&held, 9), 24);
+    with_registers(
+        m,
+        changes::with_tables(g, changes::with_row(tables, t, row)),
+    )
 }
 
 // The state that a write of the clock leaves.
@@ -90,7 +98,7 @@ fn take_clock(m: Meter, c: Clock) -> Meter
 
 // W1 of a table.
 fn write_row(m: Meter, t: TableNo, reply: &mut [u8]) -> Answer
-    requires { ⌜ 2048 ≤ length (now reply) ⌝ }
+    requires { ⌜ (wellFormed m ≡ true) × (2048 ≤ length (now reply)) ⌝ }
     ensures result { λ r. ⌜ r ≡ answerOf (acted m (Verdict.WriteTable t)) ⌝ }
     ensures held { λ _. ⌜ now (reply .exit) ≡ holding (now (reply .entry)) (onWire (acted m (Verdict.WriteTable t) .reply)) ⌝ }
 {
@@ -126,6 +134,11 @@ pub fn act_on_frame(m: Meter, c: u8, damaged: bool, reply: &mut [u8]) -> Answer
 {
     let r = m.receiver;
     let held = r.held;
-    let v = deciding::decide(m.mode, text::first(&held, r.count as usize), r.mark | damaged, c);
+    let v = deciding::decide(
+        m.mode,
+        text::first(&held, r.count as usize),
+        r.mark | damaged,
+        c,
+    );
     act(m, v, reply)
 }

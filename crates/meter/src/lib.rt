@@ -79,9 +79,8 @@ fn fall_silent(m: Meter, reply: &mut [u8]) -> Answer
     ensures result { λ r. ⌜ r ≡ answerOf (afterSilence m) ⌝ }
     ensures held { λ _. ⌜ now (reply .exit) ≡ holding (now (reply .entry)) (onWire (afterSilence m .reply)) ⌝ }
 {
-    let next = in_mode(m, 0);
     if m.mode == 0 {
-        return answers::quiet(0, next);
+        return answers::quiet(0, in_mode(m, 0));
     }
     if m.mode == 1 {
         let length = replies::refuse(reply);
@@ -89,10 +88,10 @@ fn fall_silent(m: Meter, reply: &mut [u8]) -> Answer
             number: 1,
             length,
             speed: 0,
-            next,
+            next: in_mode(m, 0),
         };
     }
-    answers::quiet(1, next)
+    answers::quiet(1, in_mode(m, 0))
 }
 
 // Eight seconds of silence.

@@ -9,8 +9,8 @@ ghost use Rattle.state.specs.WellFormed.{wellFormed};
 ghost use Rattle.meter.specs.Outcomes.{answerOf};
 ghost use Rattle.meter.specs.Character.{lineEnded, confirmed};
 ghost use Rattle.meter.specs.SignOn.{ourLine, signsOnBy, wantsBlock, wantsProgram};
-use crate::answers;
 use crate::Answer;
+use crate::answers;
 use changes::in_mode;
 use state::Meter;
 

@@ -5,8 +5,8 @@ ghost use Rattle.changes.specs.Changes.{withRegisters, withCounters};
 ghost use Rattle.changes.specs.Zones.{zoneIn, counted, CountersFit};
 ghost use Rattle.meter.specs.Outcomes.{answerOf};
 ghost use Rattle.meter.specs.Events.{tick, pulse, powerUp};
-use crate::answers;
 use crate::Answer;
+use crate::answers;
 use changes::in_mode;
 use changes::with_attempts;
 use changes::with_registers;
@@ -19,7 +19,10 @@ pub fn pass_second(m: Meter) -> Answer
     if state::is_well_formed(m) {
         let g = m.registers;
         let c = g.clock;
-        return answers::quiet(1, with_registers(m, changes::with_clock(g, clock::next_second(c))));
+        return answers::quiet(
+            1,
+            with_registers(m, changes::with_clock(g, clock::next_second(c))),
+        );
     }
     answers::unheard_with(14, m)
 }
@@ -31,7 +34,10 @@ fn count_pulse(m: Meter, wh: u32) -> Meter
 {
     let g = m.registers;
     let c = g.counters;
-    with_registers(m, changes::with_counters(g, changes::count(c, changes::zone_in(g), wh)))
+    with_registers(
+        m,
+        changes::with_counters(g, changes::count(c, changes::zone_in(g), wh)),
+    )
 }
 
 // A pulse of 0 to 1,000,000 Wh.

@@ -33,7 +33,7 @@ formed m h =
       mode = leb-true (m .mode) 4 (and-left (leb (m .mode) 4) (leb (m .attempts) 3) small);
       attempts = leb-true (m .attempts) 3 (and-right (leb (m .mode) 4) (leb (m .attempts) 3) small);
       receiver = and-right (leb (m .mode) 4 && leb (m .attempts) 3) (receiverGood (m .mode) (m .receiver)) rest;
-      registers = and-right ((leb (m .mode) 4 && leb (m .attempts) 3) && receiverGood (m .mode) (m .receiver)) (registersGood (m .registers)) h
+      registers = and-right ((leb (m .mode) 4 && leb (m .attempts) 3) && receiverGood (m .mode) (m .receiver)) (registersGood (m .registers)) h;
     }
 
 pub well-formed : (m : Meter) → Formed m → wellFormed m ≡ true
@@ -65,7 +65,7 @@ formed-registers g h =
       password = and-left p k pk;
       clock = and-right p k pk;
       counters = and-left (countersGood (g .counters)) (tablesGood 24 (g .tables)) rest;
-      tables = and-right (countersGood (g .counters)) (tablesGood 24 (g .tables)) rest
+      tables = and-right (countersGood (g .counters)) (tablesGood 24 (g .tables)) rest;
     }
 
 pub registers-good : (g : Registers) → FormedRegisters g → registersGood g ≡ true
@@ -92,3 +92,29 @@ formed-receiver mode r h =
 pub receiver-good : (mode : ℕ) (r : Receiver) → FormedReceiver mode r → receiverGood mode r ≡ true
 unfolding receiverGood
 receiver-good mode r f = rw (le-leb (r .count) (limit mode) (f .count), f .first, f .mark, f .held)
+
+-- the lengths that are known of a well-formed state
+pub held-long : (mode : ℕ) (r : Receiver) → receiverGood mode r ≡ true → length (r .held) ≡ 63
+unfolding heldGood
+held-long mode r h =
+    eqb-true (length (r .held)) 63 (and-left (eqb (length (r .held)) 63) _ (formed-receiver mode r h .held))
+
+pub record Long (m : Meter) : Type 0 where
+  pub held : length (m .receiver .held) ≡ 63
+  pub serial : length (m .registers .serial) ≡ 10
+  pub account : length (m .registers .account) ≡ 10
+  pub password : length (m .registers .password) ≡ 8
+  pub tables : length (m .registers .tables) ≡ 576
+
+pub long : (m : Meter) → wellFormed m ≡ true → Long m
+unfolding goodDigits goodAccount tablesGood
+long m h =
+    let f = formed m h in
+    let g = formed-registers (m .registers) (f .registers) in
+    record {
+      held = held-long (m .mode) (m .receiver) (f .receiver);
+      serial = eqb-true (length (m .registers .serial)) 10 (and-left (eqb (length (m .registers .serial)) 10) _ (g .serial));
+      account = eqb-true (length (m .registers .account)) 10 (and-left (eqb (length (m .registers .account)) 10) _ (g .account));
+      password = eqb-true (length (m .registers .password)) 8 (and-left (eqb (length (m .registers .password)) 8) _ (g .password));
+      tables = eqb-true (length (m .registers .tables)) 576 (and-left (eqb (length (m .registers .tables)) 576) _ (g .tables));
+    }
