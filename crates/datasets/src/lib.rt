@@ -65,18 +65,19 @@ pub fn put_energy_set(buf: &mut [u8], at: usize, n: u8, wh: u32) -> usize
     text::put(buf, b, b")\r\n")
 }
 
-// A whole row: as the loop's bound is fixed, two moves copy it.
+// A whole row. It is copied out first: two moves each way, as the length is fixed and a local array is apart from the buffer.
 fn put_whole_row(buf: &mut [u8], at: usize, row: &[u8]) -> usize
     requires { ⌜ (length (now row) ≡ 24) × (at + 24 ≤ length (now buf)) ⌝ }
     ensures next { λ r. ⌜ r ≡ at + 24 ⌝ }
     ensures held { λ _. ⌜ now (buf .exit) ≡ stored (now (buf .entry)) at (now (row .entry)) ⌝ }
 {
+    let mut copy = [0u8; 24];
     let mut i = 0;
     while i < 24 {
-        buf[at + i] = row[i];
+        copy[i] = row[i];
         i += 1;
     }
-    at + 24
+    text::put(buf, at, &copy)
 }
 
 // A row of any length.
