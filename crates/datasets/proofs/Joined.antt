@@ -1,11 +1,12 @@
 -- A line put in by three writes: its address with the bracket, its value, and the end. Assumes nothing.
 use mathlib.Core.Path.{_≡_, refl, sym, ap, _∙_}
 use mathlib.Core.List.{List, [], _∷_, _++_, append-assoc}
-use Prim.Native.Nat.{ℕ, _+_}
+use Prim.Native.Nat.{ℕ, _+_, _≤_}
 use native.Mathlib.Omega.{arith}
-use lib.ListN.{length, length-append}
-use Rattle.text.specs.Writing.{stored}
-use Rattle.text.proofs.Writing.{and-then}
+use lib.ListN.{length, take, length-append, drop-of-length-le}
+use lib.Seq.{take-all}
+use Rattle.text.specs.Writing.{stored, holding}
+use Rattle.text.proofs.Writing.{and-then, stored-holding}
 use Rattle.datasets.specs.Sets.{DataSet, dataSet, linesOf, lineOf}
 use Rattle.datasets.proofs.Lengths.{lines-append}
 
@@ -27,14 +28,14 @@ pub record Lines (buf : List ℕ) (at : ℕ) (sets : List DataSet) (place : ℕ)
   pub next : place ≡ at + length (linesOf sets)
   pub held : after ≡ stored buf at (linesOf sets)
 
+append-nil : (l : List ℕ) → l ++ [] ≡ l
+append-nil [] = refl
+append-nil (x ∷ l) = ap (λ (r : List ℕ). x ∷ r) (append-nil l)
+
 pub single : (s : DataSet) (k : ℕ) (buf : List ℕ) (at place : ℕ) (after : List ℕ) → length (lineOf s) ≡ k → place ≡ at + k
     → after ≡ stored buf at (lineOf s) → Lines buf at (s ∷ []) place after
 unfolding linesOf
 single s k buf at place after long p e = record { next = rw (append-nil (lineOf s)) (omega arith); held = rw (append-nil (lineOf s)) e }
-  where
-    append-nil : (l : List ℕ) → l ++ [] ≡ l
-    append-nil [] = refl
-    append-nil (x ∷ l) = ap (λ (r : List ℕ). x ∷ r) (append-nil l)
 
 -- lines after lines
 pub joined : (s t : List DataSet) (buf : List ℕ) (at place : ℕ) (mid : List ℕ) (next : ℕ) (after : List ℕ)
@@ -44,3 +45,9 @@ joined s t buf at place mid next after a b =
       next = rw (lines-append s t, length-append (linesOf s) (linesOf t)) (omega (arith, a .next, b .next));
       held = rw (lines-append s t) (and-then buf at (linesOf s) mid place (linesOf t) after (a .held) (a .next) (b .held));
     }
+
+-- a text as long as the buffer fills it
+pub filled : (buf s : List ℕ) (n : ℕ) → length s ≡ length buf → length s ≤ n → stored buf 0 (take n s) ≡ s
+unfolding holding
+filled buf s n e h =
+    rw (take-all n s h) (stored-holding buf s (omega arith) ∙ (rw (drop-of-length-le buf {i = length s} (omega arith)) (append-nil s)))

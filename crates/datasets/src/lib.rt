@@ -65,6 +65,33 @@ pub fn put_energy_set(buf: &mut [u8], at: usize, n: u8, wh: u32) -> usize
     text::put(buf, b, b")\r\n")
 }
 
+// A whole row. It is copied out first: two moves each way, as the length is fixed and a local array is apart from the buffer.
+fn put_whole_row(buf: &mut [u8], at: usize, row: &[u8]) -> usize
+    requires { ⌜ (length (now row) ≡ 24) × (at + 24 ≤ length (now buf)) ⌝ }
+    ensures next { λ r. ⌜ r ≡ at + 24 ⌝ }
+    ensures held { λ _. ⌜ now (buf .exit) ≡ stored (now (buf .entry)) at (now (row .entry)) ⌝ }
+{
+    let mut copy = [0u8; 24];
+    let mut i = 0;
+    while i < 24 {
+        copy[i] = row[i];
+        i += 1;
+    }
+    text::put(buf, at, &copy)
+}
+
+// A row of any length.
+fn put_row(buf: &mut [u8], at: usize, row: &[u8]) -> usize
+    requires { ⌜ at + length (now row) ≤ length (now buf) ⌝ }
+    ensures next { λ r. ⌜ r ≡ at + length (now (row .entry)) ⌝ }
+    ensures held { λ _. ⌜ now (buf .exit) ≡ stored (now (buf .entry)) at (now (row .entry)) ⌝ }
+{
+    if row.len() == 24 {
+        return put_whole_row(buf, at, row);
+    }
+    text::put(buf, at, row)
+}
+
 // A table's row as `131.0.xx(row)`.
 pub fn put_table_set(buf: &mut [u8], at: usize, t: TableNo, row: &[u8]) -> usize
     requires { ⌜ at + 12 + length (now row) ≤ length (now buf) ⌝ }
@@ -84,6 +111,6 @@ pub fn put_table_set(buf: &mut [u8], at: usize, t: TableNo, row: &[u8]) -> usize
         b'(',
     ];
     let a = text::put(buf, at, &opening);
-    let b = text::put(buf, a, row);
+    let b = put_row(buf, a, row);
     text::put(buf, b, b")\r\n")
 }

@@ -158,3 +158,7 @@ whole g buf at b1 p1 b2 p2 b3 p3 b4 h q1 e1 q2 e2 q3 e3 e4 =
     record { next = omega (arith, tables-long (g .tables) 24 (omega (arith, h .rows))); held = e3 } in
     let all = joined f (e ++ t) buf at p1 b1 p3 b3 facts (joined e t b1 p1 p2 b2 p3 b3 energies tables) in
     and-then buf at (linesOf (f ++ (e ++ t))) b3 p3 (33 ∷ 13 ∷ 10 ∷ []) b4 (all .held) (all .next) e4
+
+-- so every answer to R1 fits, with STX, ETX and BCC
+pub asked-fits : (g : Registers) (a : Ask) → Lengths 24 g → length (blockOf (askedData g a)) ≤ 39
+asked-fits g a h = rw (block-length (askedData g a)) (omega (arith, asked-short g a h))

@@ -23,14 +23,14 @@ slice-aggregate-put c = search needs
 put-requires : tie.Need-put-requires
 put-requires c κs = search needs
 
-put-requires-2 : tie.Need-put-requires-2
-put-requires-2 c κs = search needs
+put-row-requires : tie.Need-put-row-requires
+put-row-requires c κs = search needs
 
 slice-aggregate-put-2 : tie.Need-slice-aggregate-put-2
 slice-aggregate-put-2 c = search needs
 
-put-requires-3 : tie.Need-put-requires-3
-put-requires-3 c κs = search needs
+put-requires-2 : tie.Need-put-requires-2
+put-requires-2 c κs = search needs
 
 same-length : tie.Need-same-length
 same-length c = search needs
@@ -40,8 +40,8 @@ unfolding tableText layoutText decimal
 returns c =
     let start = c .before .before .before .before .before .before .before .before .before .before .before .before .before .before .before .before in
     let opened = c .before .before .before .before .before .before .before .before .before .before .before .put .ensures in
-    let shown = c .before .before .before .before .before .before .before .put2 .ensures in
-    let ended = c .before .before .put3 .ensures in
+    let shown = c .before .before .before .before .before .before .before .put-row .ensures in
+    let ended = c .before .before .put2 .ensures in
     let line = tableSet (start .args .t .0) (start .args .row .now) in (
       omega (arith, opened .0, shown .0, ended .0),
       one-line (line .address) (line .value) (length (start .args .row .now)) (start .args .buf .now) (start .args .at) _ _ _ _ _ refl (opened .0) (opened .1) (shown .0) (shown .1) (ended .1),
@@ -55,8 +55,8 @@ put-table-set-spec =
     add-t14
     slice-aggregate-put
     put-requires
-    put-requires-2
+    put-row-requires
     slice-aggregate-put-2
-    put-requires-3
+    put-requires-2
     same-length
     returns)
