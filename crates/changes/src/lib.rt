@@ -11,6 +11,7 @@ use state::Counters;
 use state::Meter;
 use state::Receiver;
 use state::Registers;
+use values::TableNo;
 use values::ZoneNo;
 
 pub fn with_receiver(m: Meter, r: Receiver) -> Meter
@@ -88,10 +89,11 @@ pub fn ten(s: &[u8]) -> [u8; 10]
 }
 
 // The tables with one row anew.
-pub fn with_row(tables: [u8; 576], n: u8, row: &[u8]) -> [u8; 576]
-    requires { ⌜ ((1 ≤ n) × (n ≤ 24)) × (length (now row) ≡ 24) ⌝ }
-    ensures { λ r. ⌜ r ≡ stored tables ((n - 1) * 24) (now (row .entry)) ⌝ }
+pub fn with_row(tables: [u8; 576], t: TableNo, row: &[u8]) -> [u8; 576]
+    requires { ⌜ ((1 ≤ t .0) × (t .0 ≤ 24)) × (length (now row) ≡ 24) ⌝ }
+    ensures { λ r. ⌜ r ≡ stored tables ((t .0 - 1) * 24) (now (row .entry)) ⌝ }
 {
+    let n = t.0;
     let mut next = tables;
     let at = (n - 1) as usize * 24;
     text::put(&mut next, at, row);
@@ -150,13 +152,33 @@ pub fn count(c: Counters, zone: ZoneNo, wh: u32) -> Counters
 {
     let z = zone.0;
     if z == 1 {
-        return Counters { t1: grow(c.t1, wh), t2: c.t2, t3: c.t3, t4: c.t4 };
+        return Counters {
+            t1: grow(c.t1, wh),
+            t2: c.t2,
+            t3: c.t3,
+            t4: c.t4,
+        };
     }
     if z == 2 {
-        return Counters { t1: c.t1, t2: grow(c.t2, wh), t3: c.t3, t4: c.t4 };
+        return Counters {
+            t1: c.t1,
+            t2: grow(c.t2, wh),
+            t3: c.t3,
+            t4: c.t4,
+        };
     }
     if z == 3 {
-        return Counters { t1: c.t1, t2: c.t2, t3: grow(c.t3, wh), t4: c.t4 };
+        return Counters {
+            t1: c.t1,
+            t2: c.t2,
+            t3: grow(c.t3, wh),
+            t4: c.t4,
+        };
     }
-    Counters { t1: c.t1, t2: c.t2, t3: c.t3, t4: grow(c.t4, wh) }
+    Counters {
+        t1: c.t1,
+        t2: c.t2,
+        t3: c.t3,
+        t4: grow(c.t4, wh),
+    }
 }

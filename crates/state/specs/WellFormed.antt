@@ -22,9 +22,9 @@ limit mode = cond (eqb mode 0) 31 (cond (eqb mode 1) 5 63)
 unfoldable pub firstGood : ℕ → ℕ → ℕ → Bool
 firstGood mode count first = cond (eqb mode 0) (eqb count 0 || eqb first 47) (eqb count 0 || (eqb mode 1 || eqb first 1))
 
--- held characters are 0 to 127, and unused places hold 0
+-- there are 63 places; held characters are 0 to 127, and unused places hold 0
 unfoldable pub heldGood : List ℕ → ℕ → Bool
-heldGood held count = every (between 0 127) held && every (between 0 0) (drop count held)
+heldGood held count = eqb (length held) 63 && (every (between 0 127) held && every (between 0 0) (drop count held))
 
 -- an empty receiver has no mark
 unfoldable pub markGood : ℕ → Bool → Bool

@@ -70,12 +70,13 @@ fn first_good(mode: u8, count: u8, first: u8) -> bool
     (count == 0) | ((mode == 1) | (first == line::SOH))
 }
 
-// Whether the characters are within 0 to 127, and 0 from the count on.
+// Whether there are 63 characters, all within 0 to 127, and 0 from the count on.
 fn held_good(held: &[u8], count: u8) -> bool
     ensures { λ r. ⌜ r ≡ heldGood (now (held .entry)) count ⌝ }
 {
     let n = count as usize;
-    text::all_between(held, 0, 127) & text::all_between(text::rest(held, n), 0, 0)
+    (held.len() == 63)
+        & (text::all_between(held, 0, 127) & text::all_between(text::rest(held, n), 0, 0))
 }
 
 // Whether a receiver is well-formed in a mode.

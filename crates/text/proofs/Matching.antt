@@ -1,6 +1,6 @@
 -- Two texts that are gone through together, and what a match says. Assumes nothing.
 use mathlib.Core.Path.{_≡_, refl, sym, ap, ap₂, _∙_}
-use mathlib.Core.Bool.{Bool, true, false, _&&_, and-true}
+use mathlib.Core.Bool.{Bool, true, false, _&&_, and-true, and-false}
 use mathlib.Core.List.{List, [], _∷_, _++_}
 use Prim.Native.Nat.{ℕ, zero, suc, _+_, _<_, _≤_}
 use native.Mathlib.Omega.{arith}
@@ -65,3 +65,13 @@ pub same-self : (s : List ℕ) → sameText s s ≡ true
 unfolding sameText matching
 same-self [] = refl
 same-self (x ∷ s) = rw (eq-eqb x x refl) (same-self s)
+
+-- the last characters apart
+pub same-snoc : (s t : List ℕ) (a b : ℕ) → sameText (s ++ (a ∷ [])) (t ++ (b ∷ [])) ≡ (sameText s t && eqb a b)
+unfolding sameText matching
+same-snoc [] [] a b = and-true (eqb a b)
+same-snoc [] (y ∷ []) a b = and-false (eqb a y)
+same-snoc [] (y ∷ z ∷ t) a b = and-false (eqb a y)
+same-snoc (x ∷ []) [] a b = and-false (eqb x b)
+same-snoc (x ∷ z ∷ s) [] a b = and-false (eqb x b)
+same-snoc (x ∷ s) (y ∷ t) a b = ap (λ (c : Bool). eqb x y && c) (same-snoc s t a b) ∙ sym (and-assoc (eqb x y) (matching eqb s t) (eqb a b))

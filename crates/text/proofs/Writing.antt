@@ -6,7 +6,7 @@ use native.Mathlib.Nat.{add-zero, add-assoc, zero-add}
 use native.Mathlib.Omega.{arith}
 use native.Mathlib.Numerals.{add-one, one-add}
 use lib.ListN.{length, getD, take, drop, set, length-append, length-set}
-use lib.Seq.{take-suc, length-take-le, sets, sets-eq}
+use lib.Seq.{take-suc, length-take-le, set-out, sets, sets-eq}
 use Rattle.text.specs.Writing.{stored, holding}
 
 pub length-stored : (buf : List ℕ) (at : ℕ) (xs : List ℕ) → length (stored buf at xs) ≡ length buf
@@ -53,3 +53,9 @@ stored-holding buf message h = stored-is buf 0 message (omega arith) ∙ ap (λ 
 pub and-then : (buf : List ℕ) (at : ℕ) (xs mid : List ℕ) (place : ℕ) (ys after : List ℕ)
     → mid ≡ stored buf at xs → place ≡ at + length xs → after ≡ stored mid place ys → after ≡ stored buf at (xs ++ ys)
 and-then buf at xs mid place ys after e p f = rw (f, e, p) (stored-append buf at xs ys)
+
+-- a write past the end changes nothing
+pub stored-out : (buf : List ℕ) (at : ℕ) (xs : List ℕ) → length buf ≤ at → stored buf at xs ≡ buf
+unfolding stored
+stored-out buf at [] h = refl
+stored-out buf at (x ∷ xs) h = rw (set-out buf at x h) (stored-out buf (at + 1) xs (omega arith))

@@ -55,7 +55,7 @@ one-by-one s n =
       left-next 7 s (omega arith),
       left-next 8 s (omega arith),
       left-next 9 s (omega arith),
-      drop-of-length-le s end
+      drop-of-length-le s end,
     )
 
 returns : tie.Need-returns

@@ -1,0 +1,120 @@
+-- Characters of one kind that are also of another, and what that says of a run and of a form's text.
+-- A kind that ends below 128 is compared by a test computed at every character. Assumes nothing.
+use mathlib.Core.Path.{_≡_, refl, sym, ap, _∙_}
+use mathlib.Core.Bool.{Bool, true, false, not, _&&_, _||_}
+use mathlib.Core.List.{List, [], _∷_, _++_}
+use Prim.Native.Nat.{ℕ, zero, suc, _+_, _<_, _≤_}
+use native.Mathlib.Omega.{arith}
+use borrow.Author.Tests.{leb-true, eqb-true}
+use lib.Dec.{eqb, leb}
+use lib.ListN.{length, take, drop}
+use Rattle.line.specs.Runs.{every}
+use Rattle.line.proofs.Runs.{and-left, and-right, and-both, every-append, allBelow, below-all}
+use Rattle.text.specs.Classes.{between, isDigit, isLetter, isPrintable}
+use Rattle.text.specs.Layout.{Piece, digits, fixed, layoutText}
+use Rattle.text.specs.Decimal.{decimal}
+use Rattle.text.proofs.Decimal.{decimal-digits, digit-high}
+use Rattle.values.specs.Registers.{isAccountCharacter}
+use Rattle.datasets.specs.Good.{isAddressCharacter, isValueCharacter}
+
+-- every character of one kind is of the other
+abbrev pub Within : (ℕ → Bool) → (ℕ → Bool) → Type 0
+Within p q = (c : ℕ) → p c ≡ true → q c ≡ true
+
+or-cases : (a b : Bool) {X : Type 0} → (a || b) ≡ true → (a ≡ true → X) → (b ≡ true → X) → X
+or-cases true b e f g = f refl
+or-cases false b e f g = g e
+
+-- a computed test, for kinds that end below 128
+pub within : (p q : ℕ → Bool) → allBelow 128 (λ c. not (p c) || q c) ≡ true → ((c : ℕ) → p c ≡ true → c < 128) → Within p q
+within p q e low c h = so (p c) (q c) (below-all 128 (λ c. not (p c) || q c) e c (low c h)) h
+  where
+    so : (a b : Bool) → (not a || b) ≡ true → a ≡ true → b ≡ true
+    so true b e h = e
+    so false b e h = absurd (let z : _≡_ {A = ℕ} 0 1 = cc in omega arith)
+
+pub every-within : (p q : ℕ → Bool) → Within p q → (s : List ℕ) → every p s ≡ true → every q s ≡ true
+unfolding every
+every-within p q w [] h = refl
+every-within p q w (c ∷ s) h = and-both (q c) (every q s) (w c (and-left (p c) (every p s) h)) (every-within p q w s (and-right (p c) (every p s) h))
+
+pub every-take : (p : ℕ → Bool) (n : ℕ) (s : List ℕ) → every p s ≡ true → every p (take n s) ≡ true
+unfolding every
+every-take p zero s h = refl
+every-take p (suc n) [] h = refl
+every-take p (suc n) (c ∷ s) h = and-both (p c) (every p (take n s)) (and-left (p c) (every p s) h) (every-take p n s (and-right (p c) (every p s) h))
+
+pub every-drop : (p : ℕ → Bool) (n : ℕ) (s : List ℕ) → every p s ≡ true → every p (drop n s) ≡ true
+unfolding every
+every-drop p zero s h = h
+every-drop p (suc n) [] h = refl
+every-drop p (suc n) (c ∷ s) h = every-drop p n s (and-right (p c) (every p s) h)
+
+between-high : (lo hi c : ℕ) → between lo hi c ≡ true → c ≤ hi
+unfolding between
+between-high lo hi c h = leb-true c hi (and-right (leb lo c) (leb c hi) h)
+
+digit-low : (c : ℕ) → isDigit c ≡ true → c < 128
+digit-low c h = omega (arith, digit-high c h)
+
+letter-low : (c : ℕ) → (between 65 90 c || between 97 122 c) ≡ true → c < 128
+letter-low c h =
+    or-cases (between 65 90 c) (between 97 122 c) h (λ k. omega (arith, between-high 65 90 c k)) (λ k. omega (arith, between-high 97 122 c k))
+
+account-low : (c : ℕ) → isAccountCharacter c ≡ true → c < 128
+unfolding isAccountCharacter isLetter
+account-low c h =
+    or-cases ((between 65 90 c || between 97 122 c) || isDigit c) (eqb c 32 || eqb c 95) h
+    (λ k. or-cases (between 65 90 c || between 97 122 c) (isDigit c) k (letter-low c) (digit-low c))
+    (λ k. or-cases (eqb c 32) (eqb c 95) k (λ l. omega (arith, eqb-true c 32 l)) (λ l. omega (arith, eqb-true c 95 l)))
+
+value-low : (c : ℕ) → isValueCharacter c ≡ true → c < 128
+unfolding isValueCharacter isPrintable
+value-low c h = omega (arith, between-high 32 126 c (and-left (between 32 126 c) _ h))
+
+address-low : (c : ℕ) → isAddressCharacter c ≡ true → c < 128
+unfolding isAddressCharacter isLetter
+address-low c h =
+    or-cases ((between 65 90 c || between 97 122 c) || isDigit c) (eqb c 46) h
+    (λ k. or-cases (between 65 90 c || between 97 122 c) (isDigit c) k (letter-low c) (digit-low c))
+    (λ k. omega (arith, eqb-true c 46 k))
+
+pub digit-shown : Within isDigit isValueCharacter
+unfolding isDigit between isValueCharacter isPrintable
+digit-shown = within isDigit isValueCharacter refl digit-low
+
+pub digit-address : Within isDigit isAddressCharacter
+unfolding isDigit between isAddressCharacter isLetter
+digit-address = within isDigit isAddressCharacter refl digit-low
+
+pub account-shown : Within isAccountCharacter isValueCharacter
+unfolding isAccountCharacter isLetter isDigit between isValueCharacter isPrintable
+account-shown = within isAccountCharacter isValueCharacter refl account-low
+
+pub row-shown : Within (between 49 52) isValueCharacter
+unfolding between isValueCharacter isPrintable
+row-shown = within (between 49 52) isValueCharacter refl (λ c h. omega (arith, between-high 49 52 c h))
+
+-- a line's characters: printable, CR and LF
+pub value-line : Within isValueCharacter (between 10 126)
+unfolding isValueCharacter isPrintable between
+value-line = within isValueCharacter (between 10 126) refl value-low
+
+pub address-line : Within isAddressCharacter (between 10 126)
+unfolding isAddressCharacter isLetter isDigit between
+address-line = within isAddressCharacter (between 10 126) refl address-low
+
+-- the fixed pieces of a form are of a kind
+abbrev pub fixedAll : (ℕ → Bool) → List Piece → Bool
+fixedAll p [] = true
+fixedAll p (fixed t ∷ ps) = every p t && fixedAll p ps
+fixedAll p (digits w ∷ ps) = fixedAll p ps
+
+pub layout-within : (p : ℕ → Bool) → Within isDigit p → (ps : List Piece) (ns : List ℕ) → fixedAll p ps ≡ true → every p (layoutText ps ns) ≡ true
+unfolding layoutText
+layout-within p w [] ns h = unfold every in refl
+layout-within p w (fixed t ∷ ps) ns h =
+    every-append p t (layoutText ps ns) (and-left (every p t) (fixedAll p ps) h) (layout-within p w ps ns (and-right (every p t) (fixedAll p ps) h))
+layout-within p w (digits k ∷ ps) [] h = unfold every in refl
+layout-within p w (digits k ∷ ps) (n ∷ ns) h =
+    every-append p (decimal k n) (layoutText ps ns) (every-within isDigit p w (decimal k n) (decimal-digits k n)) (layout-within p w ps ns h)

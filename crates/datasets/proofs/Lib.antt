@@ -1,0 +1,4 @@
+pub mod Lengths
+pub mod Joined
+pub mod Characters
+pub mod Good

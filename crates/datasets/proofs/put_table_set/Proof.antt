@@ -1,0 +1,62 @@
+-- `datasets::put_table_set` meets its contract: the address, the value and the end, put in one after the other. Assumes nothing.
+use mathlib.Core.Path.{refl}
+use lib.ListN.{length}
+use native.Mathlib.Omega.{arith}
+use Rattle.text.specs.Layout.{layoutText}
+use Rattle.text.specs.Decimal.{decimal}
+use Rattle.values.specs.Texts.{tableText}
+use Rattle.datasets.specs.Sets.{tableSet}
+use Rattle.datasets.proofs.Joined.{one-line}
+use borrow.Author.Needs.{needs}
+use Rattle.datasets.proofs.put_table_set.Statement.{statement}
+use Rattle.datasets.proofs.put_table_set.Tie as tie
+
+add-t12 : tie.Need-add-t12
+add-t12 c = search needs
+
+add-t14 : tie.Need-add-t14
+add-t14 c = search needs
+
+slice-aggregate-put : tie.Need-slice-aggregate-put
+slice-aggregate-put c = search needs
+
+put-requires : tie.Need-put-requires
+put-requires c κs = search needs
+
+put-row-requires : tie.Need-put-row-requires
+put-row-requires c κs = search needs
+
+slice-aggregate-put-2 : tie.Need-slice-aggregate-put-2
+slice-aggregate-put-2 c = search needs
+
+put-requires-2 : tie.Need-put-requires-2
+put-requires-2 c κs = search needs
+
+same-length : tie.Need-same-length
+same-length c = search needs
+
+returns : tie.Need-returns
+unfolding tableText layoutText decimal
+returns c =
+    let start = c .before .before .before .before .before .before .before .before .before .before .before .before .before .before .before .before in
+    let opened = c .before .before .before .before .before .before .before .before .before .before .before .put .ensures in
+    let shown = c .before .before .before .before .before .before .before .put-row .ensures in
+    let ended = c .before .before .put2 .ensures in
+    let line = tableSet (start .args .t .0) (start .args .row .now) in (
+      omega (arith, opened .0, shown .0, ended .0),
+      one-line (line .address) (line .value) (length (start .args .row .now)) (start .args .buf .now) (start .args .at) _ _ _ _ _ refl (opened .0) (opened .1) (shown .0) (shown .1) (ended .1),
+    )
+
+pub put-table-set-spec : {M : Type 1} → statement M
+put-table-set-spec =
+    tie.close
+    (tie.spec
+    add-t12
+    add-t14
+    slice-aggregate-put
+    put-requires
+    put-row-requires
+    slice-aggregate-put-2
+    put-requires-2
+    same-length
+    returns)

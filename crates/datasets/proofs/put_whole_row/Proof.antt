@@ -1,0 +1,79 @@
+-- `datasets::put_whole_row` meets its contract: the copy holds the row as far as it was gone through, and in the end is the row. Assumes nothing.
+use mathlib.Core.Path.{_≡_, refl, sym, ap, _∙_}
+use Prim.Native.Nat.{ℕ, _+_, _≤_, _-_}
+use native.Mathlib.Nat.{zero-add}
+use native.Mathlib.Omega.{arith}
+use lib.ListN.{length, getD, take, set, length-set, replicate}
+use Rattle.text.specs.Writing.{stored}
+use Rattle.text.proofs.Writing.{stored-next}
+use Rattle.datasets.proofs.Joined.{filled}
+use Rattle.datasets.proofs.put_whole_row.Statement.{statement}
+use Rattle.datasets.proofs.put_whole_row.Tie as tie
+
+abbrev Inv-loop : tie.InvT-loop
+Inv-loop buf at row copy₀ i₀ copy i = (i ≤ 24) × (length copy ≡ 24) × (copy ≡ stored (replicate 24 0) 0 (take i row))
+
+abbrev μ-loop : tie.MeasureT-loop
+μ-loop buf at row copy₀ i₀ copy i = 24 - i
+
+loop-holds : tie.Need-loop-holds Inv-loop μ-loop
+unfolding stored
+loop-holds c = (omega arith, refl, refl)
+
+shared-slice-read-copy : tie.Need-shared-slice-read-copy Inv-loop μ-loop
+shared-slice-read-copy c = omega arith
+
+array-write-copy : tie.Need-array-write-copy Inv-loop μ-loop
+array-write-copy c = omega arith
+
+add-i : tie.Need-add-i Inv-loop μ-loop
+add-i c = omega arith
+
+loop-less : tie.Need-loop-less Inv-loop μ-loop
+loop-less c = omega arith
+
+loop-again : tie.Need-loop-again Inv-loop μ-loop
+loop-again c =
+    let turn = c .before .before .loop in
+    let i = turn .i in
+    let row = c .before .before .before .before .before .args .row .now in
+    let place : i ≡ 0 + i = sym (zero-add i) in (
+      omega arith,
+      simp length-set (turn .inv .1),
+      rw (turn .inv .2) (ap (λ (k : ℕ). set (stored (replicate 24 0) 0 (take i row)) k (getD row i 0)) place ∙ stored-next (replicate 24 0) 0 row i (omega arith)),
+    )
+
+slice-aggregate-put : tie.Need-slice-aggregate-put Inv-loop μ-loop
+slice-aggregate-put c = sym (c .before .before .before .loop .inv .1)
+
+put-requires : tie.Need-put-requires Inv-loop μ-loop
+put-requires c κs = omega (arith, c .before .before .before .loop .inv .1)
+
+same-length : tie.Need-same-length Inv-loop μ-loop
+same-length c = omega arith
+
+returns : tie.Need-returns Inv-loop μ-loop
+returns c =
+    let start = c .before .before .before .before .before .before .before .before .before in
+    let turn = c .before .before .before .before .before .before .loop in
+    let row = start .args .row .now in
+    let put = c .before .before .put .ensures in
+    let done : turn .copy ≡ row = turn .inv .2 ∙ filled (replicate 24 0) row (turn .i) (omega arith) (omega arith) in
+    (omega (arith, put .0, turn .inv .1), put .1 ∙ ap (stored (start .args .buf .now) (start .args .at)) done)
+
+pub put-whole-row-spec : {M : Type 1} → statement M
+put-whole-row-spec =
+    tie.close
+    (tie.spec
+    Inv-loop
+    μ-loop
+    loop-holds
+    shared-slice-read-copy
+    array-write-copy
+    add-i
+    loop-less
+    loop-again
+    slice-aggregate-put
+    put-requires
+    same-length
+    returns)

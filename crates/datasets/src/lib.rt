@@ -1,0 +1,116 @@
+// Data sets: each value that a meter shows as its line, `address(value)` CR LF, put into a lent buffer.
+// Each function gives the place after its line.
+ghost use mathlib.Core.Path.{_≡_};
+ghost use Prim.Native.Nat.{_+_, _≤_};
+ghost use lib.ListN.{length};
+ghost use Rattle.text.specs.Writing.{stored};
+ghost use Rattle.datasets.specs.Sets.{lineOf, timeSet, dateSet, serialSet, accountSet, energySet, tableSet};
+use clock::Date;
+use clock::Time;
+use values::TableNo;
+
+// A time as `0.9.1(hh:nn:ss)`.
+pub fn put_time_set(buf: &mut [u8], at: usize, time: Time) -> usize
+    requires { ⌜ at + 17 ≤ length (now buf) ⌝ }
+    ensures next { λ r. ⌜ r ≡ at + 17 ⌝ }
+    ensures held { λ _. ⌜ now (buf .exit) ≡ stored (now (buf .entry)) at (lineOf (timeSet time)) ⌝ }
+{
+    let a = text::put(buf, at, b"0.9.1(");
+    let b = values::writing::put_time(buf, a, time);
+    text::put(buf, b, b")\r\n")
+}
+
+// A date as `0.9.2(yy-mm-dd)`.
+pub fn put_date_set(buf: &mut [u8], at: usize, date: Date) -> usize
+    requires { ⌜ at + 17 ≤ length (now buf) ⌝ }
+    ensures next { λ r. ⌜ r ≡ at + 17 ⌝ }
+    ensures held { λ _. ⌜ now (buf .exit) ≡ stored (now (buf .entry)) at (lineOf (dateSet date)) ⌝ }
+{
+    let a = text::put(buf, at, b"0.9.2(");
+    let b = values::writing::put_date(buf, a, date);
+    text::put(buf, b, b")\r\n")
+}
+
+// A serial as `C.1.0(nnn nnnnnnn)`.
+pub fn put_serial_set(buf: &mut [u8], at: usize, s: &[u8]) -> usize
+    requires { ⌜ (length (now s) ≡ 10) × (at + 20 ≤ length (now buf)) ⌝ }
+    ensures next { λ r. ⌜ r ≡ at + 20 ⌝ }
+    ensures held { λ _. ⌜ now (buf .exit) ≡ stored (now (buf .entry)) at (lineOf (serialSet (now (s .entry)))) ⌝ }
+{
+    let a = text::put(buf, at, b"C.1.0(");
+    let b = values::writing::put_serial(buf, a, s);
+    text::put(buf, b, b")\r\n")
+}
+
+// An account as `0.0.0(account)`.
+pub fn put_account_set(buf: &mut [u8], at: usize, s: &[u8]) -> usize
+    requires { ⌜ (length (now s) ≡ 10) × (at + 19 ≤ length (now buf)) ⌝ }
+    ensures next { λ r. ⌜ r ≡ at + 19 ⌝ }
+    ensures held { λ _. ⌜ now (buf .exit) ≡ stored (now (buf .entry)) at (lineOf (accountSet (now (s .entry)))) ⌝ }
+{
+    let a = text::put(buf, at, b"0.0.0(");
+    let b = text::put(buf, a, s);
+    text::put(buf, b, b")\r\n")
+}
+
+// A counter's Wh as `15.8.n(eeeeee.eee*kWh)`.
+pub fn put_energy_set(buf: &mut [u8], at: usize, n: u8, wh: u32) -> usize
+    requires { ⌜ at + 24 ≤ length (now buf) ⌝ }
+    ensures next { λ r. ⌜ r ≡ at + 24 ⌝ }
+    ensures held { λ _. ⌜ now (buf .exit) ≡ stored (now (buf .entry)) at (lineOf (energySet n wh)) ⌝ }
+{
+    let opening = [b'1', b'5', b'.', b'8', b'.', 48 + n % 10, b'('];
+    let a = text::put(buf, at, &opening);
+    let b = values::writing::put_counter(buf, a, wh);
+    text::put(buf, b, b")\r\n")
+}
+
+// A whole row. It is copied out first: two moves each way, as the length is fixed and a local array is apart from the buffer.
+fn put_whole_row(buf: &mut [u8], at: usize, row: &[u8]) -> usize
+    requires { ⌜ (length (now row) ≡ 24) × (at + 24 ≤ length (now buf)) ⌝ }
+    ensures next { λ r. ⌜ r ≡ at + 24 ⌝ }
+    ensures held { λ _. ⌜ now (buf .exit) ≡ stored (now (buf .entry)) at (now (row .entry)) ⌝ }
+{
+    let mut copy = [0u8; 24];
+    let mut i = 0;
+    while i < 24 {
+        copy[i] = row[i];
+        i += 1;
+    }
+    text::put(buf, at, &copy)
+}
+
+// A row of any length.
+fn put_row(buf: &mut [u8], at: usize, row: &[u8]) -> usize
+    requires { ⌜ at + length (now row) ≤ length (now buf) ⌝ }
+    ensures next { λ r. ⌜ r ≡ at + length (now (row .entry)) ⌝ }
+    ensures held { λ _. ⌜ now (buf .exit) ≡ stored (now (buf .entry)) at (now (row .entry)) ⌝ }
+{
+    if row.len() == 24 {
+        return put_whole_row(buf, at, row);
+    }
+    text::put(buf, at, row)
+}
+
+// A table's row as `131.0.xx(row)`.
+pub fn put_table_set(buf: &mut [u8], at: usize, t: TableNo, row: &[u8]) -> usize
+    requires { ⌜ at + 12 + length (now row) ≤ length (now buf) ⌝ }
+    ensures next { λ r. ⌜ r ≡ at + 12 + length (now (row .entry)) ⌝ }
+    ensures held { λ _. ⌜ now (buf .exit) ≡ stored (now (buf .entry)) at (lineOf (tableSet (t .0) (now (row .entry)))) ⌝ }
+{
+    let n = t.0;
+    let opening = [
+        b'1',
+        b'3',
+        b'1',
+        b'.',
+        b'0',
+        b'.',
+        48 + n / 10 % 10,
+        48 + n % 10,
+        b'(',
+    ];
+    let a = text::put(buf, at, &opening);
+    let b = put_row(buf, a, row);
+    text::put(buf, b, b")\r\n")
+}

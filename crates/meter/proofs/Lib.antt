@@ -1,0 +1,2 @@
+pub mod SignOn
+pub mod Known

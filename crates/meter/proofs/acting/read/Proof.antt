@@ -1,0 +1,22 @@
+-- `meter::acting::read` meets its contract: each way out is the case of the definition that its tests name. Assumes nothing.
+use Rattle.text.specs.Writing.{holding}
+use Rattle.meter.specs.Acting.{acted}
+use borrow.Author.Needs.{needs}
+use Rattle.meter.proofs.acting.read.Statement.{statement}
+use Rattle.meter.proofs.acting.read.Tie as tie
+
+answer-requires : tie.Need-answer-requires
+answer-requires c κs = search needs
+
+in-mode-requires : tie.Need-in-mode-requires
+in-mode-requires c κs = search needs
+
+same-length : tie.Need-same-length
+same-length c = search needs
+
+returns : tie.Need-returns
+unfolding acted holding
+returns c = (rw (c .in-mode .ensures, c .before .before .before .answer .ensures .0), (c .before .before .before .answer .ensures .1))
+
+pub read-spec : {M : Type 1} → statement M
+read-spec = tie.close (tie.spec answer-requires in-mode-requires same-length returns)

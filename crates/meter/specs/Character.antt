@@ -1,0 +1,57 @@
+-- Document 01, "Receiving": a received character.
+use mathlib.Core.Bool.{Bool, cond, _||_}
+use mathlib.Core.List.{List}
+use Prim.Native.Nat.{ℕ}
+use lib.Dec.{eqb, ltb}
+use Rattle.line.specs.Characters.{damagedAt, seven}
+use Rattle.frames.specs.Frames.{blockOf}
+use Rattle.state.specs.declared.Meter.{Meter}
+use Rattle.state.specs.WellFormed.{wellFormed}
+use Rattle.state.specs.Making.{emptyReceiver}
+use Rattle.hearing.specs.declared.Hearing.{Hearing}
+use Rattle.hearing.specs.declared.Hearing.the-variants.{Drop, Hold, Restart, Empty, Line, Confirm, Frame, TooLong}
+use Rattle.hearing.specs.Hearing.{hearing}
+use Rattle.hearing.specs.Receivers.{heldText, lastHeld, keptReceiver, restartedReceiver}
+use Rattle.deciding.specs.Verdict.{verdict}
+use Rattle.replies.specs.Block.{blockData}
+use Rattle.replies.specs.Fixed.{identification, passwordAsk}
+use Rattle.changes.specs.Changes.{withReceiver, inMode}
+use Rattle.meter.specs.Outcomes.{Outcome, silent, unheard, saying, nak}
+use Rattle.meter.specs.SignOn.{signsOnBy, wantsBlock, wantsProgram}
+use Rattle.meter.specs.Acting.{acted}
+
+-- a damaged character is held as 0
+unfoldable pub symbol : ℕ → ℕ
+symbol b = cond (damagedAt b) 0 (seven b)
+
+-- an unmarked line that signs on is answered at speed 0, then mode 1; any other line: empty, answer 0
+unfoldable pub lineEnded : Meter → Outcome
+lineEnded m =
+    cond (m .receiver .mark) (silent 0 (inMode m 0))
+    (cond (signsOnBy (heldText (m .receiver)) (m .registers .serial)) (saying 1 0 identification (inMode m 1))
+    (silent 0 (inMode m 0)))
+
+-- six characters, the last of them c: unmarked ACK 0 5 Y CR LF
+unfoldable pub confirmed : Meter → ℕ → Bool → Outcome
+confirmed m c damaged =
+    cond (m .receiver .mark || damaged) (silent 2 (inMode m 0))
+    (cond (wantsBlock (heldText (m .receiver)) c) (saying 1 5 (blockOf (blockData 24 (m .registers))) (inMode m 0))
+    (cond (wantsProgram (heldText (m .receiver)) c) (saying 1 5 passwordAsk (inMode m 2))
+    (silent 2 (inMode m 0))))
+
+unfoldable pub heard : Meter → ℕ → Bool → Hearing → Outcome
+heard m c damaged Drop = silent 0 m
+heard m c damaged Hold = silent 0 (withReceiver m (keptReceiver (m .receiver) c damaged))
+heard m c damaged Restart = silent 0 (withReceiver m (restartedReceiver c))
+heard m c damaged Empty = silent 0 (withReceiver m emptyReceiver)
+heard m c damaged Line = lineEnded m
+heard m c damaged Confirm = confirmed m c damaged
+heard m c damaged Frame = acted m (verdict (m .mode) (heldText (m .receiver)) (m .receiver .mark || damaged) c)
+heard m c damaged TooLong = nak 5 m
+
+unfoldable pub taken : Meter → ℕ → Outcome
+taken m b = heard m (symbol b) (damagedAt b) (hearing (m .mode) (m .receiver .count) (lastHeld (m .receiver)) (symbol b))
+
+-- a reply buffer under 2,048 gives 12, then a malformed state 14
+unfoldable pub character : Meter → ℕ → ℕ → Outcome
+character m room b = cond (ltb room 2048) (unheard 12 m) (cond (wellFormed m) (taken m b) (unheard 14 m))

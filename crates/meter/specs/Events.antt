@@ -1,0 +1,34 @@
+-- Document 01, "Other events": silence, tick, pulse and power-up.
+use mathlib.Core.Bool.{cond}
+use mathlib.Core.List.{[]}
+use Prim.Native.Nat.{ℕ}
+use lib.Dec.{eqb, ltb}
+use Rattle.clock.specs.Seconds.{nextSecond}
+use Rattle.state.specs.declared.Meter.{Meter}
+use Rattle.state.specs.WellFormed.{wellFormed}
+use Rattle.changes.specs.Changes.{inMode, withAttempts, withRegisters, withClock, withCounters}
+use Rattle.changes.specs.Zones.{zoneIn, counted}
+use Rattle.replies.specs.Fixed.{refused}
+use Rattle.meter.specs.Outcomes.{Outcome, silent, unheard, saying}
+
+-- mode 1 replies NAK at speed 0 and goes to mode 0; modes 2 to 4 go to mode 0 unanswered; mode 0 empties the receiver
+unfoldable pub afterSilence : Meter → Outcome
+afterSilence m = cond (eqb (m .mode) 0) (silent 0 (inMode m 0)) (cond (eqb (m .mode) 1) (saying 1 0 refused (inMode m 0)) (silent 1 (inMode m 0)))
+
+unfoldable pub silence : Meter → ℕ → Outcome
+silence m room = cond (ltb room 2048) (unheard 12 m) (cond (wellFormed m) (afterSilence m) (unheard 14 m))
+
+-- one second
+unfoldable pub tick : Meter → Outcome
+tick m = cond (wellFormed m) (silent 1 (withRegisters m (withClock (m .registers) (nextSecond (m .registers .clock))))) (unheard 14 m)
+
+-- 0 to 1,000,000 Wh
+unfoldable pub pulse : Meter → ℕ → Outcome
+pulse m wh =
+    cond (ltb 1000000 wh) (unheard 13 m)
+    (cond (wellFormed m) (silent 1 (withRegisters m (withCounters (m .registers) (counted (m .registers .counters) (zoneIn (m .registers)) wh))))
+    (unheard 14 m))
+
+-- mode 0, empty receiver, attempts 0
+unfoldable pub powerUp : Meter → Outcome
+powerUp m = cond (wellFormed m) (silent 1 (withAttempts (inMode m 0) 0)) (unheard 14 m)

@@ -1,0 +1,5 @@
+pub mod Outcomes
+pub mod Acting
+pub mod SignOn
+pub mod Character
+pub mod Events

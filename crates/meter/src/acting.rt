@@ -1,0 +1,144 @@
+// What a decision does: the reply, and the one thing that changes.
+ghost use mathlib.Core.Path.{_≡_};
+ghost use mathlib.Core.Bool.{true, _||_};
+ghost use Prim.Native.Nat.{_≤_};
+ghost use lib.ListN.{length};
+ghost use Rattle.text.specs.Writing.{holding};
+ghost use Rattle.frames.specs.Frames.{onWire};
+ghost use Rattle.state.specs.WellFormed.{wellFormed};
+ghost use Rattle.hearing.specs.Receivers.{heldText};
+ghost use Rattle.deciding.specs.Verdict.{verdict};
+ghost use Rattle.changes.specs.Changes.{withRegisters, withClock};
+ghost use Rattle.meter.specs.Outcomes.{answerOf};
+ghost use Rattle.meter.specs.Acting.{tried, acted, accountTaken, rowTaken};
+use crate::Answer;
+use crate::answers;
+use changes::in_mode;
+use changes::with_attempts;
+use changes::with_registers;
+use clock::Clock;
+use deciding::Verdict;
+use replies::Ask;
+use state::Meter;
+use values::TableNo;
+
+// P1 with eight digits.
+fn try_password(m: Meter, reply: &mut [u8]) -> Answer
+    requires { ⌜ (wellFormed m ≡ true) × (2048 ≤ length (now reply)) ⌝ }
+    ensures result { λ r. ⌜ r ≡ answerOf (tried m) ⌝ }
+    ensures held { λ _. ⌜ now (reply .exit) ≡ holding (now (reply .entry)) (onWire (tried m .reply)) ⌝ }
+{
+    let r = m.receiver;
+    let g = m.registers;
+    let held = r.held;
+    let password = g.password;
+    let attempts = m.attempts;
+    if attempts == 3 {
+        return answers::refuse(11, m, reply);
+    }
+    if text::same(text::first(text::rest(&held, 5), 8), &password) {
+        return answers::accept(in_mode(with_attempts(m, 0), 4), reply);
+    }
+    answers::refuse(10, with_attempts(m, attempts + 1), reply)
+}
+
+// R1: the data asked for.
+fn read(m: Meter, a: Ask, reply: &mut [u8]) -> Answer
+    requires { ⌜ (wellFormed m ≡ true) × (2048 ≤ length (now reply)) ⌝ }
+    ensures result { λ r. ⌜ r ≡ answerOf (acted m (Verdict.Read a)) ⌝ }
+    ensures held { λ _. ⌜ now (reply .exit) ≡ holding (now (reply .entry)) (onWire (acted m (Verdict.Read a) .reply)) ⌝ }
+{
+    let g = m.registers;
+    let length = replies::answer(reply, g, a);
+    Answer {
+        number: 1,
+        length,
+        speed: 5,
+        next: in_mode(m, m.mode),
+    }
+}
+
+// The state that a write of the account leaves, the receiver aside.
+fn take_account(m: Meter) -> Meter
+    requires { ⌜ wellFormed m ≡ true ⌝ }
+    ensures { λ r. ⌜ r ≡ accountTaken m ⌝ }
+{
+    let r = m.receiver;
+    let g = m.registers;
+    let held = r.held;
+    with_registers(
+        m,
+        changes::with_account(g, changes::ten(text::first(text::rest(&held, 6), 10))),
+    )
+}
+
+// The state that a write of a table leaves, the receiver aside.
+fn take_row(m: Meter, t: TableNo) -> Meter
+    requires { ⌜ (wellFormed m ≡ true) × ((1 ≤ t .0) × (t .0 ≤ 24)) ⌝ }
+    ensures { λ r. ⌜ r ≡ rowTaken m (t .0) ⌝ }
+{
+    let r = m.receiver;
+    let g = m.registers;
+    let held = r.held;
+    let tables = g.tables;
+    let row = text::first(text::rest(&held, 9), 24);
+    with_registers(
+        m,
+        changes::with_tables(g, changes::with_row(tables, t, row)),
+    )
+}
+
+// The state that a write of the clock leaves.
+fn take_clock(m: Meter, c: Clock) -> Meter
+    ensures { λ r. ⌜ r ≡ withRegisters m (withClock (m .registers) c) ⌝ }
+{
+    let g = m.registers;
+    with_registers(m, changes::with_clock(g, c))
+}
+
+// W1 of a table.
+fn write_row(m: Meter, t: TableNo, reply: &mut [u8]) -> Answer
+    requires { ⌜ (wellFormed m ≡ true) × (2048 ≤ length (now reply)) ⌝ }
+    ensures result { λ r. ⌜ r ≡ answerOf (acted m (Verdict.WriteTable t)) ⌝ }
+    ensures held { λ _. ⌜ now (reply .exit) ≡ holding (now (reply .entry)) (onWire (acted m (Verdict.WriteTable t) .reply)) ⌝ }
+{
+    if values::is_table(t, values::TABLES) {
+        return answers::accept(in_mode(take_row(m, t), m.mode), reply);
+    }
+    answers::refuse(9, m, reply)
+}
+
+// What a decision does.
+fn act(m: Meter, v: Verdict, reply: &mut [u8]) -> Answer
+    requires { ⌜ (wellFormed m ≡ true) × (2048 ≤ length (now reply)) ⌝ }
+    ensures result { λ r. ⌜ r ≡ answerOf (acted m v) ⌝ }
+    ensures held { λ _. ⌜ now (reply .exit) ≡ holding (now (reply .entry)) (onWire (acted m v .reply)) ⌝ }
+{
+    match v {
+        Verdict::Refuse(n) => answers::refuse(n, m, reply),
+        Verdict::Leave => answers::accept(in_mode(m, 0), reply),
+        Verdict::Enter => answers::accept(in_mode(m, 3), reply),
+        Verdict::Password => try_password(m, reply),
+        Verdict::Read(a) => read(m, a, reply),
+        Verdict::WriteClock(c) => answers::accept(in_mode(take_clock(m, c), m.mode), reply),
+        Verdict::WriteAccount => answers::accept(in_mode(take_account(m), m.mode), reply),
+        Verdict::WriteTable(t) => write_row(m, t, reply),
+    }
+}
+
+// A frame is whole: its held characters, and c as its BCC.
+pub fn act_on_frame(m: Meter, c: u8, damaged: bool, reply: &mut [u8]) -> Answer
+    requires { ⌜ (wellFormed m ≡ true) × (2048 ≤ length (now reply)) ⌝ }
+    ensures result { λ r. ⌜ r ≡ answerOf (acted m (verdict (m .mode) (heldText (m .receiver)) (m .receiver .mark || damaged) c)) ⌝ }
+    ensures held { λ _. ⌜ now (reply .exit) ≡ holding (now (reply .entry)) (onWire (acted m (verdict (m .mode) (heldText (m .receiver)) (m .receiver .mark || damaged) c) .reply)) ⌝ }
+{
+    let r = m.receiver;
+    let held = r.held;
+    let v = deciding::decide(
+        m.mode,
+        text::first(&held, r.count as usize),
+        r.mark | damaged,
+        c,
+    );
+    act(m, v, reply)
+}

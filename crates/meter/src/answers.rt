@@ -1,0 +1,78 @@
+// Answers of one kind each.
+ghost use mathlib.Core.Path.{_≡_};
+ghost use Prim.Native.Nat.{_≤_};
+ghost use lib.ListN.{length};
+ghost use Rattle.text.specs.Writing.{holding};
+ghost use Rattle.frames.specs.Frames.{onWire};
+ghost use Rattle.replies.specs.Fixed.{accepted, refused};
+ghost use Rattle.meter.specs.Outcomes.{answerOf, speedOf, fallen, silent, unheard, nak, ack};
+use crate::Answer;
+use changes::in_mode;
+use state::Meter;
+
+// Speed identifier 0 in modes 0 and 1, else 5.
+pub fn speed_of(mode: u8) -> u8
+    ensures { λ r. ⌜ r ≡ speedOf mode ⌝ }
+{
+    if 2 <= mode { 5 } else { 0 }
+}
+
+// No reply; the speed is the next state's.
+pub fn quiet(number: u8, next: Meter) -> Answer
+    ensures { λ r. ⌜ r ≡ answerOf (silent number next) ⌝ }
+{
+    Answer {
+        number,
+        length: 0,
+        speed: speed_of(next.mode),
+        next,
+    }
+}
+
+// Nothing changed.
+pub fn unheard_with(number: u8, m: Meter) -> Answer
+    ensures { λ r. ⌜ r ≡ answerOf (unheard number m) ⌝ }
+{
+    Answer {
+        number,
+        length: 0,
+        speed: 0,
+        next: m,
+    }
+}
+
+fn fall(mode: u8) -> u8
+    ensures { λ r. ⌜ r ≡ fallen mode ⌝ }
+{
+    if mode == 2 { 0 } else { mode }
+}
+
+// NAK at speed 5; mode 2 falls to mode 0.
+pub fn refuse(number: u8, m: Meter, reply: &mut [u8]) -> Answer
+    requires { ⌜ 1 ≤ length (now reply) ⌝ }
+    ensures result { λ r. ⌜ r ≡ answerOf (nak number m) ⌝ }
+    ensures held { λ _. ⌜ now (reply .exit) ≡ holding (now (reply .entry)) (onWire refused) ⌝ }
+{
+    let length = replies::refuse(reply);
+    Answer {
+        number,
+        length,
+        speed: 5,
+        next: in_mode(m, fall(m.mode)),
+    }
+}
+
+// ACK at speed 5.
+pub fn accept(next: Meter, reply: &mut [u8]) -> Answer
+    requires { ⌜ 1 ≤ length (now reply) ⌝ }
+    ensures result { λ r. ⌜ r ≡ answerOf (ack next) ⌝ }
+    ensures held { λ _. ⌜ now (reply .exit) ≡ holding (now (reply .entry)) (onWire accepted) ⌝ }
+{
+    let length = replies::acknowledge(reply);
+    Answer {
+        number: 1,
+        length,
+        speed: 5,
+        next,
+    }
+}

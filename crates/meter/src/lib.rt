@@ -1,0 +1,109 @@
+// The meter: each event gives the answer, the reply and the next state that document 01 rules, for any byte, state and buffer.
+ghost use mathlib.Core.Path.{_≡_};
+ghost use mathlib.Core.Bool.{true};
+ghost use Prim.Native.Nat.{_≤_};
+ghost use lib.ListN.{length};
+ghost use Rattle.text.specs.Writing.{holding};
+ghost use Rattle.frames.specs.Frames.{onWire};
+ghost use Rattle.state.specs.WellFormed.{wellFormed};
+ghost use Rattle.meter.specs.Outcomes.{Outcome, answerOf, silent, unheard};
+ghost use Rattle.meter.specs.Character.{symbol, taken, character};
+ghost use Rattle.meter.specs.Events.{afterSilence, silence, tick, pulse, powerUp};
+use changes::in_mode;
+use changes::with_receiver;
+use hearing::Hearing;
+use state::Meter;
+
+mod acting;
+mod answers;
+mod lines;
+pub mod passing;
+
+// What an event with a reply buffer gives: the number, the reply's length, its speed, and the next state.
+pub struct Answer {
+    pub number: u8,
+    pub length: usize,
+    pub speed: u8,
+    pub next: Meter,
+}
+
+// A character of a wire byte; a damaged one is taken as 0.
+fn symbol_of(b: u8) -> u8
+    ensures { λ r. ⌜ r ≡ symbol b ⌝ }
+{
+    if line::damaged(b) {
+        return 0;
+    }
+    line::character(b)
+}
+
+// A character, taken by a well-formed meter with room for any reply.
+fn take(m: Meter, b: u8, reply: &mut [u8]) -> Answer
+    requires { ⌜ (wellFormed m ≡ true) × (2048 ≤ length (now reply)) ⌝ }
+    ensures result { λ r. ⌜ r ≡ answerOf (taken m b) ⌝ }
+    ensures held { λ _. ⌜ now (reply .exit) ≡ holding (now (reply .entry)) (onWire (taken m b .reply)) ⌝ }
+{
+    let damaged = line::damaged(b);
+    let c = symbol_of(b);
+    let r = m.receiver;
+    let h = hearing::hear(m.mode, r.count, hearing::last_held(r), c);
+    match h {
+        Hearing::Drop => answers::quiet(0, m),
+        Hearing::Hold => answers::quiet(0, with_receiver(m, hearing::keep(r, c, damaged))),
+        Hearing::Restart => answers::quiet(0, with_receiver(m, hearing::restart(c))),
+        Hearing::Empty => answers::quiet(0, with_receiver(m, hearing::empty())),
+        Hearing::Line => lines::end_line(m, reply),
+        Hearing::Confirm => lines::confirm(m, c, damaged, reply),
+        Hearing::Frame => acting::act_on_frame(m, c, damaged, reply),
+        Hearing::TooLong => answers::refuse(5, m, reply),
+    }
+}
+
+// A received character.
+pub fn receive(m: Meter, b: u8, reply: &mut [u8]) -> Answer
+    ensures result { λ r. ⌜ r ≡ answerOf (character m (length (now (reply .entry))) b) ⌝ }
+    ensures held { λ _. ⌜ now (reply .exit) ≡ holding (now (reply .entry)) (onWire (character m (length (now (reply .entry))) b .reply)) ⌝ }
+{
+    if reply.len() < 2048 {
+        return answers::unheard_with(12, m);
+    }
+    if state::is_well_formed(m) {
+        return take(m, b, reply);
+    }
+    answers::unheard_with(14, m)
+}
+
+// Silence, met by a well-formed meter with room for the reply.
+fn fall_silent(m: Meter, reply: &mut [u8]) -> Answer
+    requires { ⌜ 2048 ≤ length (now reply) ⌝ }
+    ensures result { λ r. ⌜ r ≡ answerOf (afterSilence m) ⌝ }
+    ensures held { λ _. ⌜ now (reply .exit) ≡ holding (now (reply .entry)) (onWire (afterSilence m .reply)) ⌝ }
+{
+    if m.mode == 0 {
+        return answers::quiet(0, in_mode(m, 0));
+    }
+    if m.mode == 1 {
+        let length = replies::refuse(reply);
+        return Answer {
+            number: 1,
+            length,
+            speed: 0,
+            next: in_mode(m, 0),
+        };
+    }
+    answers::quiet(1, in_mode(m, 0))
+}
+
+// Eight seconds of silence.
+pub fn hear_nothing(m: Meter, reply: &mut [u8]) -> Answer
+    ensures result { λ r. ⌜ r ≡ answerOf (silence m (length (now (reply .entry)))) ⌝ }
+    ensures held { λ _. ⌜ now (reply .exit) ≡ holding (now (reply .entry)) (onWire (silence m (length (now (reply .entry))) .reply)) ⌝ }
+{
+    if reply.len() < 2048 {
+        return answers::unheard_with(12, m);
+    }
+    if state::is_well_formed(m) {
+        return fall_silent(m, reply);
+    }
+    answers::unheard_with(14, m)
+}

@@ -1,0 +1,111 @@
+// A line that ended in mode 0, and six characters of confirmation in mode 1.
+ghost use mathlib.Core.Path.{_≡_};
+ghost use mathlib.Core.Bool.{true};
+ghost use Prim.Native.Nat.{_≤_};
+ghost use lib.ListN.{length};
+ghost use Rattle.text.specs.Writing.{holding};
+ghost use Rattle.frames.specs.Frames.{onWire};
+ghost use Rattle.state.specs.WellFormed.{wellFormed};
+ghost use Rattle.meter.specs.Outcomes.{answerOf};
+ghost use Rattle.meter.specs.Character.{lineEnded, confirmed};
+ghost use Rattle.meter.specs.SignOn.{ourLine, signsOnBy, wantsBlock, wantsProgram};
+use crate::Answer;
+use crate::answers;
+use changes::in_mode;
+use state::Meter;
+
+// The sign-on that names a serial, but for its LF.
+fn our_line(serial: &[u8]) -> [u8; 15]
+    requires { ⌜ length (now serial) ≡ 10 ⌝ }
+    ensures { λ r. ⌜ r ≡ ourLine (now (serial .entry)) ⌝ }
+{
+    let mut shown = [0u8; 15];
+    let a = text::put(&mut shown, 0, b"/?");
+    let b = values::writing::put_serial(&mut shown, a, serial);
+    text::put(&mut shown, b, b"!\r");
+    shown
+}
+
+// Whether a line, which its LF has ended, signs on.
+fn signs_on(line: &[u8], serial: &[u8]) -> bool
+    requires { ⌜ length (now serial) ≡ 10 ⌝ }
+    ensures { λ r. ⌜ r ≡ signsOnBy (now (line .entry)) (now (serial .entry)) ⌝ }
+{
+    let ours = our_line(serial);
+    (text::same(line, b"/?!\r") | text::same(line, &ours)) | text::same(line, b"/?000 0000000!\r")
+}
+
+// A line has ended.
+pub fn end_line(m: Meter, reply: &mut [u8]) -> Answer
+    requires { ⌜ (wellFormed m ≡ true) × (2048 ≤ length (now reply)) ⌝ }
+    ensures result { λ r. ⌜ r ≡ answerOf (lineEnded m) ⌝ }
+    ensures held { λ _. ⌜ now (reply .exit) ≡ holding (now (reply .entry)) (onWire (lineEnded m .reply)) ⌝ }
+{
+    let r = m.receiver;
+    let g = m.registers;
+    let held = r.held;
+    let serial = g.serial;
+    if r.mark {
+        return answers::quiet(0, in_mode(m, 0));
+    }
+    if signs_on(text::first(&held, r.count as usize), &serial) {
+        let length = replies::identify(reply);
+        return Answer {
+            number: 1,
+            length,
+            speed: 0,
+            next: in_mode(m, 1),
+        };
+    }
+    answers::quiet(0, in_mode(m, 0))
+}
+
+// Whether five characters and one more confirm a reading.
+fn wants_block(five: &[u8], c: u8) -> bool
+    ensures { λ r. ⌜ r ≡ wantsBlock (now (five .entry)) c ⌝ }
+{
+    let ended = c == line::LF;
+    (text::same(five, b"\x06050\r") & ended) | (text::same(five, b"\x06057\r") & ended)
+}
+
+// Whether they confirm programming.
+fn wants_program(five: &[u8], c: u8) -> bool
+    ensures { λ r. ⌜ r ≡ wantsProgram (now (five .entry)) c ⌝ }
+{
+    text::same(five, b"\x06051\r") & (c == line::LF)
+}
+
+// Six characters of confirmation, the last of them c.
+pub fn confirm(m: Meter, c: u8, damaged: bool, reply: &mut [u8]) -> Answer
+    requires { ⌜ (wellFormed m ≡ true) × (2048 ≤ length (now reply)) ⌝ }
+    ensures result { λ r. ⌜ r ≡ answerOf (confirmed m c damaged) ⌝ }
+    ensures held { λ _. ⌜ now (reply .exit) ≡ holding (now (reply .entry)) (onWire (confirmed m c damaged .reply)) ⌝ }
+{
+    let r = m.receiver;
+    let held = r.held;
+    let marked = r.mark | damaged;
+    if marked {
+        return answers::quiet(2, in_mode(m, 0));
+    }
+    let five = text::first(&held, r.count as usize);
+    if wants_block(five, c) {
+        let g = m.registers;
+        let length = replies::data_block(reply, g);
+        return Answer {
+            number: 1,
+            length,
+            speed: 5,
+            next: in_mode(m, 0),
+        };
+    }
+    if wants_program(five, c) {
+        let length = replies::ask_password(reply);
+        return Answer {
+            number: 1,
+            length,
+            speed: 5,
+            next: in_mode(m, 2),
+        };
+    }
+    answers::quiet(2, in_mode(m, 0))
+}

@@ -1,0 +1,55 @@
+-- `replies::answer` meets its contract: STX, the data, and then closed. Assumes nothing.
+use mathlib.Core.Path.{refl, sym, ap, _∙_}
+use mathlib.Core.List.{[], _∷_}
+use native.Mathlib.Omega.{arith}
+use lib.ListN.{length}
+use Rattle.text.proofs.Writing.{length-stored}
+use Rattle.frames.proofs.Sealing.{blocking, block-length}
+use Rattle.replies.specs.Answers.{askedData}
+use Rattle.replies.proofs.Sizes.{asked-short}
+use borrow.Author.Needs.{needs}
+use Rattle.replies.proofs.answer.Statement.{statement}
+use Rattle.replies.proofs.answer.Tie as tie
+
+slice-aggregate-put : tie.Need-slice-aggregate-put
+slice-aggregate-put c = search needs
+
+put-requires : tie.Need-put-requires
+put-requires c κs = search needs
+
+put-asked-requires : tie.Need-put-asked-requires
+put-asked-requires c κs = search needs
+
+seal-requires : tie.Need-seal-requires
+seal-requires c κs =
+    let start = c .before .before .before .before .before .before .before .before .before .before .before in
+    let a = start .args in
+    let first = c .before .before .before .before .before .before .before .put .ensures in
+    let shown = c .before .before .before .put-asked .ensures in
+    let short = asked-short (a .g) (a .a) (start .pre .0) in
+    (omega (arith, first .0, shown .0), rw (shown .1, length-stored (c .before .before .before .before .before .before .before .put .last .0) (c .before .before .before .before .before .before .before .put .result) (askedData (a .g) (a .a)), first .1, length-stored (a .buf .now) 0 (2 ∷ [])) (omega (arith, first .0, shown .0, short, start .pre .1)))
+
+same-length : tie.Need-same-length
+same-length c = search needs
+
+returns : tie.Need-returns
+returns c =
+    let start = c .before .before .before .before .before .before .before .before .before .before .before .before .before .before in
+    let a = start .args in
+    let content = askedData (a .g) (a .a) in
+    let first = c .before .before .before .before .before .before .before .before .before .before .put .ensures in
+    let shown = c .before .before .before .before .before .before .put-asked .ensures in
+    let shut = c .before .before .seal .ensures in
+    let short = asked-short (a .g) (a .a) (start .pre .0) in
+    (omega (arith, first .0, shown .0, shut .0, block-length content), blocking (a .buf .now) content _ _ _ _ _ (omega (arith, short, start .pre .1)) (first .0) (first .1) (shown .0) (shown .1) (shut .1))
+
+pub answer-spec : {M : Type 1} → statement M
+answer-spec =
+    tie.close
+    (tie.spec
+    slice-aggregate-put
+    put-requires
+    put-asked-requires
+    seal-requires
+    same-length
+    returns)

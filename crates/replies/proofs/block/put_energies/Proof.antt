@@ -1,0 +1,62 @@
+-- `replies::block::put_energies` meets its contract: one line after the other. Assumes nothing.
+use native.Mathlib.Omega.{arith}
+use Rattle.datasets.specs.Sets.{energySet}
+use Rattle.datasets.proofs.Lengths.{energy-line}
+use Rattle.datasets.proofs.Joined.{single, joined}
+use Rattle.replies.specs.Shown.{energy}
+use Rattle.replies.specs.Block.{energySets}
+use borrow.Author.Needs.{needs}
+use Rattle.replies.proofs.block.put_energies.Statement.{statement}
+use Rattle.replies.proofs.block.put_energies.Tie as tie
+
+put-energy-set-requires : tie.Need-put-energy-set-requires
+put-energy-set-requires c κs = search needs
+
+put-energy-set-requires-2 : tie.Need-put-energy-set-requires-2
+put-energy-set-requires-2 c κs = search needs
+
+put-energy-set-requires-3 : tie.Need-put-energy-set-requires-3
+put-energy-set-requires-3 c κs = search needs
+
+put-energy-set-requires-4 : tie.Need-put-energy-set-requires-4
+put-energy-set-requires-4 c κs = search needs
+
+total-of-requires : tie.Need-total-of-requires
+total-of-requires c κs = search needs
+
+put-energy-set-requires-5 : tie.Need-put-energy-set-requires-5
+put-energy-set-requires-5 c κs = search needs
+
+same-length : tie.Need-same-length
+same-length c = search needs
+
+returns : tie.Need-returns
+unfolding energySets energy
+returns c =
+    let start = c .before .before .before .before .before .before .before .before .before .before .before .before .before .before .before .before .before .before .before .before .before .before in
+    let a = start .args in
+    let e1 = c .before .before .before .before .before .before .before .before .before .before .before .before .before .before .before .before .before .before .before .put-energy-set .ensures in
+    let e2 = c .before .before .before .before .before .before .before .before .before .before .before .before .before .before .before .put-energy-set2 .ensures in
+    let e3 = c .before .before .before .before .before .before .before .before .before .before .before .put-energy-set3 .ensures in
+    let e4 = c .before .before .before .before .before .before .before .put-energy-set4 .ensures in
+    let e5 = c .before .before .put-energy-set5 .ensures in
+    let sum = c .before .before .before .total-of in
+    let one = single (energySet 1 (a .c .t1)) 24 (a .buf .now) (a .at) _ _ (energy-line 1 (a .c .t1)) (e1 .0) (e1 .1) in
+    let two = joined _ _ _ _ _ _ _ _ one (single (energySet 2 (a .c .t2)) 24 _ _ _ _ (energy-line 2 (a .c .t2)) (e2 .0) (e2 .1)) in
+    let three = joined _ _ _ _ _ _ _ _ two (single (energySet 3 (a .c .t3)) 24 _ _ _ _ (energy-line 3 (a .c .t3)) (e3 .0) (e3 .1)) in
+    let four = joined _ _ _ _ _ _ _ _ three (single (energySet 4 (a .c .t4)) 24 _ _ _ _ (energy-line 4 (a .c .t4)) (e4 .0) (e4 .1)) in
+    let five = joined _ _ _ _ _ _ _ _ four (single (energySet 0 (sum .result)) 24 _ _ _ _ (energy-line 0 (sum .result)) (e5 .0) (e5 .1)) in
+    (omega (arith, e1 .0, e2 .0, e3 .0, e4 .0, e5 .0), rw (← sum .ensures) (five .held))
+
+pub put-energies-spec : {M : Type 1} → statement M
+put-energies-spec =
+    tie.close
+    (tie.spec
+    put-energy-set-requires
+    put-energy-set-requires-2
+    put-energy-set-requires-3
+    put-energy-set-requires-4
+    total-of-requires
+    put-energy-set-requires-5
+    same-length
+    returns)

@@ -1,0 +1,50 @@
+-- `replies::block::put_facts` meets its contract: one line after the other. Assumes nothing.
+use native.Mathlib.Omega.{arith}
+use Rattle.datasets.specs.Sets.{timeSet, dateSet, serialSet, accountSet}
+use Rattle.datasets.proofs.Lengths.{time-line, date-line, serial-line, account-line}
+use Rattle.datasets.proofs.Joined.{single, joined}
+use Rattle.replies.specs.Block.{factSets}
+use borrow.Author.Needs.{needs}
+use Rattle.replies.proofs.block.put_facts.Statement.{statement}
+use Rattle.replies.proofs.block.put_facts.Tie as tie
+
+put-serial-set-requires : tie.Need-put-serial-set-requires
+put-serial-set-requires c κs = search needs
+
+put-date-set-requires : tie.Need-put-date-set-requires
+put-date-set-requires c κs = search needs
+
+put-time-set-requires : tie.Need-put-time-set-requires
+put-time-set-requires c κs = search needs
+
+put-account-set-requires : tie.Need-put-account-set-requires
+put-account-set-requires c κs = search needs
+
+same-length : tie.Need-same-length
+same-length c = search needs
+
+returns : tie.Need-returns
+unfolding factSets
+returns c =
+    let start = c .before .before .before .before .before .before .before .before .before .before .before .before .before .before .before .before .before .before .before in
+    let a = start .args in
+    let first = c .before .before .before .before .before .before .before .before .before .before .before .before .before .before .put-serial-set .ensures in
+    let second = c .before .before .before .before .before .before .before .before .before .before .put-date-set .ensures in
+    let third = c .before .before .before .before .before .before .put-time-set .ensures in
+    let fourth = c .before .before .put-account-set .ensures in
+    let one = single (serialSet (a .serial .now)) 20 (a .buf .now) (a .at) _ _ (serial-line (a .serial .now) (start .pre .0)) (first .0) (first .1) in
+    let two = joined _ _ _ _ _ _ _ _ one (single (dateSet (a .clock .date)) 17 _ _ _ _ (date-line (a .clock .date)) (second .0) (second .1)) in
+    let three = joined _ _ _ _ _ _ _ _ two (single (timeSet (a .clock .time)) 17 _ _ _ _ (time-line (a .clock .time)) (third .0) (third .1)) in
+    let four = joined _ _ _ _ _ _ _ _ three (single (accountSet (a .account .now)) 19 _ _ _ _ (account-line (a .account .now) (start .pre .1)) (fourth .0) (fourth .1)) in
+    (omega (arith, first .0, second .0, third .0, fourth .0), four .held)
+
+pub put-facts-spec : {M : Type 1} → statement M
+put-facts-spec =
+    tie.close
+    (tie.spec
+    put-serial-set-requires
+    put-date-set-requires
+    put-time-set-requires
+    put-account-set-requires
+    same-length
+    returns)

@@ -1,0 +1,100 @@
+-- `replies::block::put_tables` meets its contract: so far the lines of tables 01 to i are put in. Assumes nothing.
+use mathlib.Core.Path.{_≡_, refl, sym, ap, _∙_}
+use Prim.Native.Nat.{_+_, _-_, _*_, _≤_}
+use native.Mathlib.Omega.{arith}
+use lib.ListN.{length}
+use Rattle.text.proofs.Writing.{length-stored}
+use Rattle.datasets.proofs.Joined.{Lines}
+use Rattle.replies.specs.Block.{tableSets}
+use Rattle.replies.proofs.Tables.{part-long, no-table, next-table}
+use Rattle.replies.proofs.block.put_tables.Statement.{statement}
+use Rattle.replies.proofs.block.put_tables.Tie as tie
+
+abbrev Inv-loop : tie.InvT-loop
+Inv-loop buf₀ at tables i₀ place₀ buf i place =
+    (i ≤ 24) × (place ≡ at + i * 36) × (length buf ≡ length buf₀) × Lines buf₀ at (tableSets tables i) place buf
+
+abbrev μ-loop : tie.MeasureT-loop
+μ-loop buf₀ at tables i₀ place₀ buf i place = 24 - i
+
+loop-holds : tie.Need-loop-holds Inv-loop μ-loop
+loop-holds c = (omega arith, omega arith, refl, no-table (c .before .before .args .tables .now) (c .before .before .args .buf .now) (c .before .before .args .at))
+
+cast-from : tie.Need-cast-from Inv-loop μ-loop
+cast-from c = omega arith
+
+mul-from : tie.Need-mul-from Inv-loop μ-loop
+mul-from c = omega arith
+
+add-to : tie.Need-add-to Inv-loop μ-loop
+add-to c = omega arith
+
+add-t12 : tie.Need-add-t12 Inv-loop μ-loop
+add-t12 c = omega arith
+
+sub-put-table-set : tie.Need-sub-put-table-set Inv-loop μ-loop
+sub-put-table-set c = omega arith
+
+part-put-table-set-start : tie.Need-part-put-table-set-start Inv-loop μ-loop
+part-put-table-set-start c = omega arith
+
+part-put-table-set-end : tie.Need-part-put-table-set-end Inv-loop μ-loop
+part-put-table-set-end c = omega arith
+
+put-table-set-requires : tie.Need-put-table-set-requires Inv-loop μ-loop
+put-table-set-requires c κs =
+    let start = c .before .before .before .before .before .before in
+    let turn = c .before .before .before .loop in
+    let long = part-long (start .args .tables .now) (turn .i) (omega (arith, start .pre .0, turn .inv .0, c .before .before .loop-test .taken)) in
+    omega (arith, long, start .pre .1, turn .inv .1, turn .inv .2, c .before .before .loop-test .taken)
+
+add-i : tie.Need-add-i Inv-loop μ-loop
+add-i c = omega arith
+
+loop-less : tie.Need-loop-less Inv-loop μ-loop
+loop-less c = omega arith
+
+loop-again : tie.Need-loop-again Inv-loop μ-loop
+loop-again c =
+    let start = c .before .before .before .before .before .before .before .before .before in
+    let a = start .args in
+    let turn = c .before .before .before .before .before .before .loop in
+    let taken = c .before .before .before .before .before .loop-test .taken in
+    let put = c .before .before .put-table-set .ensures in
+    let fit : turn .i * 24 + 24 ≤ length (a .tables .now) = omega (arith, start .pre .0, taken) in
+    let long = part-long (a .tables .now) (turn .i) fit in (
+      omega (arith, taken),
+      omega (arith, put .0, long, turn .inv .1),
+      rw (put .1) (length-stored _ _ _ ∙ turn .inv .2),
+      next-table (a .tables .now) (a .buf .now) (a .at) (turn .i) (turn .place) (turn .buf) _ _ fit (turn .inv .3) (put .0) (put .1),
+    )
+
+same-length : tie.Need-same-length Inv-loop μ-loop
+same-length c = c .before .loop .inv .2
+
+returns : tie.Need-returns Inv-loop μ-loop
+returns c =
+    let turn = c .before .loop in
+    let done : turn .i ≡ 24 = omega (arith, turn .inv .0, c .loop-test .left) in
+    (omega (arith, turn .inv .1), rw done at (turn .inv .3 .held))
+
+pub put-tables-spec : {M : Type 1} → statement M
+put-tables-spec =
+    tie.close
+    (tie.spec
+    Inv-loop
+    μ-loop
+    loop-holds
+    cast-from
+    mul-from
+    add-to
+    add-t12
+    sub-put-table-set
+    part-put-table-set-start
+    part-put-table-set-end
+    put-table-set-requires
+    add-i
+    loop-less
+    loop-again
+    same-length
+    returns)

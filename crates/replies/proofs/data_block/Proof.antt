@@ -1,0 +1,48 @@
+-- `replies::data_block` meets its contract: STX, the data, and then closed. Assumes nothing.
+use native.Mathlib.Omega.{arith}
+use mathlib.Core.Path.{sym, ap, _∙_}
+use Prim.Native.Nat.{_+_}
+use Rattle.frames.proofs.Sealing.{blocking}
+use Rattle.replies.specs.Block.{blockData}
+use Rattle.replies.proofs.Sizes.{content-long}
+use borrow.Author.Needs.{needs}
+use Rattle.replies.proofs.data_block.Statement.{statement}
+use Rattle.replies.proofs.data_block.Tie as tie
+
+slice-aggregate-put : tie.Need-slice-aggregate-put
+slice-aggregate-put c = search needs
+
+put-requires : tie.Need-put-requires
+put-requires c κs = search needs
+
+put-block-requires : tie.Need-put-block-requires
+put-block-requires c κs = search needs
+
+seal-requires : tie.Need-seal-requires
+seal-requires c κs = search needs
+
+same-length : tie.Need-same-length
+same-length c = search needs
+
+returns : tie.Need-returns
+returns c =
+    let start = c .before .before .before .before .before .before .before .before .before .before .before .before .before .before in
+    let a = start .args in
+    let first = c .before .before .before .before .before .before .before .before .before .before .put .ensures in
+    let shown = c .before .before .before .before .before .before .put-block .ensures in
+    let shut = c .before .before .seal .ensures in
+    let long = content-long 24 (a .g) (start .pre .0) in (
+      omega (arith, first .0, shown .0, shut .0),
+      blocking (a .buf .now) (blockData 24 (a .g)) _ _ _ _ _ (omega (arith, long, start .pre .1)) (first .0) (first .1) (shown .0 ∙ ap (_+_ _) (sym long)) (shown .1) (shut .1),
+    )
+
+pub data-block-spec : {M : Type 1} → statement M
+data-block-spec =
+    tie.close
+    (tie.spec
+    slice-aggregate-put
+    put-requires
+    put-block-requires
+    seal-requires
+    same-length
+    returns)

@@ -1,0 +1,20 @@
+-- Document 01, "Deciding a frame": what is asked by R1, and the data of the answer.
+use mathlib.Core.List.{List, [], _∷_}
+use Prim.Native.Nat.{ℕ}
+use Rattle.state.specs.declared.Registers.{Registers}
+use Rattle.datasets.specs.Sets.{DataSet, linesOf, timeSet, dateSet, serialSet, accountSet, energySet, tableSet}
+use Rattle.replies.specs.declared.Ask.{Ask}
+use Rattle.replies.specs.declared.Ask.the-variants.{Clock, Serial, Account, Energy, Table}
+use Rattle.replies.specs.Shown.{energy, rowOf}
+
+-- T(), L(), K(), E0() to E4(), Z(xx)
+unfoldable pub askedSets : Registers → Ask → List DataSet
+askedSets g Clock = timeSet (g .clock .time) ∷ dateSet (g .clock .date) ∷ []
+askedSets g Serial = serialSet (g .serial) ∷ []
+askedSets g Account = accountSet (g .account) ∷ []
+askedSets g (Energy n) = energySet n (energy (g .counters) n) ∷ []
+askedSets g (Table t) = tableSet (t .0) (rowOf (g .tables) (t .0)) ∷ []
+
+-- each line ends CR LF
+unfoldable pub askedData : Registers → Ask → List ℕ
+askedData g a = linesOf (askedSets g a)

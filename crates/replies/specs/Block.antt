@@ -1,0 +1,29 @@
+-- Document 01, "Deciding a frame": the data block.
+use mathlib.Core.List.{List, [], _∷_, _++_}
+use Prim.Native.Nat.{ℕ, zero, suc}
+use Rattle.clock.specs.declared.Clock.{Clock}
+use Rattle.state.specs.declared.Counters.{Counters}
+use Rattle.state.specs.declared.Registers.{Registers}
+use Rattle.datasets.specs.Sets.{DataSet, linesOf, timeSet, dateSet, serialSet, accountSet, energySet, tableSet}
+use Rattle.replies.specs.Shown.{energy, rowOf}
+
+-- serial, date, time, account
+unfoldable pub factSets : List ℕ → Clock → List ℕ → List DataSet
+factSets serial clock account = serialSet serial ∷ dateSet (clock .date) ∷ timeSet (clock .time) ∷ accountSet account ∷ []
+
+-- T1 to T4, total
+unfoldable pub energySets : Counters → List DataSet
+energySets c = energySet 1 (c .t1) ∷ energySet 2 (c .t2) ∷ energySet 3 (c .t3) ∷ energySet 4 (c .t4) ∷ energySet 0 (energy c 0) ∷ []
+
+-- tables 01 to n
+unfoldable pub tableSets : List ℕ → ℕ → List DataSet
+tableSets tables zero = []
+tableSets tables (suc n) = tableSets tables n ++ (tableSet (suc n) (rowOf tables (suc n)) ∷ [])
+
+-- all of it, of a meter with so many tables
+unfoldable pub blockSets : ℕ → Registers → List DataSet
+blockSets tables g = factSets (g .serial) (g .clock) (g .account) ++ (energySets (g .counters) ++ tableSets (g .tables) tables)
+
+-- and the line that ends it, `!` CR LF
+unfoldable pub blockData : ℕ → Registers → List ℕ
+blockData tables g = linesOf (blockSets tables g) ++ (33 ∷ 13 ∷ 10 ∷ [])

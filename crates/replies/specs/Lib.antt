@@ -1,0 +1,4 @@
+pub mod Shown
+pub mod Answers
+pub mod Block
+pub mod Fixed
