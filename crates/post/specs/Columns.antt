@@ -89,3 +89,27 @@ pub record RowZones (row : List ℕ) (n : ℕ) : Type 0 where
   pub in-row : n ≤ 24
   pub zones : (j : ℕ) → j < n → between 49 52 (getD row j 0) ≡ true
   pub strays : n < 24 → between 49 52 (getD row n 0) ≡ false
+
+-- the columns at j of the three windows that hold a line's 36: at 0, 16 and 20
+unfoldable pub three : List ℕ → ℕ → Bool
+three s j = (columnFits s j && columnFits s (16 + j)) && columnFits s (20 + j)
+
+-- the first n of 16 flags took a line in, the others are as they were
+pub record TookLine (s : List ℕ) (before after : List Bool) (n : ℕ) : Type 0 where
+  pub long : length after ≡ length before
+  pub taken : (i : ℕ) → i < n → getD after i false ≡ (getD before i false && three s i)
+  pub others : (i : ℕ) → n ≤ i → getD after i false ≡ getD before i false
+
+-- the two digits of line l as they stand, 528 above its number; and those of the line before it
+unfoldable pub rawAt : List ℕ → ℕ → ℕ
+rawAt text l = getD text (36 * l + 6) 0 * 10 + getD text (36 * l + 7) 0
+
+unfoldable pub rawBefore : List ℕ → ℕ → ℕ
+rawBefore text zero = 528
+rawBefore text (suc l) = rawAt text l
+
+-- line l stands in its place, and its number may come next
+pub record LineRises (tables : ℕ) (text : List ℕ) (l : ℕ) : Type 0 where
+  pub held : columnsFit (drop (36 * l) text) 36 ≡ true
+  pub low : rawBefore text l < rawAt text l
+  pub high : rawAt text l ≤ 528 + tables

@@ -1,12 +1,12 @@
 // Posts: whether a text is one, and where it leaves every post.
 // Whole lines are accepted at once; the place is looked for only in the line that failed. All is said over the number of tables.
 ghost use mathlib.Core.Path.{_≡_};
-ghost use mathlib.Core.Bool.{true};
-ghost use Prim.Native.Nat.{_+_, _<_, _≤_};
-ghost use lib.ListN.{length, drop};
-ghost use Rattle.post.specs.Grammar.{lastLine};
+ghost use mathlib.Core.Bool.{true, false};
+ghost use Prim.Native.Nat.{ℕ, _+_, _*_, _<_, _≤_};
+ghost use lib.ListN.{length, getD, drop};
+ghost use Rattle.post.specs.Grammar.{lastLine, IsPost};
 ghost use Rattle.post.specs.Place.{Longest, CheckedAs};
-ghost use Rattle.post.specs.Columns.{lowest, highest, columnFits, nextNumber, SharedPart, RowZones, FirstStray, LinePlace, LastPlace, beginsLast};
+ghost use Rattle.post.specs.Columns.{lowest, highest, columnFits, nextNumber, SharedPart, RowZones, FirstStray, LinePlace, LastPlace, beginsLast, TookLine, LineRises};
 ghost use Rattle.post.specs.Rest.{Rest, Scanned};
 
 // The lowest and the highest character of each column of a line, `131.0.xx(row)` CR LF.
@@ -301,11 +301,104 @@ fn rest_place(s: &[u8], above: u8, tables: u8) -> usize
     line_place(s, above, tables)
 }
 
+// Takes a line into the flags: three windows of 16 columns, the last two overlapping, so that no column is left over.
+fn take_line(low: &[u8; 36], high: &[u8; 36], text: &[u8], at: usize, fits: &mut [bool; 16])
+    requires { ⌜ (now low ≡ lowest) × (now high ≡ highest) × (at + 36 ≤ length (now text)) × (length (now fits) ≡ 16) ⌝ }
+    ensures { λ _. ⌜ TookLine (drop at (now (text .entry))) (now (fits .entry)) (now (fits .exit)) 16 ⌝ }
+{
+    let mut j = 0;
+    while j < 16 {
+        let first = column_fits(low, high, text, at, j);
+        let second = column_fits(low, high, text, at, 16 + j);
+        let third = column_fits(low, high, text, at, 20 + j);
+        fits[j] = fits[j] & ((first & second) & third);
+        j += 1;
+    }
+}
+
+// Whether every flag is set.
+fn all_set(fits: &[bool; 16]) -> bool
+    ensures { λ r. ⌜ (r ≡ true → (i : ℕ) → i < 16 → getD (now (fits .entry)) i false ≡ true) ⌝ }
+{
+    let mut all = true;
+    let mut j = 0;
+    while j < 16 {
+        all = all & fits[j];
+        j += 1;
+    }
+    all
+}
+
+fn wide(x: u8) -> u16
+    ensures { λ r. ⌜ (r ≡ x) × (r < 256) ⌝ }
+{
+    x as u16
+}
+
+// The two digits of the line at a place as a number, 528 above the table's.
+fn raw_number(text: &[u8], at: usize) -> u16
+    requires { ⌜ at + 36 ≤ length (now text) ⌝ }
+    ensures { λ r. ⌜ r ≡ getD (now (text .entry)) (at + 6) 0 * 10 + getD (now (text .entry)) (at + 7) 0 ⌝ }
+{
+    wide(text[at + 6]) * 10 + wide(text[at + 7])
+}
+
+// Whether so many lines stand one below the other with rising numbers, with no way out before their end.
+fn lines_rise(text: &[u8], lines: usize, tables: u8) -> bool
+    requires { ⌜ (36 * lines ≤ length (now text)) × (tables < 100) ⌝ }
+    ensures { λ r. ⌜ (r ≡ true → (l : ℕ) → l < lines → LineRises tables (now (text .entry)) l) ⌝ }
+{
+    let low = LOWEST;
+    let high = HIGHEST;
+    let top = 528 + wide(tables);
+    let mut fits = [true; 16];
+    let mut above: u16 = 528;
+    let mut rise = true;
+    let mut l = 0;
+    while l < lines {
+        let at = 36 * l;
+        take_line(&low, &high, text, at, &mut fits);
+        let raw = raw_number(text, at);
+        rise = rise & ((above < raw) & (raw <= top));
+        above = raw;
+        l += 1;
+    }
+    all_set(&fits) & rise
+}
+
+// Whether a text is seen at once to be a post; yes is right, and no leaves it to the scan.
+fn seen_whole(text: &[u8], tables: u8) -> bool
+    requires { ⌜ tables < 100 ⌝ }
+    ensures { λ r. ⌜ (r ≡ true → IsPost tables (now (text .entry))) ⌝ }
+{
+    let lines = text.len() / 36;
+    if text.len() != 36 * lines + 3 {
+        return false;
+    }
+    if lines == 0 {
+        return false;
+    }
+    if (tables as usize) < lines {
+        return false;
+    }
+    let start = 36 * lines;
+    if !text::same(&text[start..], b"!\r\n") {
+        return false;
+    }
+    lines_rise(text, lines, tables)
+}
+
 // The check, for so many tables.
 pub fn check_of(text: &[u8], tables: u8) -> Checked
     requires { ⌜ (0 < tables) × (tables < 100) ⌝ }
     ensures { λ r. ⌜ CheckedAs tables (now (text .entry)) (r .number) (r .place) ⌝ }
 {
+    if seen_whole(text, tables) {
+        return Checked {
+            number: 1,
+            place: 0,
+        };
+    }
     let lines = scan(text, tables);
     let at = lines.at;
     let above = lines.above;

@@ -1,10 +1,9 @@
--- `post::check_of` meets its contract: the answer from where the lines end. Assumes nothing.
+-- `post::check_of` meets its contract: a post seen whole, or the answer from where the lines end. Assumes nothing.
 use mathlib.Core.Path.{_≡_, refl, sym, ap, _∙_}
 use mathlib.Core.Bool.{Bool, true, false, _&&_}
 use mathlib.Core.List.{List}
 use Prim.Native.Nat.{ℕ, _-_, _<_}
 use native.Mathlib.Omega.{arith}
-use borrow.Author.Needs.{needs}
 use borrow.Author.Tests.{ltb-true, lt-ltb}
 use lib.Dec.{ltb}
 use lib.ListN.{length, take, drop}
@@ -15,7 +14,8 @@ use Rattle.post.specs.Grammar.{lastLine}
 use Rattle.post.specs.Place.{Longest, CheckedAs}
 use Rattle.post.specs.Columns.{nextNumber}
 use Rattle.post.specs.Rest.{Rest, Scanned}
-use Rattle.post.proofs.Answers.{part-is, accepted, refused}
+use Rattle.post.proofs.Answers.{part-is, answers-post, accepted, refused}
+use borrow.Author.Needs.{needs}
 use Rattle.post.proofs.check_of.Statement.{statement}
 use Rattle.post.proofs.check_of.Tie as tie
 
@@ -29,6 +29,12 @@ not-ended text at above b e f h l =
     let s : b ≡ true = e ∙ ap (λ (x : List ℕ). sameText x lastLine) (part-is text at ∙ l) ∙ same-self lastLine in
     let t : (ltb 0 above && b) ≡ true = rw (lt-ltb 0 above h, s) in
     (let z : _≡_ {A = ℕ} 0 1 = cc in omega arith)
+
+seen-whole-requires : tie.Need-seen-whole-requires
+seen-whole-requires c κs = search needs
+
+returns : tie.Need-returns
+returns c = answers-post (c .before .before .before .args .tables) (c .before .before .before .args .text .now) (c .before .seen-whole .ensures (c .if1 .taken))
 
 scan-requires : tie.Need-scan-requires
 scan-requires c κs = search needs
@@ -48,47 +54,49 @@ slice-aggregate-same c = search needs
 same-requires : tie.Need-same-requires
 same-requires c κs = search needs
 
-returns : tie.Need-returns
+returns-2 : tie.Need-returns-2
 unfolding lastLine
-returns c =
-    let a = (c .before .before .before .before .before .before .args) in
+returns-2 c =
+    let a = (c .before .before .before .before .before .before .before .before .args) in
     let n = c .before .before .before .before .scan .result in
-    let e = ended (a .text .now) (n .at) (n .above) (c .before .same .result) (c .before .same .ensures) (c .if1 .taken) in
-    accepted (a .tables) (n .at) (n .above) (a .text .now) (c .before .before .before .before .before .before .pre .1) (c .before .before .before .before .scan .ensures) (e .0) (e .1)
+    let e = ended (a .text .now) (n .at) (n .above) (c .before .same .result) (c .before .same .ensures) (c .if2 .taken) in
+    accepted (a .tables) (n .at) (n .above) (a .text .now) (c .before .before .before .before .before .before .before .before .pre .1) (c .before .before .before .before .scan .ensures) (e .0) (e .1)
 
 rest-place-requires : tie.Need-rest-place-requires
 rest-place-requires c κs =
-    let a = (c .before .before .before .before .before .before .args) in
+    let a = (c .before .before .before .before .before .before .before .before .args) in
     let n = c .before .before .before .before .scan .result in (
-      c .before .before .before .before .before .before .pre .0,
-      c .before .before .before .before .before .before .pre .1,
+      c .before .before .before .before .before .before .before .before .pre .0,
+      c .before .before .before .before .before .before .before .before .pre .1,
       c .before .before .before .before .scan .ensures .passed .in-tables,
       rw (part-is (a .text .now) (n .at)) (c .before .before .before .before .scan .ensures .stops),
     )
 
-add-t10 : tie.Need-add-t10
-add-t10 c = search needs
+add-t11 : tie.Need-add-t11
+add-t11 c = search needs
 
-returns-2 : tie.Need-returns-2
+returns-3 : tie.Need-returns-3
 unfolding lastLine
-returns-2 c =
-    let a = (c .before .before .before .before .before .before .before .args) in
+returns-3 c =
+    let a = (c .before .before .before .before .before .before .before .before .before .args) in
     let n = c .before .before .before .before .before .scan .result in
-    refused (a .tables) (n .at) (n .above) (a .text .now) (c .before .before .before .before .before .before .before .pre .1) (c .before .before .before .before .before .scan .ensures) (c .rest-place .result)
-    (not-ended (a .text .now) (n .at) (n .above) (c .before .before .same .result) (c .before .before .same .ensures) (c .before .if1 .left))
+    refused (a .tables) (n .at) (n .above) (a .text .now) (c .before .before .before .before .before .before .before .before .before .pre .1) (c .before .before .before .before .before .scan .ensures) (c .rest-place .result)
+    (not-ended (a .text .now) (n .at) (n .above) (c .before .before .same .result) (c .before .before .same .ensures) (c .before .if2 .left))
     (rw (part-is (a .text .now) (n .at)) at (c .rest-place .ensures))
 
 pub check-of-spec : {M : Type 1} → statement M
 check-of-spec =
     tie.close
     (tie.spec
+    seen-whole-requires
+    returns
     scan-requires
     sub-rest
     part-rest-start
     part-rest-end
     slice-aggregate-same
     same-requires
-    returns
+    returns-2
     rest-place-requires
-    add-t10
-    returns-2)
+    add-t11
+    returns-3)

@@ -9,7 +9,7 @@ use lib.ListN.{length, getD, drop, length-drop}
 use lib.Seq.{getD-drop}
 use Rattle.post.specs.Columns.{columnsFit, numberOf, mayFollow, pick, nextNumber}
 use Rattle.post.proofs.Places.{columns-each}
-use Rattle.post.proofs.LinePlaces.{tens-fits, unit-fits}
+use Rattle.post.proofs.LinePlaces.{tens-fits, unit-fits, found}
 use Rattle.post.proofs.Strays.{whole-fits, whole-strays}
 use borrow.Author.Needs.{needs}
 use Rattle.post.proofs.next_number.Statement.{statement}
@@ -30,7 +30,7 @@ number-at : (text : List ℕ) (at : ℕ) → numberOf (drop at text) ≡ (getD t
 unfolding numberOf
 number-at text at = rw (getD-drop at text 6 0, getD-drop at text 7 0)
 
--- the three ways to find none, and the one to find the number
+-- the three ways to find none
 strays : (tables above : ℕ) (s : List ℕ) → columnsFit s 36 ≡ false → 0 ≡ nextNumber tables above s
 unfolding nextNumber pick
 strays tables above s e = rw e
@@ -42,10 +42,6 @@ too-low tables above n s e q h = rw (e, q, le-ltb above n h)
 too-high : (tables above n : ℕ) (s : List ℕ) → columnsFit s 36 ≡ true → numberOf s ≡ n → above < n → tables < n → 0 ≡ nextNumber tables above s
 unfolding nextNumber pick mayFollow
 too-high tables above n s e q h k = rw (e, q, lt-ltb above n h, lt-leb n tables k)
-
-found : (tables above n : ℕ) (s : List ℕ) → columnsFit s 36 ≡ true → numberOf s ≡ n → above < n → n ≤ tables → n ≡ nextNumber tables above s
-unfolding nextNumber pick mayFollow
-found tables above n s e q h k = rw (e, q, lt-ltb above n h, le-leb n tables k)
 
 stray-at-requires : tie.Need-stray-at-requires
 stray-at-requires c κs = search needs
