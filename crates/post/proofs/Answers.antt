@@ -95,7 +95,7 @@ unfolding CheckedAs
 answers-post tables text p = inl (record { done = refl; no-place = refl; is-post = p })
 
 -- the answers, from where the lines end
-module _ (tables at above : ℕ) (text : List ℕ) (few : tables < 100) (r : Scanned tables text at above) where
+module _ (tables at above stray : ℕ) (text : List ℕ) (few : tables < 100) (r : Scanned tables text at above stray) where
   pub accepted : 0 < above → drop at text ≡ lastLine → CheckedAs tables text 1 0
   accepted h e = answers-post tables text (rest-post tables text (r .passed .onward (ends-post tables above (drop at text) h e)))
 

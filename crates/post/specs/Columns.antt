@@ -5,7 +5,7 @@ use mathlib.Core.List.{List, [], _∷_, _++_}
 use Prim.Native.Nat.{ℕ, zero, suc, _+_, _-_, _*_, _<_, _≤_}
 use lib.Dec.{ltb, leb, eqb}
 use lib.ListN.{length, getD, take, drop, replicate}
-use Rattle.text.specs.Classes.{between}
+use Rattle.text.specs.Classes.{between, sameText}
 use Rattle.post.specs.Grammar.{lastLine}
 
 -- the lowest and the highest character of each column
@@ -77,6 +77,10 @@ pub record FirstStray (s : List ℕ) (column : ℕ) : Type 0 where
 -- a line stands above, and the text begins like the last line
 unfoldable pub beginsLast : ℕ → List ℕ → Bool
 beginsLast above s = ltb 0 above && (ltb 0 (length s) && eqb (getD s 0 0) 33)
+
+-- a line stands above, and the text is the last line
+unfoldable pub isLast : ℕ → List ℕ → Bool
+isLast above s = ltb 0 above && sameText s lastLine
 
 -- so many characters of a fixed part stand at the front
 pub record SharedPart (s part : List ℕ) (n : ℕ) : Type 0 where

@@ -6,7 +6,7 @@ ghost use Prim.Native.Nat.{ℕ, _+_, _*_, _<_, _≤_};
 ghost use lib.ListN.{length, getD, drop};
 ghost use Rattle.post.specs.Grammar.{lastLine, IsPost};
 ghost use Rattle.post.specs.Place.{Longest, CheckedAs};
-ghost use Rattle.post.specs.Columns.{lowest, highest, columnFits, nextNumber, SharedPart, RowZones, FirstStray, LinePlace, LastPlace, beginsLast, TookLine, LineRises};
+ghost use Rattle.post.specs.Columns.{lowest, highest, columnFits, nextNumber, SharedPart, RowZones, FirstStray, LinePlace, LastPlace, beginsLast, isLast, TookLine, LineRises};
 ghost use Rattle.post.specs.Rest.{Rest, Scanned};
 
 // The lowest and the highest character of each column of a line, `131.0.xx(row)` CR LF.
@@ -94,10 +94,11 @@ pub struct Checked {
     pub place: usize,
 }
 
-// How far whole lines reach, and the number of the last.
+// How far whole lines reach, the number of the last, and the first column that strays below it.
 pub struct Reached {
     pub at: usize,
     pub above: u8,
+    pub stray: usize,
 }
 
 // Whether the character in a column of the line at a place is one that the column may hold. The bounds are lent, so that a loop has
@@ -171,12 +172,29 @@ fn stray_at(text: &[u8], at: usize) -> usize
     33 + shared(text, end, b")\r\n")
 }
 
-// The number of the line that stands at a place, below another; 0 where none does that may come next.
-fn next_number(text: &[u8], at: usize, above: u8, tables: u8) -> u8
-    requires { ⌜ at + 36 ≤ length (now text) ⌝ }
+// The first column that strays in a text shorter than a line.
+fn first_stray(s: &[u8]) -> usize
+    requires { ⌜ length (now s) < 36 ⌝ }
+    ensures { λ r. ⌜ FirstStray (now (s .entry)) r ⌝ }
+{
+    let low = LOWEST;
+    let high = HIGHEST;
+    let mut j = 0;
+    while j < s.len() {
+        if !column_fits(&low, &high, s, 0, j) {
+            return j;
+        }
+        j += 1;
+    }
+    j
+}
+
+// The number of the line that stands at a place, below another, from its first stray column; 0 where none does that may come next.
+fn next_number(text: &[u8], at: usize, stray: usize, above: u8, tables: u8) -> u8
+    requires { ⌜ (at + 36 ≤ length (now text)) × FirstStray (drop at (now text)) stray ⌝ }
     ensures { λ r. ⌜ r ≡ nextNumber tables above (drop at (now (text .entry))) ⌝ }
 {
-    if stray_at(text, at) < 36 {
+    if stray < 36 {
         return 0;
     }
     let n = (text[at + 6] - 48) * 10 + (text[at + 7] - 48);
@@ -190,50 +208,33 @@ fn next_number(text: &[u8], at: usize, above: u8, tables: u8) -> u8
 }
 
 // Goes over the lines that stand one below the other with rising numbers.
-pub fn scan(text: &[u8], tables: u8) -> Reached
+fn scan(text: &[u8], tables: u8) -> Reached
     requires { ⌜ tables < 100 ⌝ }
-    ensures { λ r. ⌜ Scanned tables (now (text .entry)) (r .at) (r .above) ⌝ }
+    ensures { λ r. ⌜ Scanned tables (now (text .entry)) (r .at) (r .above) (r .stray) ⌝ }
 {
     let mut at = 0;
     let mut above = 0;
     while 36 <= text.len() - at {
-        let n = next_number(text, at, above, tables);
+        let stray = stray_at(text, at);
+        let n = next_number(text, at, stray, above, tables);
         if n == 0 {
-            return Reached { at, above };
+            return Reached { at, above, stray };
         }
         above = n;
         at += 36;
     }
-    Reached { at, above }
-}
-
-// The first column of a line that strays, in a text that may be shorter than a line.
-fn first_stray(s: &[u8]) -> usize
-    ensures { λ r. ⌜ FirstStray (now (s .entry)) r ⌝ }
-{
-    if 36 <= s.len() {
-        return stray_at(s, 0);
-    }
-    let low = LOWEST;
-    let high = HIGHEST;
-    let mut j = 0;
-    while j < s.len() {
-        if !column_fits(&low, &high, s, 0, j) {
-            return j;
-        }
-        j += 1;
-    }
-    j
+    let stray = first_stray(&text[at..]);
+    Reached { at, above, stray }
 }
 
 // The first column in which no line that may come next is like this text: a tens digit needs some number that may follow, a unit digit has to make one.
-fn line_place(s: &[u8], above: u8, tables: u8) -> usize
+fn line_place(s: &[u8], stray: usize, above: u8, tables: u8) -> usize
+    requires { ⌜ FirstStray (now s) stray ⌝ }
     ensures { λ r. ⌜ LinePlace tables above (now (s .entry)) r ⌝ }
 {
     if tables <= above {
         return 0;
     }
-    let stray = first_stray(s);
     if stray < 7 {
         return stray;
     }
@@ -247,11 +248,11 @@ fn line_place(s: &[u8], above: u8, tables: u8) -> usize
     if stray < 8 {
         return stray;
     }
-    let n = tens + (s[7] - 48);
-    if n <= above {
+    let number = tens + (s[7] - 48);
+    if number <= above {
         return 7;
     }
-    if tables < n {
+    if tables < number {
         return 7;
     }
     stray
@@ -290,15 +291,28 @@ fn begins_last(s: &[u8], above: u8) -> bool
     s[0] == 33
 }
 
+// Whether a text below some line is the last line.
+fn is_last(s: &[u8], above: u8) -> bool
+    ensures { λ r. ⌜ r ≡ isLast above (now (s .entry)) ⌝ }
+{
+    if above == 0 {
+        return false;
+    }
+    if s.len() != 3 {
+        return false;
+    }
+    ((s[0] == 33) & (s[1] == 13)) & (s[2] == 10)
+}
+
 // The place of what stands below the lines, where it begins with no line.
-fn rest_place(s: &[u8], above: u8, tables: u8) -> usize
-    requires { ⌜ (0 < tables) × (tables < 100) × (above ≤ tables) × (36 ≤ length (now s) → nextNumber tables above (now s) ≡ 0) ⌝ }
+fn rest_place(s: &[u8], stray: usize, above: u8, tables: u8) -> usize
+    requires { ⌜ (0 < tables) × (tables < 100) × (above ≤ tables) × (36 ≤ length (now s) → nextNumber tables above (now s) ≡ 0) × FirstStray (now s) stray ⌝ }
     ensures { λ r. ⌜ Longest (Rest tables above) (now (s .entry)) r ⌝ }
 {
     if begins_last(s, above) {
         return last_place(s);
     }
-    line_place(s, above, tables)
+    line_place(s, stray, above, tables)
 }
 
 // Takes a line into the flags: three windows of 16 columns, the last two overlapping, so that no column is left over.
@@ -382,7 +396,7 @@ fn seen_whole(text: &[u8], tables: u8) -> bool
         return false;
     }
     let start = 36 * lines;
-    if !text::same(&text[start..], b"!\r\n") {
+    if !is_last(&text[start..], 1) {
         return false;
     }
     lines_rise(text, lines, tables)
@@ -403,13 +417,13 @@ pub fn check_of(text: &[u8], tables: u8) -> Checked
     let at = lines.at;
     let above = lines.above;
     let rest = &text[at..];
-    if (0 < above) & text::same(rest, b"!\r\n") {
+    if is_last(rest, above) {
         return Checked {
             number: 1,
             place: 0,
         };
     }
-    let place = rest_place(rest, above, tables);
+    let place = rest_place(rest, lines.stray, above, tables);
     Checked {
         number: 20,
         place: at + place,

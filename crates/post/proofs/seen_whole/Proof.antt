@@ -6,10 +6,9 @@ use Prim.Native.Nat.{ℕ, suc, _+_, _-_, _*_, _/_, _<_, _≤_}
 use native.Mathlib.Omega.{arith}
 use borrow.Author.Tests.{not-false}
 use lib.ListN.{length}
-use Rattle.text.proofs.Matching.{same-is}
-use Rattle.post.specs.Grammar.{lastLine}
 use Rattle.post.proofs.Answers.{part-is}
 use Rattle.post.proofs.Rise.{whole-post}
+use Rattle.post.proofs.Last.{last-is}
 use borrow.Author.Needs.{needs}
 use Rattle.post.proofs.seen_whole.Statement.{statement}
 use Rattle.post.proofs.seen_whole.Tie as tie
@@ -32,20 +31,17 @@ returns-3 c = λ e. absurd (let z : _≡_ {A = ℕ} 0 1 = cc in omega arith)
 mul-start : tie.Need-mul-start
 mul-start c = search needs
 
-sub-same : tie.Need-sub-same
-sub-same c = search needs
+sub-is-last : tie.Need-sub-is-last
+sub-is-last c = search needs
 
-part-same-start : tie.Need-part-same-start
-part-same-start c = search needs
+part-is-last-start : tie.Need-part-is-last-start
+part-is-last-start c = search needs
 
-part-same-end : tie.Need-part-same-end
-part-same-end c = search needs
+part-is-last-end : tie.Need-part-is-last-end
+part-is-last-end c = search needs
 
-slice-aggregate-same : tie.Need-slice-aggregate-same
-slice-aggregate-same c = search needs
-
-same-requires : tie.Need-same-requires
-same-requires c κs = search needs
+is-last-requires : tie.Need-is-last-requires
+is-last-requires c κs = search needs
 
 returns-4 : tie.Need-returns-4
 returns-4 c = λ e. absurd (let z : _≡_ {A = ℕ} 0 1 = cc in omega arith)
@@ -54,13 +50,12 @@ lines-rise-requires : tie.Need-lines-rise-requires
 lines-rise-requires c κs = search needs
 
 returns-5 : tie.Need-returns-5
-unfolding lastLine
 returns-5 c =
-    let a = (c .before .before .before .before .before .before .before .before .before .args) in
+    let a = (c .before .before .before .before .before .before .before .before .args) in
     let t = a .text .now in
-    let e = sym (c .before .before .same .ensures) ∙ not-false _ (c .before .if4 .left) in
+    let e = last-is 1 _ (sym (c .before .before .is-last .ensures) ∙ not-false _ (c .before .if4 .left)) in
     λ y.
-    whole-post (a .tables) t (length t / 36) (c .before .before .before .before .before .before .before .before .before .pre) (omega arith) (c .lines-rise .ensures y) (omega arith) (sym (part-is t (36 * (length t / 36))) ∙ same-is _ lastLine e)
+    whole-post (a .tables) t (length t / 36) (c .before .before .before .before .before .before .before .before .pre) (omega arith) (c .lines-rise .ensures y) (omega arith) (sym (part-is t (36 * (length t / 36))) ∙ e .1)
 
 pub seen-whole-spec : {M : Type 1} → statement M
 seen-whole-spec =
@@ -72,11 +67,10 @@ seen-whole-spec =
     returns-2
     returns-3
     mul-start
-    sub-same
-    part-same-start
-    part-same-end
-    slice-aggregate-same
-    same-requires
+    sub-is-last
+    part-is-last-start
+    part-is-last-end
+    is-last-requires
     returns-4
     lines-rise-requires
     returns-5)
