@@ -107,8 +107,8 @@ fn column_fits(low: &[u8; 36], high: &[u8; 36], text: &[u8], at: usize, j: usize
     requires { ⌜ (now low ≡ lowest) × (now high ≡ highest) × (j < 36) × (at + j < length (now text)) ⌝ }
     ensures { λ r. ⌜ r ≡ columnFits (drop at (now (text .entry))) j ⌝ }
 {
-    let c = text[at + j];
-    (low[j] <= c) & (c <= high[j])
+    let above = std::num::wrapping_sub_u8(text[at + j], low[j]);
+    above <= high[j] - low[j]
 }
 
 // How many of a fixed part's characters stand at a place, up to the first that does not.
