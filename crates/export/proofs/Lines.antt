@@ -16,11 +16,7 @@ use Rattle.post.proofs.Lines.{length-line}
 use Rattle.post.proofs.Reading.{post-cons, rising-row, rising-rest}
 use Rattle.export.specs.Frames.{entryFrame, framesOf}
 use Rattle.export.specs.Changed.{changedTo, changedLine, changedLines}
-use Rattle.export.proofs.Changed.{length-changed, changed-is}
-
-append-nil : (l : List ℕ) → l ++ [] ≡ l
-append-nil [] = refl
-append-nil (x ∷ l) = ap (λ (r : List ℕ). x ∷ r) (append-nil l)
+use Rattle.export.proofs.Changed.{append-nil, length-changed, changed-is}
 
 length-line-changed : (s : List ℕ) → length (changedLine s) ≡ 36
 unfolding changedLine

@@ -63,9 +63,10 @@ fn write_frame(changes: &[u8; 36], text: &[u8], at: usize, out: &mut [u8])
         out[at + j] = line::wire(text[at + j] ^ changes[j]);
         j += 1;
     }
-    let end = at + 36;
+    // The BCC of the first 32 columns and the row's last; 44 is what the fixed parts of line and frame differ in.
+    let end = at + 32;
     let sum = line::bcc(&text[at..end]);
-    out[at + 35] = line::wire(sum ^ 2);
+    out[at + 35] = line::wire((sum ^ text[end]) ^ 44);
 }
 
 // Writes the frames of so many lines.

@@ -89,17 +89,15 @@ module _ (tables size : ℕ) (text : List ℕ) (more : 36 * tables + 3 < size) (
 pub part-is : (text : List ℕ) (at : ℕ) → take (length text - at) (drop at text) ≡ drop at text
 part-is text at = take-all (length text - at) (drop at text) (omega (arith, length-drop at text))
 
+-- a post, however it was seen to be one
+pub answers-post : (tables : ℕ) (text : List ℕ) → IsPost tables text → CheckedAs tables text 1 0
+unfolding CheckedAs
+answers-post tables text p = inl (record { done = refl; no-place = refl; is-post = p })
+
 -- the answers, from where the lines end
-module _ (tables at above : ℕ) (text : List ℕ) (few : tables < 100) (r : Scanned tables text at above) where
+module _ (tables at above stray : ℕ) (text : List ℕ) (few : tables < 100) (r : Scanned tables text at above stray) where
   pub accepted : 0 < above → drop at text ≡ lastLine → CheckedAs tables text 1 0
-  unfolding CheckedAs
-  accepted h e =
-      inl
-      (record {
-        done = refl;
-        no-place = refl;
-        is-post = rest-post tables text (r .passed .onward (ends-post tables above (drop at text) h e));
-      })
+  accepted h e = answers-post tables text (rest-post tables text (r .passed .onward (ends-post tables above (drop at text) h e)))
 
   pub refused : (k : ℕ) → (0 < above → drop at text ≡ lastLine → ⊥) → Longest (Rest tables above) (drop at text) k → CheckedAs tables text 20 (at + k)
   unfolding CheckedAs

@@ -7,6 +7,8 @@ use mathlib.Core.List.{List, [], _∷_, _++_}
 use Prim.Native.Nat.{ℕ, zero, suc, _+_, _-_, _*_, _/_, _%_, _<_, _≤_}
 use native.Mathlib.Nat.{le-of-suc-le-suc, zero-lt-suc}
 use native.Mathlib.Omega.{arith}
+use borrow.Author.Tests.{leb-true, le-leb}
+use lib.Dec.{leb}
 use lib.ListN.{length, getD, take, drop, replicate, length-append, length-drop, List·getD-append}
 use lib.Seq.{take-at, length-take-le, getD-take, getD-drop, getD-append-add, take-append-le, take-all}
 use Rattle.line.specs.Runs.{every}
@@ -14,7 +16,7 @@ use Rattle.text.specs.Classes.{between}
 use Rattle.values.specs.Registers.{goodRow}
 use Rattle.post.specs.Grammar.{lineText}
 use Rattle.post.specs.Columns.{lowest, highest, columnFits, tensOf, numberOf, rowOf, Column}
-use Rattle.post.proofs.Lines.{line-columns, length-line, number-line, line-fits, fits-line, fits-row, between-low, between-high}
+use Rattle.post.proofs.Lines.{line-columns, length-line, number-line, line-fits, fits-line, fits-row, between-is, between-low, between-high, every-at}
 
 pub le-or-lt : (a b : ℕ) → (a ≤ b) ⊎ (b < a)
 le-or-lt zero b = inl (omega arith)
@@ -161,3 +163,35 @@ complete tables above k s few in-line in-text room before =
     (λ b. completed-by tables above k (above + 1) s few in-line in-text (omega arith) (omega arith) before (λ e. omega (arith, t .0, t .1, d .0, d .1)))
     (λ b. completed-by tables above k (tensOf s * 10) s few in-line in-text b (d .1) before (λ e. omega (arith, t .0, t .1, d .0, d .1)))
     (le-or-lt (tensOf s * 10) above)) (le-or-lt k 6)
+
+-- two tests of which each passes when the other does
+same-test : (a b : Bool) → (a ≡ true → b ≡ true) → (b ≡ true → a ≡ true) → a ≡ b
+same-test true b f g = sym (f refl)
+same-test false true f g = g refl
+same-test false false f g = refl
+
+-- the bounds of a column are in order, and are characters
+pub bounds-order : (j : ℕ) → j < 36 → getD lowest j 0 ≤ getD highest j 0
+unfolding columnFits
+bounds-order j h =
+    let e = line-fits 1 ones ones-good j h in
+    omega (arith, between-low (getD lowest j 0) (getD highest j 0) (getD (lineText 1 ones) j 0) e, between-high (getD lowest j 0) (getD highest j 0) (getD (lineText 1 ones) j 0) e)
+
+highest-small : every (between 0 127) highest ≡ true
+unfolding every between highest
+highest-small = refl
+
+length-highest : length highest ≡ 36
+unfolding highest
+length-highest = refl
+
+pub bounds-small : (j : ℕ) → j < 36 → getD highest j 0 < 256
+bounds-small j h =
+    omega (arith, between-high 0 127 (getD highest j 0) (every-at (between 0 127) highest highest-small j (omega (arith, length-highest))))
+
+-- one comparison for both bounds, of a difference that wraps
+pub fits-wrapped : (lo hi c r : ℕ) → lo ≤ hi → hi < 256 → c < 256 → r < 256 → (r + lo) % 256 ≡ c → leb r (hi - lo) ≡ between lo hi c
+fits-wrapped lo hi c r o h k m e =
+    same-test (leb r (hi - lo)) (between lo hi c)
+    (λ t. let s = leb-true r (hi - lo) t in between-is lo hi c (omega arith) (omega arith))
+    (λ t. let a = between-low lo hi c t in let b = between-high lo hi c t in le-leb r (hi - lo) (omega arith))

@@ -1,14 +1,17 @@
--- What the test for the last line's first character says. Assumes nothing.
+-- What the tests for the last line, and for its first character, say. Assumes nothing.
 use mathlib.Core.Path.{_≡_, refl, sym, ap, _∙_}
-use mathlib.Core.Bool.{Bool, true, false, _&&_}
-use mathlib.Core.List.{List}
+use mathlib.Core.Bool.{Bool, true, false, _&&_, and-true}
+use mathlib.Core.List.{List, [], _∷_}
 use Prim.Native.Nat.{ℕ, _<_, _≤_}
 use native.Mathlib.Omega.{arith}
 use borrow.Author.Tests.{ltb-true, eqb-true, lt-ltb, eq-eqb}
 use lib.Dec.{ltb, eqb}
 use lib.ListN.{length, getD}
-use Rattle.line.proofs.Runs.{and-left, and-right}
-use Rattle.post.specs.Columns.{beginsLast}
+use Rattle.line.proofs.Runs.{and-left, and-right, and-assoc}
+use Rattle.text.specs.Classes.{matching, sameText}
+use Rattle.text.proofs.Matching.{same-is, same-self}
+use Rattle.post.specs.Grammar.{lastLine}
+use Rattle.post.specs.Columns.{beginsLast, isLast}
 
 module _ (above : ℕ) (s : List ℕ) where
   pub begins-above : beginsLast above s ≡ true → 0 < above
@@ -28,3 +31,24 @@ module _ (above : ℕ) (s : List ℕ) where
   not-begun e h k f =
       let t : beginsLast above s ≡ true = rw (lt-ltb 0 above h, lt-ltb 0 (length s) k, eq-eqb (getD s 0 0) 33 f) in
       (let z : _≡_ {A = ℕ} 0 1 = cc in omega arith)
+
+  pub last-is : isLast above s ≡ true → (0 < above) × (s ≡ lastLine)
+  unfolding isLast
+  last-is e =
+      (ltb-true 0 above (and-left (ltb 0 above) (sameText s lastLine) e), same-is s lastLine (and-right (ltb 0 above) (sameText s lastLine) e))
+
+  pub not-last : isLast above s ≡ false → 0 < above → s ≡ lastLine → ⊥
+  unfolding isLast
+  not-last e h l =
+      let t : isLast above s ≡ true = rw (lt-ltb 0 above h, l, same-self lastLine) in
+      (let z : _≡_ {A = ℕ} 0 1 = cc in omega arith)
+
+-- three characters against the last line's
+pub last-three : (s : List ℕ) → length s ≡ 3 → ((eqb (getD s 0 0) 33 && eqb (getD s 1 0) 13) && eqb (getD s 2 0) 10) ≡ sameText s lastLine
+unfolding sameText matching lastLine
+last-three [] h = absurd (omega arith)
+last-three (x ∷ []) h = absurd (omega arith)
+last-three (x ∷ y ∷ []) h = absurd (omega arith)
+last-three (x ∷ y ∷ z ∷ []) h =
+    and-assoc (eqb x 33) (eqb y 13) (eqb z 10) ∙ ap (λ (b : Bool). eqb x 33 && (eqb y 13 && b)) (sym (and-true (eqb z 10)))
+last-three (x ∷ y ∷ z ∷ w ∷ s) h = absurd (omega arith)

@@ -7,3 +7,4 @@ pub mod Windows
 pub mod LinePlaces
 pub mod Last
 pub mod Strays
+pub mod Rise

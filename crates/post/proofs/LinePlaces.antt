@@ -5,9 +5,10 @@ use mathlib.Core.Bool.{true, false}
 use mathlib.Core.List.{List}
 use Prim.Native.Nat.{ℕ, _+_, _-_, _*_, _<_, _≤_}
 use native.Mathlib.Omega.{arith}
+use borrow.Author.Tests.{lt-ltb, le-leb}
 use lib.ListN.{length, getD}
 use Rattle.text.specs.Classes.{between}
-use Rattle.post.specs.Columns.{lowest, highest, columnFits, tensOf, numberOf, Column, LinePlace, FirstStray}
+use Rattle.post.specs.Columns.{lowest, highest, columnFits, columnsFit, tensOf, numberOf, mayFollow, pick, nextNumber, Column, LinePlace, FirstStray}
 use Rattle.post.proofs.Lines.{between-low, between-high}
 
 -- a column that fits holds a digit where the number stands
@@ -18,6 +19,11 @@ tens-fits s e = (between-low 48 57 (getD s 6 0) e, between-high 48 57 (getD s 6 
 pub unit-fits : (s : List ℕ) → columnFits s 7 ≡ true → (48 ≤ getD s 7 0) × (getD s 7 0 ≤ 57)
 unfolding columnFits lowest highest
 unit-fits s e = (between-low 48 57 (getD s 7 0) e, between-high 48 57 (getD s 7 0) e)
+
+-- the number of a line whose number may come next
+pub found : (tables above n : ℕ) (s : List ℕ) → columnsFit s 36 ≡ true → numberOf s ≡ n → above < n → n ≤ tables → n ≡ nextNumber tables above s
+unfolding nextNumber pick mayFollow
+found tables above n s e q h k = rw (e, q, lt-ltb above n h, le-leb n tables k)
 
 -- below the last table no line may stand
 pub place-none : (tables above : ℕ) (s : List ℕ) → tables ≤ above → LinePlace tables above s 0

@@ -1,53 +1,49 @@
--- Three windows of 16 columns, at 0, 16 and 20, hold all 36 columns of a line. Assumes nothing.
-use mathlib.Core.Path.{_≡_, refl, sym, ap, _∙_}
+-- Flags for 16 columns take in a line by three windows, at 0, 16 and 20, which hold all its 36 columns. Assumes nothing.
+use mathlib.Core.Path.{_≡_, refl, sym, ap, ap₂, _∙_}
 use mathlib.Core.Logic.{⊎-elim}
 use mathlib.Core.Bool.{Bool, true, false, _&&_}
 use mathlib.Core.List.{List}
 use Prim.Native.Nat.{ℕ, zero, suc, _+_, _-_, _<_, _≤_}
 use native.Mathlib.Omega.{arith}
-use native.Mathlib.Numerals.{add-one}
+use lib.ListN.{length, getD, set, length-set}
+use lib.Seq.{getD-set-same, getD-set-other}
 use Rattle.line.proofs.Runs.{and-left, and-right, and-both}
-use Rattle.post.specs.Columns.{columnFits, columnsFit}
+use Rattle.post.specs.Columns.{columnFits, three, TookLine}
 use Rattle.post.proofs.Columns.{le-or-lt}
-use Rattle.post.proofs.Places.{columns-each, columns-all}
 
--- two tests of which each passes when the other does
-pub same-test : (a b : Bool) → (a ≡ true → b ≡ true) → (b ≡ true → a ≡ true) → a ≡ b
-same-test true b f g = sym (f refl)
-same-test false true f g = g refl
-same-test false false f g = refl
+-- no flag yet, and one more
+pub took-none : (s : List ℕ) (before : List Bool) → TookLine s before before 0
+took-none s before = record { long = refl; taken = λ i h. absurd (omega arith); others = λ i h. refl }
 
-abbrev three : List ℕ → ℕ → Bool
-three s j = (columnFits s j && columnFits s (16 + j)) && columnFits s (20 + j)
+three-is : (s : List ℕ) (n : ℕ) (a b d : Bool) → a ≡ columnFits s n → b ≡ columnFits s (16 + n) → d ≡ columnFits s (20 + n) → ((a && b) && d) ≡ three s n
+unfolding three
+three-is s n a b d p q r = rw (p, q, r)
 
--- the first n columns of each window
-unfoldable pub windows : List ℕ → ℕ → Bool
-windows s zero = true
-windows s (suc n) = windows s n && three s n
+pub took-more : (s : List ℕ) (before after : List Bool) (n : ℕ) (a b d : Bool) → n < length after → TookLine s before after n
+    → a ≡ columnFits s n → b ≡ columnFits s (16 + n) → d ≡ columnFits s (20 + n)
+    → TookLine s before (set after n (getD after n false && ((a && b) && d))) (n + 1)
+took-more s before after n a b d h t p q r =
+    record {
+      long = length-set after n v ∙ t .long;
+      taken =
+          λ i k.
+          ⊎-elim
+          (λ e.
+          let same : i ≡ n = omega arith in
+          ap (λ (x : ℕ). getD (set after n v) x false) same
+          ∙ getD-set-same after n v false h
+          ∙ ap₂ _&&_ (t .others n (omega arith)) (three-is s n a b d p q r)
+          ∙ ap (λ (x : ℕ). getD before x false && three s x) (sym same))
+          (λ e. getD-set-other after n i v false (λ q. omega arith) ∙ t .taken i e) (le-or-lt n i);
+      others = λ i k. getD-set-other after n i v false (λ q. omega arith) ∙ t .others i (omega arith);
+    }
+  where
+    v : Bool
+    v = getD after n false && ((a && b) && d)
 
-pub windows-none : (s : List ℕ) → true ≡ windows s 0
-unfolding windows
-windows-none s = refl
-
-pub windows-more : (s : List ℕ) (n : ℕ) (ok a b d : Bool) → ok ≡ windows s n → a ≡ columnFits s n → b ≡ columnFits s (16 + n) → d ≡ columnFits s (20 + n)
-    → (ok && ((a && b) && d)) ≡ windows s (n + 1)
-unfolding windows
-windows-more s n ok a b d e p q r = rw (add-one n, e, p, q, r)
-
-windows-each : (s : List ℕ) (n : ℕ) → windows s n ≡ true → (j : ℕ) → j < n → three s j ≡ true
-unfolding windows
-windows-each s zero e j h = absurd (omega arith)
-windows-each s (suc n) e j h =
-    ⊎-elim (λ k. ap (three s) (omega arith) ∙ and-right (windows s n) (three s n) e)
-    (λ k. windows-each s n (and-left (windows s n) (three s n) e) j k) (le-or-lt n j)
-
-windows-all : (s : List ℕ) (n : ℕ) → ((j : ℕ) → j < n → three s j ≡ true) → windows s n ≡ true
-unfolding windows
-windows-all s zero h = refl
-windows-all s (suc n) h = and-both (windows s n) (three s n) (windows-all s n (λ j k. h j (omega arith))) (h n (omega arith))
-
--- a column is in the first window, in the second or in the third
-in-window : (s : List ℕ) → ((j : ℕ) → j < 16 → three s j ≡ true) → (j : ℕ) → j < 36 → columnFits s j ≡ true
+-- all 36 columns of a line fit where each of 16 columns does in each window
+pub in-window : (s : List ℕ) → ((j : ℕ) → j < 16 → three s j ≡ true) → (j : ℕ) → j < 36 → columnFits s j ≡ true
+unfolding three
 in-window s h j k =
     ⊎-elim
     (λ a.
@@ -58,12 +54,3 @@ in-window s h j k =
     ∙ and-right (columnFits s (j - 16)) (columnFits s (16 + (j - 16))) (and-left (columnFits s (j - 16) && columnFits s (16 + (j - 16))) (columnFits s (20 + (j - 16))) (h (j - 16) (omega arith))))
     (le-or-lt 32 j))
     (λ a. and-left (columnFits s j) (columnFits s (16 + j)) (and-left (columnFits s j && columnFits s (16 + j)) (columnFits s (20 + j)) (h j a))) (le-or-lt 16 j)
-
-pub windows-are : (s : List ℕ) → windows s 16 ≡ columnsFit s 36
-windows-are s =
-    same-test (windows s 16) (columnsFit s 36)
-    (λ e. columns-all s 36 (in-window s (windows-each s 16 e)))
-    (λ e.
-    let f = columns-each s 36 e in
-    windows-all s 16 (λ j h.
-    and-both (columnFits s j && columnFits s (16 + j)) (columnFits s (20 + j)) (and-both (columnFits s j) (columnFits s (16 + j)) (f j (omega arith)) (f (16 + j) (omega arith))) (f (20 + j) (omega arith))))

@@ -5,7 +5,7 @@ use mathlib.Core.List.{List, [], _∷_, _++_}
 use Prim.Native.Nat.{ℕ, zero, suc, _+_, _-_, _*_, _<_, _≤_}
 use lib.Dec.{ltb, leb, eqb}
 use lib.ListN.{length, getD, take, drop, replicate}
-use Rattle.text.specs.Classes.{between}
+use Rattle.text.specs.Classes.{between, sameText}
 use Rattle.post.specs.Grammar.{lastLine}
 
 -- the lowest and the highest character of each column
@@ -78,6 +78,10 @@ pub record FirstStray (s : List ℕ) (column : ℕ) : Type 0 where
 unfoldable pub beginsLast : ℕ → List ℕ → Bool
 beginsLast above s = ltb 0 above && (ltb 0 (length s) && eqb (getD s 0 0) 33)
 
+-- a line stands above, and the text is the last line
+unfoldable pub isLast : ℕ → List ℕ → Bool
+isLast above s = ltb 0 above && sameText s lastLine
+
 -- so many characters of a fixed part stand at the front
 pub record SharedPart (s part : List ℕ) (n : ℕ) : Type 0 where
   pub in-part : n ≤ length part
@@ -89,3 +93,27 @@ pub record RowZones (row : List ℕ) (n : ℕ) : Type 0 where
   pub in-row : n ≤ 24
   pub zones : (j : ℕ) → j < n → between 49 52 (getD row j 0) ≡ true
   pub strays : n < 24 → between 49 52 (getD row n 0) ≡ false
+
+-- the columns at j of the three windows that hold a line's 36: at 0, 16 and 20
+unfoldable pub three : List ℕ → ℕ → Bool
+three s j = (columnFits s j && columnFits s (16 + j)) && columnFits s (20 + j)
+
+-- the first n of 16 flags took a line in, the others are as they were
+pub record TookLine (s : List ℕ) (before after : List Bool) (n : ℕ) : Type 0 where
+  pub long : length after ≡ length before
+  pub taken : (i : ℕ) → i < n → getD after i false ≡ (getD before i false && three s i)
+  pub others : (i : ℕ) → n ≤ i → getD after i false ≡ getD before i false
+
+-- the two digits of line l as they stand, 528 above its number; and those of the line before it
+unfoldable pub rawAt : List ℕ → ℕ → ℕ
+rawAt text l = getD text (36 * l + 6) 0 * 10 + getD text (36 * l + 7) 0
+
+unfoldable pub rawBefore : List ℕ → ℕ → ℕ
+rawBefore text zero = 528
+rawBefore text (suc l) = rawAt text l
+
+-- line l stands in its place, and its number may come next
+pub record LineRises (tables : ℕ) (text : List ℕ) (l : ℕ) : Type 0 where
+  pub held : columnsFit (drop (36 * l) text) 36 ≡ true
+  pub low : rawBefore text l < rawAt text l
+  pub high : rawAt text l ≤ 528 + tables

@@ -1,12 +1,12 @@
 // Posts: whether a text is one, and where it leaves every post.
 // Whole lines are accepted at once; the place is looked for only in the line that failed. All is said over the number of tables.
 ghost use mathlib.Core.Path.{_≡_};
-ghost use mathlib.Core.Bool.{true};
-ghost use Prim.Native.Nat.{_+_, _<_, _≤_};
-ghost use lib.ListN.{length, drop};
-ghost use Rattle.post.specs.Grammar.{lastLine};
+ghost use mathlib.Core.Bool.{true, false};
+ghost use Prim.Native.Nat.{ℕ, _+_, _*_, _<_, _≤_};
+ghost use lib.ListN.{length, getD, drop};
+ghost use Rattle.post.specs.Grammar.{lastLine, IsPost};
 ghost use Rattle.post.specs.Place.{Longest, CheckedAs};
-ghost use Rattle.post.specs.Columns.{lowest, highest, columnFits, nextNumber, SharedPart, RowZones, FirstStray, LinePlace, LastPlace, beginsLast};
+ghost use Rattle.post.specs.Columns.{lowest, highest, columnFits, nextNumber, SharedPart, RowZones, FirstStray, LinePlace, LastPlace, beginsLast, isLast, TookLine, LineRises};
 ghost use Rattle.post.specs.Rest.{Rest, Scanned};
 
 // The lowest and the highest character of each column of a line, `131.0.xx(row)` CR LF.
@@ -94,10 +94,11 @@ pub struct Checked {
     pub place: usize,
 }
 
-// How far whole lines reach, and the number of the last.
+// How far whole lines reach, the number of the last, and the first column that strays below it.
 pub struct Reached {
     pub at: usize,
     pub above: u8,
+    pub stray: usize,
 }
 
 // Whether the character in a column of the line at a place is one that the column may hold. The bounds are lent, so that a loop has
@@ -106,8 +107,8 @@ fn column_fits(low: &[u8; 36], high: &[u8; 36], text: &[u8], at: usize, j: usize
     requires { ⌜ (now low ≡ lowest) × (now high ≡ highest) × (j < 36) × (at + j < length (now text)) ⌝ }
     ensures { λ r. ⌜ r ≡ columnFits (drop at (now (text .entry))) j ⌝ }
 {
-    let c = text[at + j];
-    (low[j] <= c) & (c <= high[j])
+    let above = std::num::wrapping_sub_u8(text[at + j], low[j]);
+    above <= high[j] - low[j]
 }
 
 // How many of a fixed part's characters stand at a place, up to the first that does not.
@@ -171,12 +172,29 @@ fn stray_at(text: &[u8], at: usize) -> usize
     33 + shared(text, end, b")\r\n")
 }
 
-// The number of the line that stands at a place, below another; 0 where none does that may come next.
-fn next_number(text: &[u8], at: usize, above: u8, tables: u8) -> u8
-    requires { ⌜ at + 36 ≤ length (now text) ⌝ }
+// The first column that strays in a text shorter than a line.
+fn first_stray(s: &[u8]) -> usize
+    requires { ⌜ length (now s) < 36 ⌝ }
+    ensures { λ r. ⌜ FirstStray (now (s .entry)) r ⌝ }
+{
+    let low = LOWEST;
+    let high = HIGHEST;
+    let mut j = 0;
+    while j < s.len() {
+        if !column_fits(&low, &high, s, 0, j) {
+            return j;
+        }
+        j += 1;
+    }
+    j
+}
+
+// The number of the line that stands at a place, below another, from its first stray column; 0 where none does that may come next.
+fn next_number(text: &[u8], at: usize, stray: usize, above: u8, tables: u8) -> u8
+    requires { ⌜ (at + 36 ≤ length (now text)) × FirstStray (drop at (now text)) stray ⌝ }
     ensures { λ r. ⌜ r ≡ nextNumber tables above (drop at (now (text .entry))) ⌝ }
 {
-    if stray_at(text, at) < 36 {
+    if stray < 36 {
         return 0;
     }
     let n = (text[at + 6] - 48) * 10 + (text[at + 7] - 48);
@@ -190,50 +208,33 @@ fn next_number(text: &[u8], at: usize, above: u8, tables: u8) -> u8
 }
 
 // Goes over the lines that stand one below the other with rising numbers.
-pub fn scan(text: &[u8], tables: u8) -> Reached
+fn scan(text: &[u8], tables: u8) -> Reached
     requires { ⌜ tables < 100 ⌝ }
-    ensures { λ r. ⌜ Scanned tables (now (text .entry)) (r .at) (r .above) ⌝ }
+    ensures { λ r. ⌜ Scanned tables (now (text .entry)) (r .at) (r .above) (r .stray) ⌝ }
 {
     let mut at = 0;
     let mut above = 0;
     while 36 <= text.len() - at {
-        let n = next_number(text, at, above, tables);
+        let stray = stray_at(text, at);
+        let n = next_number(text, at, stray, above, tables);
         if n == 0 {
-            return Reached { at, above };
+            return Reached { at, above, stray };
         }
         above = n;
         at += 36;
     }
-    Reached { at, above }
-}
-
-// The first column of a line that strays, in a text that may be shorter than a line.
-fn first_stray(s: &[u8]) -> usize
-    ensures { λ r. ⌜ FirstStray (now (s .entry)) r ⌝ }
-{
-    if 36 <= s.len() {
-        return stray_at(s, 0);
-    }
-    let low = LOWEST;
-    let high = HIGHEST;
-    let mut j = 0;
-    while j < s.len() {
-        if !column_fits(&low, &high, s, 0, j) {
-            return j;
-        }
-        j += 1;
-    }
-    j
+    let stray = first_stray(&text[at..]);
+    Reached { at, above, stray }
 }
 
 // The first column in which no line that may come next is like this text: a tens digit needs some number that may follow, a unit digit has to make one.
-fn line_place(s: &[u8], above: u8, tables: u8) -> usize
+fn line_place(s: &[u8], stray: usize, above: u8, tables: u8) -> usize
+    requires { ⌜ FirstStray (now s) stray ⌝ }
     ensures { λ r. ⌜ LinePlace tables above (now (s .entry)) r ⌝ }
 {
     if tables <= above {
         return 0;
     }
-    let stray = first_stray(s);
     if stray < 7 {
         return stray;
     }
@@ -247,11 +248,11 @@ fn line_place(s: &[u8], above: u8, tables: u8) -> usize
     if stray < 8 {
         return stray;
     }
-    let n = tens + (s[7] - 48);
-    if n <= above {
+    let number = tens + (s[7] - 48);
+    if number <= above {
         return 7;
     }
-    if tables < n {
+    if tables < number {
         return 7;
     }
     stray
@@ -290,15 +291,115 @@ fn begins_last(s: &[u8], above: u8) -> bool
     s[0] == 33
 }
 
+// Whether a text below some line is the last line.
+fn is_last(s: &[u8], above: u8) -> bool
+    ensures { λ r. ⌜ r ≡ isLast above (now (s .entry)) ⌝ }
+{
+    if above == 0 {
+        return false;
+    }
+    if s.len() != 3 {
+        return false;
+    }
+    ((s[0] == 33) & (s[1] == 13)) & (s[2] == 10)
+}
+
 // The place of what stands below the lines, where it begins with no line.
-fn rest_place(s: &[u8], above: u8, tables: u8) -> usize
-    requires { ⌜ (0 < tables) × (tables < 100) × (above ≤ tables) × (36 ≤ length (now s) → nextNumber tables above (now s) ≡ 0) ⌝ }
+fn rest_place(s: &[u8], stray: usize, above: u8, tables: u8) -> usize
+    requires { ⌜ (0 < tables) × (tables < 100) × (above ≤ tables) × (36 ≤ length (now s) → nextNumber tables above (now s) ≡ 0) × FirstStray (now s) stray ⌝ }
     ensures { λ r. ⌜ Longest (Rest tables above) (now (s .entry)) r ⌝ }
 {
     if begins_last(s, above) {
         return last_place(s);
     }
-    line_place(s, above, tables)
+    line_place(s, stray, above, tables)
+}
+
+// Takes a line into the flags: three windows of 16 columns, the last two overlapping, so that no column is left over.
+fn take_line(low: &[u8; 36], high: &[u8; 36], text: &[u8], at: usize, fits: &mut [bool; 16])
+    requires { ⌜ (now low ≡ lowest) × (now high ≡ highest) × (at + 36 ≤ length (now text)) × (length (now fits) ≡ 16) ⌝ }
+    ensures { λ _. ⌜ TookLine (drop at (now (text .entry))) (now (fits .entry)) (now (fits .exit)) 16 ⌝ }
+{
+    let mut j = 0;
+    while j < 16 {
+        let first = column_fits(low, high, text, at, j);
+        let second = column_fits(low, high, text, at, 16 + j);
+        let third = column_fits(low, high, text, at, 20 + j);
+        fits[j] = fits[j] & ((first & second) & third);
+        j += 1;
+    }
+}
+
+// Whether every flag is set.
+fn all_set(fits: &[bool; 16]) -> bool
+    ensures { λ r. ⌜ (r ≡ true → (i : ℕ) → i < 16 → getD (now (fits .entry)) i false ≡ true) ⌝ }
+{
+    let mut all = true;
+    let mut j = 0;
+    while j < 16 {
+        all = all & fits[j];
+        j += 1;
+    }
+    all
+}
+
+fn wide(x: u8) -> u16
+    ensures { λ r. ⌜ (r ≡ x) × (r < 256) ⌝ }
+{
+    x as u16
+}
+
+// The two digits of the line at a place as a number, 528 above the table's.
+fn raw_number(text: &[u8], at: usize) -> u16
+    requires { ⌜ at + 36 ≤ length (now text) ⌝ }
+    ensures { λ r. ⌜ r ≡ getD (now (text .entry)) (at + 6) 0 * 10 + getD (now (text .entry)) (at + 7) 0 ⌝ }
+{
+    wide(text[at + 6]) * 10 + wide(text[at + 7])
+}
+
+// Whether so many lines stand one below the other with rising numbers, with no way out before their end.
+fn lines_rise(text: &[u8], lines: usize, tables: u8) -> bool
+    requires { ⌜ (36 * lines ≤ length (now text)) × (tables < 100) ⌝ }
+    ensures { λ r. ⌜ (r ≡ true → (l : ℕ) → l < lines → LineRises tables (now (text .entry)) l) ⌝ }
+{
+    let low = LOWEST;
+    let high = HIGHEST;
+    let top = 528 + wide(tables);
+    let mut fits = [true; 16];
+    let mut above: u16 = 528;
+    let mut rise = true;
+    let mut l = 0;
+    while l < lines {
+        let at = 36 * l;
+        take_line(&low, &high, text, at, &mut fits);
+        let raw = raw_number(text, at);
+        rise = rise & ((above < raw) & (raw <= top));
+        above = raw;
+        l += 1;
+    }
+    all_set(&fits) & rise
+}
+
+// Whether a text is seen at once to be a post; yes is right, and no leaves it to the scan.
+fn seen_whole(text: &[u8], tables: u8) -> bool
+    requires { ⌜ tables < 100 ⌝ }
+    ensures { λ r. ⌜ (r ≡ true → IsPost tables (now (text .entry))) ⌝ }
+{
+    let lines = text.len() / 36;
+    if text.len() != 36 * lines + 3 {
+        return false;
+    }
+    if lines == 0 {
+        return false;
+    }
+    if (tables as usize) < lines {
+        return false;
+    }
+    let start = 36 * lines;
+    if !is_last(&text[start..], 1) {
+        return false;
+    }
+    lines_rise(text, lines, tables)
 }
 
 // The check, for so many tables.
@@ -306,17 +407,23 @@ pub fn check_of(text: &[u8], tables: u8) -> Checked
     requires { ⌜ (0 < tables) × (tables < 100) ⌝ }
     ensures { λ r. ⌜ CheckedAs tables (now (text .entry)) (r .number) (r .place) ⌝ }
 {
-    let lines = scan(text, tables);
-    let at = lines.at;
-    let above = lines.above;
-    let rest = &text[at..];
-    if (0 < above) & text::same(rest, b"!\r\n") {
+    if seen_whole(text, tables) {
         return Checked {
             number: 1,
             place: 0,
         };
     }
-    let place = rest_place(rest, above, tables);
+    let lines = scan(text, tables);
+    let at = lines.at;
+    let above = lines.above;
+    let rest = &text[at..];
+    if is_last(rest, above) {
+        return Checked {
+            number: 1,
+            place: 0,
+        };
+    }
+    let place = rest_place(rest, lines.stray, above, tables);
     Checked {
         number: 20,
         place: at + place,

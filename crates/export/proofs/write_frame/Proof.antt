@@ -1,6 +1,6 @@
 -- `export::write_frame` meets its contract: what is written so far is the line, changed as far as it was gone through; the BCC
 -- is written over the last byte. Assumes nothing.
-use mathlib.Core.Path.{_≡_, refl, sym, ap, _∙_}
+use mathlib.Core.Path.{_≡_, refl, sym, ap, ap₂, _∙_}
 use mathlib.Core.List.{List}
 use Prim.Native.Nat.{ℕ, _+_, _-_, _<_, _≤_}
 use native.Mathlib.Omega.{arith}
@@ -21,12 +21,13 @@ turn : (buf out text : List ℕ) (at j x : ℕ) → out ≡ stored buf at (chang
 turn buf out text at j x e w =
     rw (e, w, ← getD-drop at text j 0) (changed-next buf at (drop at text) j)
 
-last : (buf out text : List ℕ) (at j sum x : ℕ) → j ≡ 36 → out ≡ stored buf at (changedTo (drop at text) j) → sum ≡ bccOf (take (at + 36 - at) (drop at text)) → x ≡ sent (bitXor sum 2)
-    → set out (at + 35) x ≡ stored buf at (changedLine (drop at text))
+last : (buf out text : List ℕ) (at j sum x : ℕ) → j ≡ 36 → out ≡ stored buf at (changedTo (drop at text) j) → sum ≡ bccOf (take (at + 32 - at) (drop at text))
+    → x ≡ sent (bitXor (bitXor sum (getD text (at + 32) 0)) 44) → set out (at + 35) x ≡ stored buf at (changedLine (drop at text))
 unfolding changedLine
 last buf out text at j sum x k e b w =
-    let n : at + 36 - at ≡ 36 = omega arith in
-    let v : x ≡ sent (bitXor (bccOf (take 36 (drop at text))) 2) = w ∙ ap (λ (y : ℕ). sent (bitXor y 2)) (b ∙ ap (λ (i : ℕ). bccOf (take i (drop at text))) n) in
+    let n : at + 32 - at ≡ 32 = omega arith in
+    let v : x ≡ sent (bitXor (bitXor (bccOf (take 32 (drop at text))) (getD (drop at text) 32 0)) 44) =
+    w ∙ ap₂ (λ (y z : ℕ). sent (bitXor (bitXor y z) 44)) (b ∙ ap (λ (i : ℕ). bccOf (take i (drop at text))) n) (sym (getD-drop at text 32 0)) in
     rw (e, k, v) (changed-last buf at (drop at text) _)
 
 abbrev Inv-loop : tie.InvT-loop
@@ -85,6 +86,9 @@ part-bcc-end c = omega arith
 bcc-requires : tie.Need-bcc-requires Inv-loop μ-loop
 bcc-requires c κs = tt
 
+shared-slice-read-wire-2 : tie.Need-shared-slice-read-wire-2 Inv-loop μ-loop
+shared-slice-read-wire-2 c = omega arith
+
 wire-requires-2 : tie.Need-wire-requires-2 Inv-loop μ-loop
 wire-requires-2 c κs = tt
 
@@ -95,13 +99,13 @@ slice-write-out-2 : tie.Need-slice-write-out-2 Inv-loop μ-loop
 slice-write-out-2 c = omega arith
 
 same-length : tie.Need-same-length Inv-loop μ-loop
-same-length c = simp length-set (c .before .before .before .before .loop .inv .1)
+same-length c = simp length-set (c .before .before .before .before .before .loop .inv .1)
 
 returns : tie.Need-returns Inv-loop μ-loop
 returns c =
-    let l = (c .before .before .before .before .loop) in
-    let a = (c .before .before .before .before .before .before .before .args) in
-    last (a .out .now) (l .out) (a .text .now) (a .at) (l .j) (c .before .bcc .result) _ (omega arith) (l .inv .2) (c .before .bcc .ensures) (c .wire2 .ensures)
+    let l = (c .before .before .before .before .before .loop) in
+    let a = (c .before .before .before .before .before .before .before .before .args) in
+    last (a .out .now) (l .out) (a .text .now) (a .at) (l .j) (c .before .before .bcc .result) _ (omega arith) (l .inv .2) (c .before .before .bcc .ensures) (c .wire2 .ensures)
 
 pub write-frame-spec : {M : Type 1} → statement M
 write-frame-spec =
@@ -124,6 +128,7 @@ write-frame-spec =
     part-bcc-start
     part-bcc-end
     bcc-requires
+    shared-slice-read-wire-2
     wire-requires-2
     add-out-2
     slice-write-out-2

@@ -1,34 +1,16 @@
--- `post::check_of` meets its contract: the answer from where the lines end. Assumes nothing.
-use mathlib.Core.Path.{_≡_, refl, sym, ap, _∙_}
-use mathlib.Core.Bool.{Bool, true, false, _&&_}
-use mathlib.Core.List.{List}
-use Prim.Native.Nat.{ℕ, _-_, _<_}
-use native.Mathlib.Omega.{arith}
+-- `post::check_of` meets its contract: a post seen whole, or the answer from where the lines end. Assumes nothing.
+use mathlib.Core.Path.{_≡_, refl, sym, _∙_}
+use Rattle.post.proofs.Answers.{part-is, answers-post, accepted, refused}
+use Rattle.post.proofs.Last.{last-is, not-last}
 use borrow.Author.Needs.{needs}
-use borrow.Author.Tests.{ltb-true, lt-ltb}
-use lib.Dec.{ltb}
-use lib.ListN.{length, take, drop}
-use Rattle.line.proofs.Runs.{and-left, and-right}
-use Rattle.text.specs.Classes.{sameText}
-use Rattle.text.proofs.Matching.{same-is, same-self}
-use Rattle.post.specs.Grammar.{lastLine}
-use Rattle.post.specs.Place.{Longest, CheckedAs}
-use Rattle.post.specs.Columns.{nextNumber}
-use Rattle.post.specs.Rest.{Rest, Scanned}
-use Rattle.post.proofs.Answers.{part-is, accepted, refused}
 use Rattle.post.proofs.check_of.Statement.{statement}
 use Rattle.post.proofs.check_of.Tie as tie
 
--- the part that was lent is what is left of the text
-ended : (text : List ℕ) (at above : ℕ) (b : Bool) → b ≡ sameText (take (length text - at) (drop at text)) lastLine → (ltb 0 above && b) ≡ true → (0 < above) × (drop at text ≡ lastLine)
-ended text at above b e t =
-    (ltb-true 0 above (and-left (ltb 0 above) b t), sym (part-is text at) ∙ same-is (take (length text - at) (drop at text)) lastLine (sym e ∙ and-right (ltb 0 above) b t))
+seen-whole-requires : tie.Need-seen-whole-requires
+seen-whole-requires c κs = search needs
 
-not-ended : (text : List ℕ) (at above : ℕ) (b : Bool) → b ≡ sameText (take (length text - at) (drop at text)) lastLine → (ltb 0 above && b) ≡ false → 0 < above → drop at text ≡ lastLine → ⊥
-not-ended text at above b e f h l =
-    let s : b ≡ true = e ∙ ap (λ (x : List ℕ). sameText x lastLine) (part-is text at ∙ l) ∙ same-self lastLine in
-    let t : (ltb 0 above && b) ≡ true = rw (lt-ltb 0 above h, s) in
-    (let z : _≡_ {A = ℕ} 0 1 = cc in omega arith)
+returns : tie.Need-returns
+returns c = answers-post (c .before .before .before .args .tables) (c .before .before .before .args .text .now) (c .before .seen-whole .ensures (c .if1 .taken))
 
 scan-requires : tie.Need-scan-requires
 scan-requires c κs = search needs
@@ -42,53 +24,50 @@ part-rest-start c = search needs
 part-rest-end : tie.Need-part-rest-end
 part-rest-end c = search needs
 
-slice-aggregate-same : tie.Need-slice-aggregate-same
-slice-aggregate-same c = search needs
+is-last-requires : tie.Need-is-last-requires
+is-last-requires c κs = search needs
 
-same-requires : tie.Need-same-requires
-same-requires c κs = search needs
-
-returns : tie.Need-returns
-unfolding lastLine
-returns c =
-    let a = (c .before .before .before .before .before .before .args) in
-    let n = c .before .before .before .before .scan .result in
-    let e = ended (a .text .now) (n .at) (n .above) (c .before .same .result) (c .before .same .ensures) (c .if1 .taken) in
-    accepted (a .tables) (n .at) (n .above) (a .text .now) (c .before .before .before .before .before .before .pre .1) (c .before .before .before .before .scan .ensures) (e .0) (e .1)
+returns-2 : tie.Need-returns-2
+returns-2 c =
+    let a = (c .before .before .before .before .before .before .before .args) in
+    let n = c .before .before .before .scan .result in
+    let e = last-is (n .above) _ (sym (c .before .is-last .ensures) ∙ c .if2 .taken) in
+    accepted (a .tables) (n .at) (n .above) (n .stray) (a .text .now) (c .before .before .before .before .before .before .before .pre .1) (c .before .before .before .scan .ensures) (e .0) (sym (part-is (a .text .now) (n .at)) ∙ e .1)
 
 rest-place-requires : tie.Need-rest-place-requires
 rest-place-requires c κs =
-    let a = (c .before .before .before .before .before .before .args) in
-    let n = c .before .before .before .before .scan .result in (
-      c .before .before .before .before .before .before .pre .0,
-      c .before .before .before .before .before .before .pre .1,
-      c .before .before .before .before .scan .ensures .passed .in-tables,
-      rw (part-is (a .text .now) (n .at)) (c .before .before .before .before .scan .ensures .stops),
+    let a = (c .before .before .before .before .before .before .before .args) in
+    let n = c .before .before .before .scan .result in (
+      c .before .before .before .before .before .before .before .pre .0,
+      c .before .before .before .before .before .before .before .pre .1,
+      c .before .before .before .scan .ensures .passed .in-tables,
+      rw (part-is (a .text .now) (n .at)) (c .before .before .before .scan .ensures .stops),
+      rw (part-is (a .text .now) (n .at)) (c .before .before .before .scan .ensures .strays),
     )
 
 add-t10 : tie.Need-add-t10
 add-t10 c = search needs
 
-returns-2 : tie.Need-returns-2
-unfolding lastLine
-returns-2 c =
-    let a = (c .before .before .before .before .before .before .before .args) in
-    let n = c .before .before .before .before .before .scan .result in
-    refused (a .tables) (n .at) (n .above) (a .text .now) (c .before .before .before .before .before .before .before .pre .1) (c .before .before .before .before .before .scan .ensures) (c .rest-place .result)
-    (not-ended (a .text .now) (n .at) (n .above) (c .before .before .same .result) (c .before .before .same .ensures) (c .before .if1 .left))
+returns-3 : tie.Need-returns-3
+returns-3 c =
+    let a = (c .before .before .before .before .before .before .before .before .args) in
+    let n = c .before .before .before .before .scan .result in
+    refused (a .tables) (n .at) (n .above) (n .stray) (a .text .now) (c .before .before .before .before .before .before .before .before .pre .1) (c .before .before .before .before .scan .ensures) (c .rest-place .result)
+    (λ h l. not-last (n .above) _ (sym (c .before .before .is-last .ensures) ∙ c .before .if2 .left) h (part-is (a .text .now) (n .at) ∙ l))
     (rw (part-is (a .text .now) (n .at)) at (c .rest-place .ensures))
 
 pub check-of-spec : {M : Type 1} → statement M
 check-of-spec =
     tie.close
     (tie.spec
+    seen-whole-requires
+    returns
     scan-requires
     sub-rest
     part-rest-start
     part-rest-end
-    slice-aggregate-same
-    same-requires
-    returns
+    is-last-requires
+    returns-2
     rest-place-requires
     add-t10
-    returns-2)
+    returns-3)

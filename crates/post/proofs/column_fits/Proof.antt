@@ -1,22 +1,35 @@
--- `post::column_fits` meets its contract: the code is the definition. Assumes nothing.
+-- `post::column_fits` meets its contract: one comparison of a difference that wraps stands for both bounds. Assumes nothing.
 use mathlib.Core.Path.{_≡_, refl, sym, ap, _∙_}
 use mathlib.Core.Bool.{Bool, true, false, _&&_}
 use mathlib.Core.List.{List, [], _∷_, _++_}
-use Prim.Native.Nat.{ℕ, suc, _+_, _-_, _*_, _<_, _≤_}
+use Prim.Native.Nat.{ℕ, suc, _+_, _-_, _*_, _%_, _<_, _≤_}
 use native.Mathlib.Omega.{arith}
-use lib.ListN.{getD}
+use lib.Dec.{leb}
+use lib.ListN.{getD, drop}
 use lib.Seq.{getD-drop}
-use Rattle.text.specs.Classes.{between}
 use Rattle.post.specs.Columns.{columnFits, lowest, highest}
+use Rattle.post.proofs.Columns.{bounds-order, bounds-small, fits-wrapped}
 use borrow.Author.Needs.{needs}
 use Rattle.post.proofs.column_fits.Statement.{statement}
 use Rattle.post.proofs.column_fits.Tie as tie
 
-add-c : tie.Need-add-c
-add-c c = search needs
+wrapped : (text low high : List ℕ) (at j r : ℕ) → low ≡ lowest → high ≡ highest → j < 36 → getD text (at + j) 0 < 256 → r < 256
+    → (r + getD low j 0) % 256 ≡ getD text (at + j) 0 → leb r (getD high j 0 - getD low j 0) ≡ columnFits (drop at text) j
+unfolding columnFits
+wrapped text low high at j r l h i k m e =
+    rw (l, h, getD-drop at text j 0) (fits-wrapped (getD lowest j 0) (getD highest j 0) (getD text (at + j) 0) r (bounds-order j i) (bounds-small j i) k m (rw l at e))
 
-shared-slice-read-c : tie.Need-shared-slice-read-c
-shared-slice-read-c c = search needs
+add-wrapping-sub-u8 : tie.Need-add-wrapping-sub-u8
+add-wrapping-sub-u8 c = search needs
+
+shared-slice-read-wrapping-sub-u8 : tie.Need-shared-slice-read-wrapping-sub-u8
+shared-slice-read-wrapping-sub-u8 c = search needs
+
+element-copy-out-wrapping-sub-u8 : tie.Need-element-copy-out-wrapping-sub-u8
+element-copy-out-wrapping-sub-u8 c = search needs
+
+wrapping-sub-u8-requires : tie.Need-wrapping-sub-u8-requires
+wrapping-sub-u8-requires c κs = search needs
 
 element-copy-out-result : tie.Need-element-copy-out-result
 element-copy-out-result c = search needs
@@ -24,13 +37,26 @@ element-copy-out-result c = search needs
 element-copy-out-result-2 : tie.Need-element-copy-out-result-2
 element-copy-out-result-2 c = search needs
 
+sub-result : tie.Need-sub-result
+sub-result c =
+    let j = c .before .before .before .before .before .before .args .j in
+    rw (c .before .before .before .before .before .before .pre .0, c .before .before .before .before .before .before .pre .1) (bounds-order j (c .before .before .before .before .before .before .pre .2))
+
 returns : tie.Need-returns
-unfolding columnFits between
 returns c =
-    let a = (c .before .before .before .args) in
-    rw (c .before .before .before .pre .0, c .before .before .before .pre .1) (ap (λ (x : ℕ). between (getD lowest (a .j) 0) (getD highest (a .j) 0) x) (sym (getD-drop (a .at) (a .text .now) (a .j) 0)))
+    let a = (c .before .before .before .before .before .before .args) in
+    wrapped (a .text .now) (a .low .now) (a .high .now) (a .at) (a .j) (c .before .before .wrapping-sub-u8 .result) (c .before .before .before .before .before .before .pre .0) (c .before .before .before .before .before .before .pre .1) (c .before .before .before .before .before .before .pre .2)
+    (omega (arith, c .before .before .before .before .before .shared-slice-known .given (a .at + a .j))) (omega (arith, c .before .before .wrapping-sub-u8 .ok)) (c .before .before .wrapping-sub-u8 .ensures)
 
 pub column-fits-spec : {M : Type 1} → statement M
 column-fits-spec =
     tie.close
-    (tie.spec add-c shared-slice-read-c element-copy-out-result element-copy-out-result-2 returns)
+    (tie.spec
+    add-wrapping-sub-u8
+    shared-slice-read-wrapping-sub-u8
+    element-copy-out-wrapping-sub-u8
+    wrapping-sub-u8-requires
+    element-copy-out-result
+    element-copy-out-result-2
+    sub-result
+    returns)

@@ -17,27 +17,21 @@ Inv-loop s low high j₀ j = (low ≡ lowest) × (high ≡ highest) × (length s
 abbrev μ-loop : tie.MeasureT-loop
 μ-loop s low high j₀ j = length s - j
 
-stray-at-requires : tie.Need-stray-at-requires Inv-loop μ-loop
-stray-at-requires c κs = omega arith
-
-returns : tie.Need-returns Inv-loop μ-loop
-returns c = c .stray-at .ensures
-
 loop-holds : tie.Need-loop-holds Inv-loop μ-loop
 unfolding lowest highest
-loop-holds c = (refl, refl, omega arith, omega arith, λ i h. absurd (omega arith))
+loop-holds c = (refl, refl, (c .before .pre), omega arith, λ i h. absurd (omega arith))
 
 column-fits-requires : tie.Need-column-fits-requires Inv-loop μ-loop
 column-fits-requires c κs = (c .before .before .before .loop .inv .0, c .before .before .before .loop .inv .1, omega arith, omega arith)
 
-returns-2 : tie.Need-returns-2 Inv-loop μ-loop
-returns-2 c =
+returns : tie.Need-returns Inv-loop μ-loop
+returns c =
     let l = (c .before .before .before .before .before .loop) in
     record {
       in-text = l .inv .3;
       in-line = omega arith;
       before = l .inv .4;
-      stops = λ h k. sym (c .before .column-fits .ensures) ∙ not-true _ (c .if2 .taken);
+      stops = λ h k. sym (c .before .column-fits .ensures) ∙ not-true _ (c .if1 .taken);
     }
 
 add-j : tie.Need-add-j Inv-loop μ-loop
@@ -49,10 +43,10 @@ loop-less c = omega arith
 loop-again : tie.Need-loop-again Inv-loop μ-loop
 loop-again c =
     let l = (c .before .before .before .before .before .loop) in
-    (l .inv .0, l .inv .1, omega arith, omega arith, below-more _ _ (l .inv .4) (sym (c .before .column-fits .ensures) ∙ not-false _ (c .if2 .left)))
+    (l .inv .0, l .inv .1, omega arith, omega arith, below-more _ _ (l .inv .4) (sym (c .before .column-fits .ensures) ∙ not-false _ (c .if1 .left)))
 
-returns-3 : tie.Need-returns-3 Inv-loop μ-loop
-returns-3 c =
+returns-2 : tie.Need-returns-2 Inv-loop μ-loop
+returns-2 c =
     let l = (c .before .loop) in
     record { in-text = l .inv .3; in-line = omega arith; before = l .inv .4; stops = λ h k. absurd (omega arith) }
 
@@ -62,12 +56,10 @@ first-stray-spec =
     (tie.spec
     Inv-loop
     μ-loop
-    stray-at-requires
-    returns
     loop-holds
     column-fits-requires
-    returns-2
+    returns
     add-j
     loop-less
     loop-again
-    returns-3)
+    returns-2)

@@ -8,102 +8,103 @@ use Rattle.post.proofs.line_place.Statement.{statement}
 use Rattle.post.proofs.line_place.Tie as tie
 
 returns : tie.Need-returns
-returns c =
-    place-none (c .before .before .args .tables) (c .before .before .args .above) (c .before .before .args .s .now) (c .if1 .taken)
-
-first-stray-requires : tie.Need-first-stray-requires
-first-stray-requires c κs = search needs
+returns c = place-none (c .before .args .tables) (c .before .args .above) (c .before .args .s .now) (c .if1 .taken)
 
 returns-2 : tie.Need-returns-2
 returns-2 c =
-    let a = c .before .before .before .before .args in
-    let f = c .before .first-stray .ensures in
-    place-stray (a .tables) (a .above) (a .s .now) (c .before .first-stray .result) f (omega arith) (λ e. absurd (omega arith)) (λ e. absurd (omega arith))
+    let a = (c .before .before .args) in
+    let f = (c .before .before .pre) in
+    place-stray (a .tables) (a .above) (a .s .now) (a .stray) f (omega arith) (λ e. absurd (omega arith)) (λ e. absurd (omega arith))
 
 shared-slice-read-tens : tie.Need-shared-slice-read-tens
-shared-slice-read-tens c = search needs
+shared-slice-read-tens c =
+    let a = (c .before .before .before .args) in
+    let f = (c .before .before .before .pre) in
+    omega (arith, f .in-text)
 
 sub-tens : tie.Need-sub-tens
 sub-tens c =
-    let a = c .before .before .before .before .before .args in
-    let f = c .before .before .first-stray .ensures in
+    let a = (c .before .before .before .args) in
+    let f = (c .before .before .before .pre) in
     let t = tens-fits (a .s .now) (f .before 6 (omega arith)) in
     omega (arith, t .0, t .1)
 
 mul-tens : tie.Need-mul-tens
 mul-tens c =
-    let a = c .before .before .before .before .before .args in
-    let f = c .before .before .first-stray .ensures in
+    let a = (c .before .before .before .args) in
+    let f = (c .before .before .before .pre) in
     let t = tens-fits (a .s .now) (f .before 6 (omega arith)) in
     omega (arith, t .0, t .1)
 
 returns-3 : tie.Need-returns-3
 returns-3 c =
-    let a = c .before .before .before .before .before .before .args in
-    let f = c .before .before .before .first-stray .ensures in
-    place-tens (a .tables) (a .above) (a .s .now) (c .before .before .before .first-stray .result) f (omega arith) (omega arith) (λ z. omega (arith, z .0, z .1))
+    let a = (c .before .before .before .before .args) in
+    let f = (c .before .before .before .before .pre) in
+    place-tens (a .tables) (a .above) (a .s .now) (a .stray) f (omega arith) (omega arith) (λ z. omega (arith, z .0, z .1))
 
 add-if4 : tie.Need-add-if4
 add-if4 c =
-    let a = c .before .before .before .before .before .before .args in
-    let f = c .before .before .before .first-stray .ensures in
+    let a = (c .before .before .before .before .args) in
+    let f = (c .before .before .before .before .pre) in
     let t = tens-fits (a .s .now) (f .before 6 (omega arith)) in
     omega (arith, t .0, t .1)
 
 returns-4 : tie.Need-returns-4
 returns-4 c =
-    let a = c .before .before .before .before .before .before .before .args in
-    let f = c .before .before .before .before .first-stray .ensures in
-    place-tens (a .tables) (a .above) (a .s .now) (c .before .before .before .before .first-stray .result) f (omega arith) (omega arith) (λ z. omega (arith, z .0, z .1))
+    let a = (c .before .before .before .before .before .args) in
+    let f = (c .before .before .before .before .before .pre) in
+    place-tens (a .tables) (a .above) (a .s .now) (a .stray) f (omega arith) (omega arith) (λ z. omega (arith, z .0, z .1))
 
 returns-5 : tie.Need-returns-5
 returns-5 c =
-    let a = c .before .before .before .before .before .before .before .before .args in
-    let f = c .before .before .before .before .before .first-stray .ensures in
-    place-stray (a .tables) (a .above) (a .s .now) (c .before .before .before .before .before .first-stray .result) f (omega arith) (λ e. (omega arith, omega arith)) (λ e. absurd (omega arith))
+    let a = (c .before .before .before .before .before .before .args) in
+    let f = (c .before .before .before .before .before .before .pre) in
+    place-stray (a .tables) (a .above) (a .s .now) (a .stray) f (omega arith) (λ e. (omega arith, omega arith)) (λ e. absurd (omega arith))
 
-shared-slice-read-n : tie.Need-shared-slice-read-n
-shared-slice-read-n c = search needs
+shared-slice-read-number : tie.Need-shared-slice-read-number
+shared-slice-read-number c =
+    let a = (c .before .before .before .before .before .before .before .args) in
+    let f = (c .before .before .before .before .before .before .before .pre) in
+    omega (arith, f .in-text)
 
-sub-n : tie.Need-sub-n
-sub-n c =
-    let a = c .before .before .before .before .before .before .before .before .before .args in
-    let f = c .before .before .before .before .before .before .first-stray .ensures in
+sub-number : tie.Need-sub-number
+sub-number c =
+    let a = (c .before .before .before .before .before .before .before .args) in
+    let f = (c .before .before .before .before .before .before .before .pre) in
     let w = unit-fits (a .s .now) (f .before 7 (omega arith)) in
     omega (arith, w .0, w .1)
 
-add-n : tie.Need-add-n
-add-n c =
-    let a = c .before .before .before .before .before .before .before .before .before .args in
-    let f = c .before .before .before .before .before .before .first-stray .ensures in
+add-number : tie.Need-add-number
+add-number c =
+    let a = (c .before .before .before .before .before .before .before .args) in
+    let f = (c .before .before .before .before .before .before .before .pre) in
     let t = tens-fits (a .s .now) (f .before 6 (omega arith)) in
     let w = unit-fits (a .s .now) (f .before 7 (omega arith)) in
     omega (arith, w .0, w .1, t .0, t .1)
 
 returns-6 : tie.Need-returns-6
 returns-6 c =
-    let a = c .before .before .before .before .before .before .before .before .before .before .args in
-    let f = c .before .before .before .before .before .before .before .first-stray .ensures in
-    place-unit (a .tables) (a .above) (a .s .now) (c .before .before .before .before .before .before .before .first-stray .result) f (omega arith) (omega arith) (omega arith, omega arith) (λ z. omega (arith, z .0, z .1))
+    let a = (c .before .before .before .before .before .before .before .before .args) in
+    let f = (c .before .before .before .before .before .before .before .before .pre) in
+    place-unit (a .tables) (a .above) (a .s .now) (a .stray) f (omega arith) (omega arith) (omega arith, omega arith) (λ z. omega (arith, z .0, z .1))
 
 returns-7 : tie.Need-returns-7
 returns-7 c =
-    let a = c .before .before .before .before .before .before .before .before .before .before .before .args in
-    let f = c .before .before .before .before .before .before .before .before .first-stray .ensures in
-    place-unit (a .tables) (a .above) (a .s .now) (c .before .before .before .before .before .before .before .before .first-stray .result) f (omega arith) (omega arith) (omega arith, omega arith) (λ z. omega (arith, z .0, z .1))
+    let a = (c .before .before .before .before .before .before .before .before .before .args) in
+    let f = (c .before .before .before .before .before .before .before .before .before .pre) in
+    place-unit (a .tables) (a .above) (a .s .now) (a .stray) f (omega arith) (omega arith) (omega arith, omega arith) (λ z. omega (arith, z .0, z .1))
 
 returns-8 : tie.Need-returns-8
 returns-8 c =
-    let a = c .before .before .before .before .before .before .before .before .before .before .before .args in
-    let f = c .before .before .before .before .before .before .before .before .first-stray .ensures in
-    place-stray (a .tables) (a .above) (a .s .now) (c .before .before .before .before .before .before .before .before .first-stray .result) f (omega arith) (λ e. (omega arith, omega arith)) (λ e. (omega arith, omega arith))
+    let a = (c .before .before .before .before .before .before .before .before .before .args) in
+    let f = (c .before .before .before .before .before .before .before .before .before .pre) in
+    place-stray (a .tables) (a .above) (a .s .now) (a .stray) f (omega arith) (λ e. (omega arith, omega arith)) (λ e. (omega arith, omega arith))
 
 pub line-place-spec : {M : Type 1} → statement M
 line-place-spec =
     tie.close
     (tie.spec
     returns
-    first-stray-requires
     returns-2
     shared-slice-read-tens
     sub-tens
@@ -112,9 +113,9 @@ line-place-spec =
     add-if4
     returns-4
     returns-5
-    shared-slice-read-n
-    sub-n
-    add-n
+    shared-slice-read-number
+    sub-number
+    add-number
     returns-6
     returns-7
     returns-8)

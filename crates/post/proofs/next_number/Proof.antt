@@ -9,7 +9,7 @@ use lib.ListN.{length, getD, drop, length-drop}
 use lib.Seq.{getD-drop}
 use Rattle.post.specs.Columns.{columnsFit, numberOf, mayFollow, pick, nextNumber}
 use Rattle.post.proofs.Places.{columns-each}
-use Rattle.post.proofs.LinePlaces.{tens-fits, unit-fits}
+use Rattle.post.proofs.LinePlaces.{tens-fits, unit-fits, found}
 use Rattle.post.proofs.Strays.{whole-fits, whole-strays}
 use borrow.Author.Needs.{needs}
 use Rattle.post.proofs.next_number.Statement.{statement}
@@ -30,7 +30,7 @@ number-at : (text : List ℕ) (at : ℕ) → numberOf (drop at text) ≡ (getD t
 unfolding numberOf
 number-at text at = rw (getD-drop at text 6 0, getD-drop at text 7 0)
 
--- the three ways to find none, and the one to find the number
+-- the three ways to find none
 strays : (tables above : ℕ) (s : List ℕ) → columnsFit s 36 ≡ false → 0 ≡ nextNumber tables above s
 unfolding nextNumber pick
 strays tables above s e = rw e
@@ -43,18 +43,11 @@ too-high : (tables above n : ℕ) (s : List ℕ) → columnsFit s 36 ≡ true �
 unfolding nextNumber pick mayFollow
 too-high tables above n s e q h k = rw (e, q, lt-ltb above n h, lt-leb n tables k)
 
-found : (tables above n : ℕ) (s : List ℕ) → columnsFit s 36 ≡ true → numberOf s ≡ n → above < n → n ≤ tables → n ≡ nextNumber tables above s
-unfolding nextNumber pick mayFollow
-found tables above n s e q h k = rw (e, q, lt-ltb above n h, le-leb n tables k)
-
-stray-at-requires : tie.Need-stray-at-requires
-stray-at-requires c κs = search needs
-
 returns : tie.Need-returns
 returns c =
-    let a = (c .before .before .before .args) in
+    let a = (c .before .args) in
     let s = drop (a .at) (a .text .now) in
-    strays (a .tables) (a .above) s (whole-strays s (c .before .stray-at .result) (rw (length-drop (a .at) (a .text .now)) (omega (arith, (c .before .before .before .pre)))) (c .before .stray-at .ensures) (c .if1 .taken))
+    strays (a .tables) (a .above) s (whole-strays s (a .stray) (rw (length-drop (a .at) (a .text .now)) (omega (arith, c .before .pre .0))) (c .before .pre .1) (c .if1 .taken))
 
 add-n : tie.Need-add-n
 add-n c = search needs
@@ -64,12 +57,12 @@ shared-slice-read-n c = search needs
 
 sub-n : tie.Need-sub-n
 sub-n c =
-    let d = digits (c .before .before .before .before .args .text .now) (c .before .before .before .before .args .at) (whole-fits (drop (c .before .before .before .before .args .at) (c .before .before .before .before .args .text .now)) (c .before .before .stray-at .result) (c .before .before .stray-at .ensures) (c .before .if1 .left)) in
+    let d = digits (c .before .before .args .text .now) (c .before .before .args .at) (whole-fits (drop (c .before .before .args .at) (c .before .before .args .text .now)) (c .before .before .args .stray) (c .before .before .pre .1) (c .before .if1 .left)) in
     omega (arith, d .0)
 
 mul-n : tie.Need-mul-n
 mul-n c =
-    let d = digits (c .before .before .before .before .args .text .now) (c .before .before .before .before .args .at) (whole-fits (drop (c .before .before .before .before .args .at) (c .before .before .before .before .args .text .now)) (c .before .before .stray-at .result) (c .before .before .stray-at .ensures) (c .before .if1 .left)) in
+    let d = digits (c .before .before .args .text .now) (c .before .before .args .at) (whole-fits (drop (c .before .before .args .at) (c .before .before .args .text .now)) (c .before .before .args .stray) (c .before .before .pre .1) (c .before .if1 .left)) in
     omega (arith, d .1)
 
 add-n-2 : tie.Need-add-n-2
@@ -80,34 +73,33 @@ shared-slice-read-n-2 c = search needs
 
 sub-n-2 : tie.Need-sub-n-2
 sub-n-2 c =
-    let d = digits (c .before .before .before .before .before .args .text .now) (c .before .before .before .before .before .args .at) (whole-fits (drop (c .before .before .before .before .before .args .at) (c .before .before .before .before .before .args .text .now)) (c .before .before .before .stray-at .result) (c .before .before .before .stray-at .ensures) (c .before .before .if1 .left)) in
+    let d = digits (c .before .before .before .args .text .now) (c .before .before .before .args .at) (whole-fits (drop (c .before .before .before .args .at) (c .before .before .before .args .text .now)) (c .before .before .before .args .stray) (c .before .before .before .pre .1) (c .before .before .if1 .left)) in
     omega (arith, d .2)
 
 add-n-3 : tie.Need-add-n-3
 add-n-3 c =
-    let d = digits (c .before .before .before .before .before .args .text .now) (c .before .before .before .before .before .args .at) (whole-fits (drop (c .before .before .before .before .before .args .at) (c .before .before .before .before .before .args .text .now)) (c .before .before .before .stray-at .result) (c .before .before .before .stray-at .ensures) (c .before .before .if1 .left)) in
+    let d = digits (c .before .before .before .args .text .now) (c .before .before .before .args .at) (whole-fits (drop (c .before .before .before .args .at) (c .before .before .before .args .text .now)) (c .before .before .before .args .stray) (c .before .before .before .pre .1) (c .before .before .if1 .left)) in
     omega (arith, d .0, d .1, d .2, d .3)
 
 returns-2 : tie.Need-returns-2
 returns-2 c =
-    let a = (c .before .before .before .before .before .before .args) in
-    too-low (a .tables) (a .above) _ (drop (a .at) (a .text .now)) (whole-fits (drop (c .before .before .before .before .before .before .args .at) (c .before .before .before .before .before .before .args .text .now)) (c .before .before .before .before .stray-at .result) (c .before .before .before .before .stray-at .ensures) (c .before .before .before .if1 .left)) (number-at (a .text .now) (a .at)) (c .if2 .taken)
+    let a = (c .before .before .before .before .args) in
+    too-low (a .tables) (a .above) _ (drop (a .at) (a .text .now)) (whole-fits (drop (c .before .before .before .before .args .at) (c .before .before .before .before .args .text .now)) (c .before .before .before .before .args .stray) (c .before .before .before .before .pre .1) (c .before .before .before .if1 .left)) (number-at (a .text .now) (a .at)) (c .if2 .taken)
 
 returns-3 : tie.Need-returns-3
 returns-3 c =
-    let a = (c .before .before .before .before .before .before .before .args) in
-    too-high (a .tables) (a .above) _ (drop (a .at) (a .text .now)) (whole-fits (drop (c .before .before .before .before .before .before .before .args .at) (c .before .before .before .before .before .before .before .args .text .now)) (c .before .before .before .before .before .stray-at .result) (c .before .before .before .before .before .stray-at .ensures) (c .before .before .before .before .if1 .left)) (number-at (a .text .now) (a .at)) (c .before .if2 .left) (c .if3 .taken)
+    let a = (c .before .before .before .before .before .args) in
+    too-high (a .tables) (a .above) _ (drop (a .at) (a .text .now)) (whole-fits (drop (c .before .before .before .before .before .args .at) (c .before .before .before .before .before .args .text .now)) (c .before .before .before .before .before .args .stray) (c .before .before .before .before .before .pre .1) (c .before .before .before .before .if1 .left)) (number-at (a .text .now) (a .at)) (c .before .if2 .left) (c .if3 .taken)
 
 returns-4 : tie.Need-returns-4
 returns-4 c =
-    let a = (c .before .before .before .before .before .before .before .args) in
-    found (a .tables) (a .above) _ (drop (a .at) (a .text .now)) (whole-fits (drop (c .before .before .before .before .before .before .before .args .at) (c .before .before .before .before .before .before .before .args .text .now)) (c .before .before .before .before .before .stray-at .result) (c .before .before .before .before .before .stray-at .ensures) (c .before .before .before .before .if1 .left)) (number-at (a .text .now) (a .at)) (c .before .if2 .left) (c .if3 .left)
+    let a = (c .before .before .before .before .before .args) in
+    found (a .tables) (a .above) _ (drop (a .at) (a .text .now)) (whole-fits (drop (c .before .before .before .before .before .args .at) (c .before .before .before .before .before .args .text .now)) (c .before .before .before .before .before .args .stray) (c .before .before .before .before .before .pre .1) (c .before .before .before .before .if1 .left)) (number-at (a .text .now) (a .at)) (c .before .if2 .left) (c .if3 .left)
 
 pub next-number-spec : {M : Type 1} → statement M
 next-number-spec =
     tie.close
     (tie.spec
-    stray-at-requires
     returns
     add-n
     shared-slice-read-n

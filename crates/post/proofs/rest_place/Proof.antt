@@ -4,7 +4,6 @@ use mathlib.Core.Bool.{Bool, true, false, _&&_}
 use mathlib.Core.List.{List}
 use Prim.Native.Nat.{ℕ, _<_, _≤_}
 use native.Mathlib.Omega.{arith}
-use borrow.Author.Needs.{needs}
 use borrow.Author.Tests.{ltb-true, eqb-true, lt-ltb, eq-eqb}
 use lib.Dec.{ltb, eqb}
 use lib.ListN.{length, getD}
@@ -12,6 +11,7 @@ use Rattle.line.proofs.Runs.{and-left, and-right}
 use Rattle.post.specs.Columns.{beginsLast}
 use Rattle.post.proofs.Places.{no-line, longest-line, longest-last}
 use Rattle.post.proofs.Last.{begins-above, begins-first, begins-one, not-begun}
+use borrow.Author.Needs.{needs}
 use Rattle.post.proofs.rest_place.Statement.{statement}
 use Rattle.post.proofs.rest_place.Tie as tie
 
@@ -28,7 +28,7 @@ returns c =
     longest-last (a .tables) (a .above) (a .s .now) (c .last-place .result) (begins-above (a .above) (a .s .now) b) (begins-first (a .above) (a .s .now) b) (c .last-place .ensures)
 
 line-place-requires : tie.Need-line-place-requires
-line-place-requires c κs = search needs
+line-place-requires c κs = c .before .before .before .pre .4
 
 returns-2 : tie.Need-returns-2
 returns-2 c =
