@@ -1,0 +1,129 @@
+-- Every frame comes to one of these, with what is known of each: a property of all of them is one of any verdict.
+-- Assumes nothing.
+use mathlib.Core.Path.{_≡_, refl, sym, ap, _∙_}
+use mathlib.Core.Bool.{Bool, true, false, cond, _&&_, _||_}
+use mathlib.Core.List.{List, [], _∷_}
+use Prim.Native.Nat.{ℕ, _+_}
+use lib.Dec.{eqb, leb}
+use lib.ListN.{getD, take, drop}
+use borrow.Author.Tests.{eqb-true}
+use Rattle.line.proofs.Runs.{and-left, and-right, chosen}
+use Rattle.clock.specs.Seconds.{realClock}
+use Rattle.clock.specs.declared.Clock.{Clock}
+use Rattle.text.specs.Classes.{sameText}
+use Rattle.line.specs.Checksum.{bccOf}
+use Rattle.text.specs.Decimal.{numberAt}
+use Rattle.text.specs.Layout.{fits, pattern}
+use Rattle.frames.specs.Commands.{bracketed, askClock, askSerial, askAccount, askEnergy}
+use Rattle.values.specs.Registers.{goodAccount, goodRow, goodTable}
+use Rattle.values.specs.Reading.{clockRead, clockIn, someClock, noClock, tableRead, someTable, noTable}
+use Rattle.values.specs.declared.reading.ClockRead.{ClockRead}
+use Rattle.values.specs.declared.reading.TableRead.{TableRead}
+use Rattle.values.specs.declared.TableNo.{TableNo}
+use Rattle.values.specs.Texts.{clockForm, tableForm}
+use Rattle.replies.specs.declared.Ask.{Ask}
+use Rattle.deciding.specs.declared.Verdict.{Verdict}
+use Rattle.deciding.specs.declared.Verdict.the-variants.{Refuse, Leave, Enter, Password, Read, WriteClock, WriteAccount, WriteTable}
+use Rattle.deciding.specs.Shape.{bareShape, framedShape, content}
+use Rattle.deciding.specs.Asking.{asked, energyAsked, tableAsked}
+use Rattle.deciding.specs.Telling.{enclosed, inner, told, clockTold, accountTold, tableTold}
+use Rattle.deciding.specs.Verdict.{entry, bareVerdict, framedVerdict, shapeVerdict, verdict}
+use Rattle.promises.proofs.Choices as choice
+
+-- a clock that reads is real
+pub clock-real : (s : List ℕ) → clockRead s .ok ≡ true → realClock (clockRead s .clock) ≡ true
+unfolding clockRead
+clock-real s h =
+    let f = chosen (λ (r : ClockRead). r .ok) (fits (pattern clockForm) s) (someClock (clockIn s)) noClock refl h in
+    let k : someClock (clockIn s) .ok ≡ true = rw f at h in
+    let r = chosen (λ (r : ClockRead). r .ok) (realClock (clockIn s)) _ noClock refl k in
+    rw (f, r) r
+
+-- a table that reads is one of the 24
+pub table-real : (s : List ℕ) → tableRead 24 s .ok ≡ true → goodTable 24 (tableRead 24 s .table .0) ≡ true
+unfolding tableRead
+table-real s h =
+    let some = someTable 24 (numberAt s 0 2) in
+    let f = chosen (λ (r : TableRead). r .ok) (fits (pattern tableForm) s) some noTable refl h in
+    let k : some .ok ≡ true = rw f at h in
+    let r = chosen (λ (r : TableRead). r .ok) (goodTable 24 (numberAt s 0 2)) _ noTable refl k in
+    rw (f, r) r
+
+-- what is known of a write that was told
+pub record Told (d : List ℕ) (P : Verdict → Type 0) : Type 0 where
+  pub clock : (c : Clock) → realClock c ≡ true → P (WriteClock c)
+  pub account : goodAccount (inner d) ≡ true → P WriteAccount
+  pub table : (t : TableNo) → goodTable 24 (t .0) ≡ true → goodRow (drop 3 (inner d)) ≡ true → P (WriteTable t)
+  pub wrong : P (Refuse 9)
+
+pub told-all : (P : Verdict → Type 0) (d : List ℕ) → Told d P → P (told d)
+unfolding told clockTold accountTold tableTold
+told-all P d k =
+    choice.either P (enclosed 84 d)
+      (choice.given P (clockRead (inner d) .ok) (λ h. k .clock (clockRead (inner d) .clock) (clock-real (inner d) h)) (k .wrong))
+    (choice.either P (enclosed 75 d)
+      (choice.given P (goodAccount (inner d)) (k .account) (k .wrong))
+    (choice.either P (enclosed 90 d)
+      (choice.given P (eqb (getD (inner d) 2 0) 59 && goodRow (drop 3 (inner d)))
+        (λ g. choice.given P (tableRead 24 (take 2 (inner d)) .ok)
+          (λ h. k .table (tableRead 24 (take 2 (inner d)) .table) (table-real (take 2 (inner d)) h) (and-right (eqb (getD (inner d) 2 0) 59) (goodRow (drop 3 (inner d))) g))
+          (k .wrong))
+        (k .wrong))
+    (k .wrong)))
+
+pub asked-all : (P : Verdict → Type 0) (d : List ℕ) → ((a : Ask) → P (Read a)) → P (Refuse 9) → P (asked d)
+unfolding asked energyAsked tableAsked
+asked-all P d read wrong =
+    choice.either P (sameText d askClock) (read _)
+    (choice.either P (sameText d askSerial) (read _)
+    (choice.either P (sameText d askAccount) (read _)
+    (choice.either P (sameText d (askEnergy 0)) (read _)
+    (choice.either P (sameText d (askEnergy 1)) (read _)
+    (choice.either P (sameText d (askEnergy 2)) (read _)
+    (choice.either P (sameText d (askEnergy 3)) (read _)
+    (choice.either P (sameText d (askEnergy 4)) (read _)
+    (choice.either P (fits (90 ∷ 40 ∷ 35 ∷ 35 ∷ 41 ∷ []) d)
+      (choice.either P (tableRead 24 (take 2 (drop 2 d)) .ok) (read _) wrong)
+      wrong))))))))
+
+-- the numbers with which a frame is refused here
+pub data FrameNumber : ℕ → Type 0 where
+  parity : FrameNumber 3
+  checksum : FrameNumber 4
+  shape : FrameNumber 6
+  unknown : FrameNumber 7
+  not-allowed : FrameNumber 8
+  content-wrong : FrameNumber 9
+
+-- what is known of each verdict on a frame
+pub record Known (mode : ℕ) (h : List ℕ) (P : Verdict → Type 0) : Type 0 where
+  pub refuse : (n : ℕ) → FrameNumber n → P (Refuse n)
+  pub leave : P Leave
+  pub enter : mode ≡ 2 → P Enter
+  pub password : mode ≡ 2 → P Password
+  pub read : (a : Ask) → P (Read a)
+  pub write : mode ≡ 4 → framedShape h ≡ true → Told (content h) P
+
+pub verdict-all : (P : Verdict → Type 0) (mode : ℕ) (h : List ℕ) (mark : Bool) (sum : ℕ) → Known mode h P → P (verdict mode h mark sum)
+unfolding verdict shapeVerdict bareVerdict framedVerdict entry
+verdict-all P mode h mark sum k =
+    let a = getD h 1 0 in
+    let b = getD h 2 0 in
+    let no8 = k .refuse 8 not-allowed in
+    choice.either P mark (k .refuse 3 parity)
+    (choice.either P (eqb sum (bccOf (drop 1 h)))
+      (choice.either P (bareShape h)
+        (choice.either P (eqb a 66 && eqb b 48) (choice.either P (leb 2 mode && leb mode 4) (k .leave) no8) (k .refuse 7 unknown))
+      (choice.given P (framedShape h)
+        (λ f. choice.either P (eqb a 80 && eqb b 49)
+          (choice.given P (eqb mode 2)
+            (λ e. choice.either P (sameText (content h) (bracketed [])) (k .enter (eqb-true mode 2 e))
+              (choice.either P (fits (bracketed (35 ∷ 35 ∷ 35 ∷ 35 ∷ 35 ∷ 35 ∷ 35 ∷ 35 ∷ [])) (content h)) (k .password (eqb-true mode 2 e)) (k .refuse 9 content-wrong)))
+            no8)
+        (choice.either P (eqb a 82 && eqb b 49)
+          (choice.either P (eqb mode 3 || eqb mode 4) (asked-all P (content h) (k .read) (k .refuse 9 content-wrong)) no8)
+        (choice.either P (eqb a 87 && eqb b 49)
+          (choice.given P (eqb mode 4) (λ e. told-all P (content h) (k .write (eqb-true mode 4 e) f)) no8)
+        (k .refuse 7 unknown))))
+      (k .refuse 6 shape)))
+    (k .refuse 4 checksum))
