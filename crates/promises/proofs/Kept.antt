@@ -52,20 +52,20 @@ frame-kept : (m : Meter) (mark : Bool) (sum : ℕ) → Kept m (acted m (verdict 
 unfolding acted
 frame-kept m mark sum =
     verdict-all (λ (v : Verdict). Kept m (acted m v)) (m .mode) (heldText (m .receiver)) mark sum
-      (record {
-        refuse = λ n k. same refl;
-        leave = same refl;
-        enter = λ e. same refl;
-        password = λ e. tried-kept m;
-        read = λ a. same refl;
-        write = λ e f.
+    (record {
+      refuse = λ n k. same refl;
+      leave = same refl;
+      enter = λ e. same refl;
+      password = λ e. tried-kept m;
+      read = λ a. same refl;
+      write = λ e f.
           record {
             clock = λ c r. clock c e refl refl;
             account = λ r. account e refl refl;
             table = λ t g r. choice.either (Kept m) (goodTable 24 (t .0)) (table (t .0) e refl refl) (same refl);
-            wrong = same refl
-          }
-      })
+            wrong = same refl;
+          };
+    })
 
 line-kept : (m : Meter) → Kept m (lineEnded m)
 unfolding lineEnded
@@ -97,7 +97,7 @@ unfolding character taken
 only-writes m room b =
     choice.either (Kept m) (ltb room 2048) (same refl)
     (choice.either (Kept m) (wellFormed m)
-      (heard-kept m (symbol b) (damagedAt b) (hearing (m .mode) (m .receiver .count) (lastHeld (m .receiver)) (symbol b))) (same refl))
+    (heard-kept m (symbol b) (damagedAt b) (hearing (m .mode) (m .receiver .count) (lastHeld (m .receiver)) (symbol b))) (same refl))
 
 -- an answer other than 1 changes no register
 pub refused-keeps : (m : Meter) (room b : ℕ) → (character m room b .number ≡ 1 → ⊥) → character m room b .next .registers ≡ m .registers
@@ -132,22 +132,22 @@ frame-never : (m : Meter) (mark : Bool) (sum : ℕ) → Never (acted m (verdict 
 unfolding acted Never tried
 frame-never m mark sum =
     verdict-all (λ (v : Verdict). Never (acted m v)) (m .mode) (heldText (m .receiver)) mark sum
-      (record {
-        refuse = λ n k. frame-number n k;
-        leave = λ e. omega arith;
-        enter = λ k e. omega arith;
-        password = λ k.
+    (record {
+      refuse = λ n k. frame-number n k;
+      leave = λ e. omega arith;
+      enter = λ k e. omega arith;
+      password = λ k.
           choice.either Never (eqb (m .attempts) 3) (λ e. omega arith)
           (choice.either Never (sameText (passwordGiven m) (m .registers .password)) (λ e. omega arith) (λ e. omega arith));
-        read = λ a e. omega arith;
-        write = λ k f.
+      read = λ a e. omega arith;
+      write = λ k f.
           record {
             clock = λ c r e. omega arith;
             account = λ r e. omega arith;
             table = λ t g r. choice.either Never (goodTable 24 (t .0)) (λ e. omega arith) (λ e. omega arith);
-            wrong = λ e. omega arith
-          }
-      })
+            wrong = λ e. omega arith;
+          };
+    })
 
 heard-never : (m : Meter) (c : ℕ) (d : Bool) (h : Hearing) → Never (heard m c d h)
 unfolding heard Never lineEnded confirmed
@@ -169,4 +169,4 @@ pub well-formed-never-14 : (m : Meter) (room b : ℕ) → wellFormed m ≡ true 
 unfolding character taken Never
 well-formed-never-14 m room b h =
     rw h (choice.either Never (ltb room 2048) (λ e. omega arith)
-      (heard-never m (symbol b) (damagedAt b) (hearing (m .mode) (m .receiver .count) (lastHeld (m .receiver)) (symbol b))))
+    (heard-never m (symbol b) (damagedAt b) (hearing (m .mode) (m .receiver .count) (lastHeld (m .receiver)) (symbol b))))

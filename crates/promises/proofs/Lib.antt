@@ -1,3 +1,5 @@
 pub mod Choices
 pub mod Verdicts
 pub mod Kept
+pub mod Pieces
+pub mod Formed

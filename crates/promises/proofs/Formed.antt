@@ -1,0 +1,305 @@
+-- A well-formed state stays well-formed, whatever happens: by a character, silence, a tick, a pulse, power-up. Assumes nothing.
+use mathlib.Core.Path.{_≡_, refl, sym, ap, _∙_}
+use mathlib.Core.Bool.{Bool, true, false, cond, not, _&&_, _||_}
+use mathlib.Core.Logic.{_⊎_, inl, inr, ⊎-elim}
+use mathlib.Core.List.{List, [], _∷_}
+use Prim.Native.Nat.{ℕ, zero, suc, _+_, _-_, _*_, _%_, _<_, _≤_}
+use native.Mathlib.Nat.{mod-lt, zero-lt-suc}
+use native.Mathlib.Omega.{arith}
+use borrow.Author.Tests.{leb-true, le-leb, eqb-true, eq-eqb, ne-eqb, eqb-false}
+use lib.Dec.{eqb, leb, ltb}
+use lib.ListN.{length, drop, getD, set, replicate, length-set}
+use lib.Seq.{drop-nil, drop-drop, drop-set-lt, getD-set-other, getD-set-same}
+use native.Mathlib.Numerals.{add-one}
+use Rattle.line.specs.Runs.{every}
+use Rattle.line.specs.Characters.{damagedAt, seven}
+use Rattle.line.proofs.Runs.{and-left, and-right, and-both}
+use Rattle.line.proofs.Parity.{seven-lt}
+use Rattle.text.specs.Classes.{between, sameText}
+use Rattle.text.specs.Writing.{stored}
+use Rattle.text.proofs.Writing.{length-stored}
+use Rattle.clock.specs.Seconds.{realClock, nextSecond}
+use Rattle.clock.specs.declared.Clock.{Clock}
+use Rattle.clock.proofs.Real.{next-second-real}
+use Rattle.values.specs.declared.TableNo.{TableNo}
+use Rattle.values.specs.Registers.{goodAccount, goodRow, goodTable}
+use Rattle.state.specs.declared.Receiver.{Receiver}
+use Rattle.state.specs.declared.Counters.{Counters}
+use Rattle.state.specs.declared.Registers.{Registers}
+use Rattle.state.specs.declared.Meter.{Meter}
+use Rattle.state.specs.WellFormed.{limit, firstGood, markGood, heldGood, receiverGood, countersGood, tablesGood, registersGood, wellFormed}
+use Rattle.state.specs.Making.{emptyReceiver}
+use Rattle.state.proofs.Facts.{Formed, formed, well-formed, FormedRegisters, formed-registers, registers-good, FormedReceiver, formed-receiver, receiver-good}
+use Rattle.changes.specs.Changes.{withReceiver, inMode, withAttempts, withRegisters, withClock, withAccount, withTables, withCounters}
+use Rattle.changes.specs.Zones.{zoneIn, grown, counted}
+use Rattle.hearing.specs.declared.Hearing.{Hearing}
+use Rattle.hearing.specs.declared.Hearing.the-variants.{Drop, Hold, Restart, Empty, Line, Confirm, Frame, TooLong}
+use Rattle.hearing.specs.Hearing.{hearing}
+use Rattle.hearing.specs.Receivers.{heldText, lastHeld, keptReceiver, restartedReceiver}
+use Rattle.hearing.proofs.Laws.{Room, hold-room, restart-first}
+use Rattle.deciding.specs.declared.Verdict.{Verdict}
+use Rattle.deciding.specs.Verdict.{verdict}
+use Rattle.meter.specs.Outcomes.{Outcome, fallen}
+use Rattle.meter.specs.SignOn.{signsOnBy, wantsBlock, wantsProgram}
+use Rattle.meter.specs.Acting.{passwordGiven, accountGiven, rowGiven, tried, acted}
+use Rattle.meter.specs.Character.{symbol, lineEnded, confirmed, heard, taken, character}
+use Rattle.meter.specs.Events.{afterSilence, silence, tick, pulse, powerUp}
+use Rattle.promises.proofs.Choices as choice
+use Rattle.promises.proofs.Pieces.{account-is, row-is}
+use Rattle.promises.proofs.Verdicts.{Told, Known, verdict-all}
+
+-- the next state of an outcome is well-formed
+Stays : Outcome → Type 0
+Stays o = wellFormed (o .next) ≡ true
+
+-- ---- runs with one more
+
+every-set : (p : ℕ → Bool) (l : List ℕ) (i a : ℕ) → every p l ≡ true → p a ≡ true → every p (set l i a) ≡ true
+unfolding every
+every-set p [] i a h k = refl
+every-set p (x ∷ l) zero a h k = and-both (p a) (every p l) k (and-right (p x) (every p l) h)
+every-set p (x ∷ l) (suc i) a h k = and-both (p x) _ (and-left (p x) (every p l) h) (every-set p l i a (and-right (p x) (every p l) h) k)
+
+every-stored : (p : ℕ → Bool) (l : List ℕ) (at : ℕ) (xs : List ℕ) → every p l ≡ true → every p xs ≡ true → every p (stored l at xs) ≡ true
+unfolding stored every
+every-stored p l at [] h k = h
+every-stored p l at (x ∷ xs) h k = every-stored p (set l at x) (at + 1) xs (every-set p l at x h (and-left (p x) (every p xs) k)) (and-right (p x) (every p xs) k)
+
+every-next : (p : ℕ → Bool) (l : List ℕ) (i : ℕ) → every p (drop i l) ≡ true → every p (drop (i + 1) l) ≡ true
+unfolding every
+every-next p [] zero h = h
+every-next p [] (suc i) h = rw (drop-nil (suc i + 1))
+every-next p (x ∷ l) zero h = and-right (p x) (every p l) h
+every-next p (x ∷ l) (suc i) h = rw (suc-first i) (every-next p l i h)
+  where
+    suc-first : (k : ℕ) → suc k + 1 ≡ suc (k + 1)
+    suc-first k = omega arith
+
+-- ---- receivers
+
+symbol-small : (b : ℕ) → between 0 127 (symbol b) ≡ true
+unfolding symbol between
+symbol-small b = choice.either (λ (c : ℕ). (leb 0 c && leb c 127) ≡ true) (damagedAt b) refl (small (seven b) (seven-lt b))
+  where
+    small : (c : ℕ) → c < 128 → (leb 0 c && leb c 127) ≡ true
+    small c h = rw (le-leb 0 c (omega arith), le-leb c 127 (omega arith))
+
+empty-good : (mode : ℕ) → receiverGood mode emptyReceiver ≡ true
+unfolding heldGood firstGood markGood every between
+empty-good mode =
+    receiver-good mode emptyReceiver
+    (record { count = omega arith; first = choice.either (λ (b : Bool). b ≡ true) (eqb mode 0) refl refl; mark = refl; held = refl })
+
+one-fits : (mode : ℕ) → 1 ≤ limit mode
+unfolding limit
+one-fits mode = choice.either (λ (k : ℕ). 1 ≤ k) (eqb mode 0) (omega arith) (choice.either (λ (k : ℕ). 1 ≤ k) (eqb mode 1) (omega arith) (omega arith))
+
+restarted-good : (mode c : ℕ) → firstGood mode 1 c ≡ true → between 0 127 c ≡ true → receiverGood mode (restartedReceiver c) ≡ true
+unfolding heldGood markGood every
+restarted-good mode c f s =
+    receiver-good mode (restartedReceiver c)
+    (record { count = one-fits mode; first = f; mark = refl; held = rw s (unfold between in refl) })
+
+held-kept : (held : List ℕ) (k c : ℕ) → heldGood held k ≡ true → between 0 127 c ≡ true → heldGood (set held k c) (k + 1) ≡ true
+unfolding heldGood
+held-kept held k c h t =
+    let long = and-left (eqb (length held) 63) _ h in
+    let rest = and-right (eqb (length held) 63) (every (between 0 127) held && every (between 0 0) (drop k held)) h in
+    let all = and-left (every (between 0 127) held) (every (between 0 0) (drop k held)) rest in
+    let zeros = and-right (every (between 0 127) held) (every (between 0 0) (drop k held)) rest in
+    let past : drop (k + 1) (set held k c) ≡ drop (k + 1) held = drop-set-lt (k + 1) held k c (omega arith) in
+    rw (length-set held k c, long, every-set (between 0 127) held k c all t, past) (every-next (between 0 0) held k zeros)
+
+-- the first stays the first, or there was none before in mode 1
+first-kept : (mode k : ℕ) (held : List ℕ) (c : ℕ) → firstGood mode k (getD held 0 0) ≡ true → (k ≡ 0 → ⊥) ⊎ (mode ≡ 1)
+    → firstGood mode (k + 1) (getD (set held k c) 0 0) ≡ true
+unfolding firstGood
+first-kept mode k held c h (inl ne) =
+    let stays : getD (set held k c) 0 0 ≡ getD held 0 0 = getD-set-other held k 0 c 0 (λ e. ne (sym e)) in
+    let grew = ne-eqb (k + 1) 0 (λ e. omega arith) in
+    let was = ne-eqb k 0 ne in
+    rw (stays, grew) (rw was at h)
+first-kept mode k held c h (inr one) = rw (one, ne-eqb (k + 1) 0 (λ e. omega arith))
+
+marked : (k : ℕ) (b : Bool) → markGood (k + 1) b ≡ true
+unfolding markGood
+marked k b = rw (ne-eqb (k + 1) 0 (λ e. omega arith))
+
+kept-good : (mode : ℕ) (r : Receiver) (c : ℕ) (d : Bool) → receiverGood mode r ≡ true → Room mode (r .count) → between 0 127 c ≡ true
+    → receiverGood mode (keptReceiver r c d) ≡ true
+kept-good mode r c d g room s =
+    let f = formed-receiver mode r g in
+    receiver-good mode (keptReceiver r c d)
+    (record {
+      count = omega (arith, room .below);
+      first = first-kept mode (r .count) (r .held) c (f .first) (room .started);
+      mark = marked (r .count) (r .mark || d);
+      held = held-kept (r .held) (r .count) c (f .held) s;
+    })
+
+-- ---- states
+
+in-mode : (m : Meter) (mode : ℕ) → wellFormed m ≡ true → mode ≤ 4 → wellFormed (inMode m mode) ≡ true
+in-mode m mode h k =
+    let f = formed m h in
+    well-formed (inMode m mode) (record { mode = k; attempts = f .attempts; receiver = empty-good mode; registers = f .registers })
+
+with-receiver : (m : Meter) (r : Receiver) → wellFormed m ≡ true → receiverGood (m .mode) r ≡ true → wellFormed (withReceiver m r) ≡ true
+with-receiver m r h k =
+    let f = formed m h in
+    well-formed (withReceiver m r) (record { mode = f .mode; attempts = f .attempts; receiver = k; registers = f .registers })
+
+with-attempts : (m : Meter) (a : ℕ) → wellFormed m ≡ true → a ≤ 3 → wellFormed (withAttempts m a) ≡ true
+with-attempts m a h k =
+    let f = formed m h in
+    well-formed (withAttempts m a) (record { mode = f .mode; attempts = k; receiver = f .receiver; registers = f .registers })
+
+with-registers : (m : Meter) (g : Registers) → wellFormed m ≡ true → registersGood g ≡ true → wellFormed (withRegisters m g) ≡ true
+with-registers m g h k =
+    let f = formed m h in
+    well-formed (withRegisters m g) (record { mode = f .mode; attempts = f .attempts; receiver = f .receiver; registers = k })
+
+own : (m : Meter) → wellFormed m ≡ true → FormedRegisters (m .registers)
+own m h = formed-registers (m .registers) (formed m h .registers)
+
+clock-good : (g : Registers) (c : Clock) → FormedRegisters g → realClock c ≡ true → registersGood (withClock g c) ≡ true
+clock-good g c f k =
+    registers-good (withClock g c) (record { serial = f .serial; account = f .account; password = f .password; clock = k; counters = f .counters; tables = f .tables })
+
+account-good : (g : Registers) (a : List ℕ) → FormedRegisters g → goodAccount a ≡ true → registersGood (withAccount g a) ≡ true
+account-good g a f k =
+    registers-good (withAccount g a) (record { serial = f .serial; account = k; password = f .password; clock = f .clock; counters = f .counters; tables = f .tables })
+
+tables-good : (g : Registers) (at : ℕ) (row : List ℕ) → FormedRegisters g → goodRow row ≡ true → registersGood (withTables g (stored (g .tables) at row)) ≡ true
+tables-good g at row f k =
+    registers-good (withTables g (stored (g .tables) at row))
+    (record { serial = f .serial; account = f .account; password = f .password; clock = f .clock; counters = f .counters; tables = rows-good (g .tables) at row (f .tables) k })
+  where
+    rows-good : (t : List ℕ) (i : ℕ) (r : List ℕ) → tablesGood 24 t ≡ true → goodRow r ≡ true → tablesGood 24 (stored t i r) ≡ true
+    rows-good t i r h j = unfold tablesGood goodRow in (
+        rw (length-stored t i r, and-left (eqb (length t) 576) (every (between 49 52) t) h)
+        (every-stored (between 49 52) t i r (and-right (eqb (length t) 576) (every (between 49 52) t) h) (and-right (eqb (length r) 24) (every (between 49 52) r) j)))
+
+counters-good : (g : Registers) (c : Counters) → FormedRegisters g → countersGood c ≡ true → registersGood (withCounters g c) ≡ true
+counters-good g c f k =
+    registers-good (withCounters g c) (record { serial = f .serial; account = f .account; password = f .password; clock = f .clock; counters = k; tables = f .tables })
+
+-- a pulse leaves every counter below 1,000,000,000
+counted-good : (c : Counters) (zone wh : ℕ) → countersGood c ≡ true → countersGood (counted c zone wh) ≡ true
+unfolding countersGood counted
+counted-good c zone wh h =
+    let a = leb (c .t1) 999999999 in
+    let b = leb (c .t2) 999999999 in
+    let d = leb (c .t3) 999999999 in
+    let e = leb (c .t4) 999999999 in
+    let ab = and-left (a && b) (d && e) h in
+    let de = and-right (a && b) (d && e) h in
+    let pa = and-left a b ab in
+    let pb = and-right a b ab in
+    let pd = and-left d e de in
+    let pe = and-right d e de in
+    choice.either P (eqb zone 1) (rw (small (c .t1), pb, pd, pe))
+    (choice.either P (eqb zone 2) (rw (pa, small (c .t2), pd, pe))
+    (choice.either P (eqb zone 3) (rw (pa, pb, small (c .t3), pe)) (rw (pa, pb, pd, small (c .t4)))))
+  where
+    P : Counters → Type 0
+    P k = ((leb (k .t1) 999999999 && leb (k .t2) 999999999) && (leb (k .t3) 999999999 && leb (k .t4) 999999999)) ≡ true
+
+    small : (n : ℕ) → leb ((n + wh) % 1000000000) 999999999 ≡ true
+    small n = le-leb ((n + wh) % 1000000000) 999999999 (omega arith)
+
+-- ---- a character
+
+fallen-small : (mode : ℕ) → mode ≤ 4 → fallen mode ≤ 4
+unfolding fallen
+fallen-small mode h = choice.either (λ (k : ℕ). k ≤ 4) (eqb mode 2) (omega arith) h
+
+module _ (m : Meter) (h : wellFormed m ≡ true) where
+  falls : wellFormed (inMode m (fallen (m .mode))) ≡ true
+  falls = in-mode m (fallen (m .mode)) h (fallen-small (m .mode) (formed m h .mode))
+
+  tried-stays : Stays (tried m)
+  unfolding tried Stays
+  tried-stays =
+      let f = formed m h in
+      choice.told Stays (eqb (m .attempts) 3) (λ e. falls)
+      (λ e.
+      let below : m .attempts + 1 ≤ 3 = omega (arith, f .attempts, eqb-false (m .attempts) 3 e) in
+      choice.either Stays (sameText (passwordGiven m) (m .registers .password))
+      (in-mode (withAttempts m 0) 4 (with-attempts m 0 h (omega arith)) (omega arith))
+      (in-mode (withAttempts m (m .attempts + 1)) (fallen (m .mode)) (with-attempts m (m .attempts + 1) h below) (fallen-small (m .mode) (f .mode))))
+
+  wrote-stays : (g : Registers) → registersGood g ≡ true → wellFormed (inMode (withRegisters m g) (m .mode)) ≡ true
+  wrote-stays g k = in-mode (withRegisters m g) (m .mode) (with-registers m g h k) (formed m h .mode)
+
+  frame-stays : (mark : Bool) (sum : ℕ) → Stays (acted m (verdict (m .mode) (heldText (m .receiver)) mark sum))
+  unfolding acted Stays
+  frame-stays mark sum =
+      verdict-all (λ (v : Verdict). Stays (acted m v)) (m .mode) (heldText (m .receiver)) mark sum
+      (record {
+        refuse = λ n k. falls;
+        leave = in-mode m 0 h (omega arith);
+        enter = λ e. in-mode m 3 h (omega arith);
+        password = λ e. tried-stays;
+        read = λ a. in-mode m (m .mode) h (formed m h .mode);
+        write = λ e f.
+            record {
+              clock = λ c r. wrote-stays _ (clock-good (m .registers) c (own m h) r);
+              account = λ r. wrote-stays _ (account-good (m .registers) (accountGiven m) (own m h) (account-is (m .receiver .count) (m .receiver .held) r));
+              table = λ t g r.
+                  choice.either Stays (goodTable 24 (t .0))
+                  (wrote-stays _ (tables-good (m .registers) ((t .0 - 1) * 24) (rowGiven m) (own m h) (row-is (m .receiver .count) (m .receiver .held) r)))
+                  falls;
+              wrong = falls;
+            };
+      })
+
+  heard-stays : (c : ℕ) (d : Bool) (k : Hearing) → hearing (m .mode) (m .receiver .count) (lastHeld (m .receiver)) c ≡ k → between 0 127 c ≡ true → Stays (heard m c d k)
+  unfolding heard Stays lineEnded confirmed
+  heard-stays c d Drop e s = h
+  heard-stays c d Hold e s =
+      with-receiver m _ h (kept-good (m .mode) (m .receiver) c d (formed m h .receiver) (hold-room (m .mode) (m .receiver .count) (lastHeld (m .receiver)) c e) s)
+  heard-stays c d Restart e s = with-receiver m _ h (restarted-good (m .mode) c (restart-first (m .mode) (m .receiver .count) (lastHeld (m .receiver)) c e) s)
+  heard-stays c d Empty e s = with-receiver m _ h (empty-good (m .mode))
+  heard-stays c d Line e s =
+      choice.either Stays (m .receiver .mark) (in-mode m 0 h (omega arith))
+      (choice.either Stays (signsOnBy (heldText (m .receiver)) (m .registers .serial)) (in-mode m 1 h (omega arith)) (in-mode m 0 h (omega arith)))
+  heard-stays c d Confirm e s =
+      choice.either Stays (m .receiver .mark || d) (in-mode m 0 h (omega arith))
+      (choice.either Stays (wantsBlock (heldText (m .receiver)) c) (in-mode m 0 h (omega arith))
+      (choice.either Stays (wantsProgram (heldText (m .receiver)) c) (in-mode m 2 h (omega arith)) (in-mode m 0 h (omega arith))))
+  heard-stays c d Frame e s = frame-stays (m .receiver .mark || d) c
+  heard-stays c d TooLong e s = falls
+
+  pub character-stays : (room b : ℕ) → wellFormed (character m room b .next) ≡ true
+  unfolding character taken Stays
+  character-stays room b =
+      choice.either Stays (ltb room 2048) h
+      (choice.either Stays (wellFormed m)
+      (heard-stays (symbol b) (damagedAt b) (hearing (m .mode) (m .receiver .count) (lastHeld (m .receiver)) (symbol b)) refl (symbol-small b)) h)
+
+  -- ---- the other events
+
+  pub silence-stays : (room : ℕ) → wellFormed (silence m room .next) ≡ true
+  unfolding silence afterSilence Stays
+  silence-stays room =
+      let off = in-mode m 0 h (omega arith) in
+      choice.either Stays (ltb room 2048) h
+      (choice.either Stays (wellFormed m) (choice.either Stays (eqb (m .mode) 0) off (choice.either Stays (eqb (m .mode) 1) off off)) h)
+
+  pub tick-stays : wellFormed (tick m .next) ≡ true
+  unfolding tick Stays
+  tick-stays =
+      choice.either Stays (wellFormed m)
+      (with-registers m _ h (clock-good (m .registers) (nextSecond (m .registers .clock)) (own m h) (next-second-real (m .registers .clock) (own m h .clock)))) h
+
+  pub pulse-stays : (wh : ℕ) → wellFormed (pulse m wh .next) ≡ true
+  unfolding pulse Stays
+  pulse-stays wh =
+      choice.either Stays (ltb 1000000 wh) h
+      (choice.either Stays (wellFormed m)
+      (with-registers m _ h (counters-good (m .registers) _ (own m h) (counted-good (m .registers .counters) (zoneIn (m .registers)) wh (own m h .counters)))) h)
+
+  pub power-up-stays : wellFormed (powerUp m .next) ≡ true
+  unfolding powerUp Stays
+  power-up-stays = choice.either Stays (wellFormed m) (with-attempts (inMode m 0) 0 (in-mode m 0 h (omega arith)) (omega arith)) h
