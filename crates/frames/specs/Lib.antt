@@ -1,2 +1,3 @@
 pub mod Frames
 pub mod Commands
+pub mod Session
