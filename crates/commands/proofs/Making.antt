@@ -1,13 +1,12 @@
 -- The three ways out of a builder, and what the pieces of a command leave in the buffer, once over their lengths.
 -- Assumes nothing.
-use mathlib.Core.Path.{_≡_, refl, sym, ap, ap₂, _∙_}
-use mathlib.Core.Bool.{Bool, true, false, cond}
-use mathlib.Core.List.{List, [], _∷_, _++_, append-assoc, append-nil}
+use mathlib.Core.Path.{_≡_, sym, ap, _∙_}
+use mathlib.Core.Bool.{Bool, true, false}
+use mathlib.Core.List.{List, _++_, append-assoc, append-nil}
 use Prim.Native.Nat.{ℕ, _+_, _<_, _≤_}
 use native.Mathlib.Omega.{arith}
 use borrow.Author.Tests.{lt-ltb, le-ltb}
-use lib.Dec.{ltb}
-use lib.ListN.{length, take, drop, replicate, length-append, length-map, length-replicate, drop-of-length-le}
+use lib.ListN.{length, take, drop, length-append, length-map, drop-of-length-le}
 use lib.Seq.{take-at, drop-at, drop-append-add, drop-drop}
 use Rattle.line.specs.Characters.{sent}
 use Rattle.text.specs.Writing.{stored, holding}

@@ -1,8 +1,8 @@
 -- What the rule of a register says of its length or its size, and the lengths of the texts that show it. Assumes nothing.
-use mathlib.Core.Path.{_≡_, refl, sym, ap, _∙_}
-use mathlib.Core.Bool.{Bool, true, _&&_}
-use mathlib.Core.List.{List, [], _∷_, _++_}
-use Prim.Native.Nat.{ℕ, _+_, _-_, _≤_}
+use mathlib.Core.Path.{_≡_, refl, _∙_}
+use mathlib.Core.Bool.{true}
+use mathlib.Core.List.{List, _∷_}
+use Prim.Native.Nat.{ℕ, _≤_}
 use native.Mathlib.Omega.{arith}
 use borrow.Author.Tests.{eqb-true, leb-true}
 use lib.Dec.{eqb, leb}
@@ -14,7 +14,7 @@ use Rattle.text.specs.Classes.{between, isDigit}
 use Rattle.text.specs.Decimal.{decimal}
 use Rattle.text.specs.Layout.{layoutText}
 use Rattle.clock.specs.declared.Clock.{Clock}
-use Rattle.values.specs.Registers.{goodDigits, isAccountCharacter, goodAccount, goodRow, goodTable, goodZone}
+use Rattle.values.specs.Registers.{goodDigits, isAccountCharacter, goodAccount, goodRow, goodZone}
 use Rattle.values.specs.Texts.{serialText, tableText, clockText}
 
 pub digits-long : (n : ℕ) (s : List ℕ) → goodDigits n s ≡ true → length s ≡ n

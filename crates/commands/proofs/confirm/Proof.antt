@@ -1,11 +1,9 @@
 -- `commands::confirm` meets its contract: too short a buffer, a field outside its rule, or the command as it was made. Assumes nothing.
 use borrow.Author.Tests.{not-true, not-false}
+use borrow.Author.Needs.{needs}
 use Rattle.commands.specs.Building.{goodChoice}
 use Rattle.frames.specs.Session.{confirmation}
-use mathlib.Core.Path.{refl, sym, _∙_}
-use native.Mathlib.Omega.{arith}
 use Rattle.commands.proofs.Making.{too-short, built, field-refused}
-use borrow.Author.Needs.{needs}
 use Rattle.commands.proofs.confirm.Statement.{statement}
 use Rattle.commands.proofs.confirm.Tie as tie
 

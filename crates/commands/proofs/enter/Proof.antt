@@ -1,11 +1,10 @@
 -- `commands::enter` meets its contract: too short a buffer, or the command as it was made. Assumes nothing.
+use mathlib.Core.Path.{refl}
+use borrow.Author.Needs.{needs}
 use Rattle.frames.specs.Commands.{bracketed}
 use Rattle.frames.specs.Session.{enterData}
 use Rattle.frames.specs.Frames.{frameOf, sealed}
-use mathlib.Core.Path.{refl, sym, _∙_}
-use native.Mathlib.Omega.{arith}
 use Rattle.commands.proofs.Making.{too-short, built}
-use borrow.Author.Needs.{needs}
 use Rattle.commands.proofs.enter.Statement.{statement}
 use Rattle.commands.proofs.enter.Tie as tie
 

@@ -1,9 +1,9 @@
 -- `commands::frame` meets its contract: three texts one after the other, then closed. Assumes nothing.
-use Prim.Native.Nat.{ℕ}
 use mathlib.Core.List.{List, [], _∷_}
+use Prim.Native.Nat.{ℕ}
 use native.Mathlib.Omega.{arith}
-use Rattle.commands.proofs.Making.{three, frame-of-three}
 use borrow.Author.Needs.{needs}
+use Rattle.commands.proofs.Making.{three, frame-of-three}
 use Rattle.commands.proofs.frame.Statement.{statement}
 use Rattle.commands.proofs.frame.Tie as tie
 

@@ -1,7 +1,7 @@
 -- `commands::line_of` meets its contract: three texts one after the other, then parity on all of them. Assumes nothing.
 use native.Mathlib.Omega.{arith}
-use Rattle.commands.proofs.Making.{three, line-of-three}
 use borrow.Author.Needs.{needs}
+use Rattle.commands.proofs.Making.{three, line-of-three}
 use Rattle.commands.proofs.line_of.Statement.{statement}
 use Rattle.commands.proofs.line_of.Tie as tie
 

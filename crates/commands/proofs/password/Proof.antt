@@ -1,14 +1,14 @@
 -- `commands::password` meets its contract: too short a buffer, a field outside its rule, or the command as it was made. Assumes nothing.
+use mathlib.Core.Path.{sym, _∙_}
+use native.Mathlib.Omega.{arith}
+use borrow.Author.Tests.{not-true, not-false}
+use borrow.Author.Needs.{needs}
 use lib.Dec.{lit≤}
 use Rattle.values.proofs.Rules.{digits-long}
-use borrow.Author.Tests.{not-true, not-false}
 use Rattle.frames.specs.Commands.{bracketed}
 use Rattle.frames.specs.Session.{passwordData}
 use Rattle.frames.specs.Frames.{frameOf, sealed}
-use mathlib.Core.Path.{refl, sym, _∙_}
-use native.Mathlib.Omega.{arith}
 use Rattle.commands.proofs.Making.{too-short, built, field-refused}
-use borrow.Author.Needs.{needs}
 use Rattle.commands.proofs.password.Statement.{statement}
 use Rattle.commands.proofs.password.Tie as tie
 

@@ -1,14 +1,13 @@
 -- `commands::read_table` meets its contract: too short a buffer, a field outside its rule, or the command as it was made. Assumes nothing.
+use mathlib.Core.Path.{sym, _∙_}
 use borrow.Author.Tests.{not-true, not-false}
+use borrow.Author.Needs.{needs}
 use Rattle.text.specs.Decimal.{decimal}
 use Rattle.text.specs.Layout.{layoutText}
 use Rattle.values.specs.Texts.{tableText}
 use Rattle.frames.specs.Commands.{askTable, bracketed}
 use Rattle.frames.specs.Frames.{frameOf, sealed}
-use mathlib.Core.Path.{refl, sym, _∙_}
-use native.Mathlib.Omega.{arith}
 use Rattle.commands.proofs.Making.{too-short, built, field-refused}
-use borrow.Author.Needs.{needs}
 use Rattle.commands.proofs.read_table.Statement.{statement}
 use Rattle.commands.proofs.read_table.Tie as tie
 

@@ -1,10 +1,9 @@
 -- `commands::read_total` meets its contract: too short a buffer, or the command as it was made. Assumes nothing.
+use mathlib.Core.Path.{refl}
+use borrow.Author.Needs.{needs}
 use Rattle.frames.specs.Commands.{askEnergy, bracketed}
 use Rattle.frames.specs.Frames.{frameOf, sealed}
-use mathlib.Core.Path.{refl, sym, _∙_}
-use native.Mathlib.Omega.{arith}
 use Rattle.commands.proofs.Making.{too-short, built}
-use borrow.Author.Needs.{needs}
 use Rattle.commands.proofs.read_total.Statement.{statement}
 use Rattle.commands.proofs.read_total.Tie as tie
 

@@ -1,12 +1,12 @@
 -- `commands::read_zone` meets its contract: too short a buffer, a field outside its rule, or the command as it was made. Assumes nothing.
-use Rattle.values.proofs.Rules.{zone-most}
+use mathlib.Core.Path.{sym, _∙_}
+use native.Mathlib.Omega.{arith}
 use borrow.Author.Tests.{not-true, not-false}
+use borrow.Author.Needs.{needs}
+use Rattle.values.proofs.Rules.{zone-most}
 use Rattle.frames.specs.Commands.{askEnergy, bracketed}
 use Rattle.frames.specs.Frames.{frameOf, sealed}
-use mathlib.Core.Path.{refl, sym, _∙_}
-use native.Mathlib.Omega.{arith}
 use Rattle.commands.proofs.Making.{too-short, built, field-refused}
-use borrow.Author.Needs.{needs}
 use Rattle.commands.proofs.read_zone.Statement.{statement}
 use Rattle.commands.proofs.read_zone.Tie as tie
 

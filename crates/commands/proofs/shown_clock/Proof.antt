@@ -1,8 +1,8 @@
 -- `commands::shown_clock` meets its contract: the text fills the array. Assumes nothing.
 use mathlib.Core.Path.{_∙_}
+use borrow.Author.Needs.{needs}
 use Rattle.values.proofs.Rules.{clock-text-long}
 use Rattle.commands.proofs.Making.{filled}
-use borrow.Author.Needs.{needs}
 use Rattle.commands.proofs.shown_clock.Statement.{statement}
 use Rattle.commands.proofs.shown_clock.Tie as tie
 

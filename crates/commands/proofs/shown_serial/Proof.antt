@@ -1,8 +1,8 @@
 -- `commands::shown_serial` meets its contract: the text fills the array. Assumes nothing.
 use mathlib.Core.Path.{_∙_}
+use borrow.Author.Needs.{needs}
 use Rattle.values.proofs.Rules.{serial-text-long}
 use Rattle.commands.proofs.Making.{filled}
-use borrow.Author.Needs.{needs}
 use Rattle.commands.proofs.shown_serial.Statement.{statement}
 use Rattle.commands.proofs.shown_serial.Tie as tie
 

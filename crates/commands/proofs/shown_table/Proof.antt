@@ -1,13 +1,13 @@
 -- `commands::shown_table` meets its contract: number, semicolon and row fill the array. Assumes nothing.
+use mathlib.Core.List.{List, [], _∷_}
+use mathlib.Core.Path.{_∙_}
+use Prim.Native.Nat.{ℕ}
+use native.Mathlib.Omega.{arith}
+use borrow.Author.Needs.{needs}
 use lib.ListN.{length-append}
 use Rattle.values.specs.Texts.{tableText}
-use Prim.Native.Nat.{ℕ}
-use mathlib.Core.List.{List, [], _∷_}
-use native.Mathlib.Omega.{arith}
-use mathlib.Core.Path.{_∙_}
 use Rattle.values.proofs.Rules.{table-text-long}
 use Rattle.commands.proofs.Making.{three, filled}
-use borrow.Author.Needs.{needs}
 use Rattle.commands.proofs.shown_table.Statement.{statement}
 use Rattle.commands.proofs.shown_table.Tie as tie
 

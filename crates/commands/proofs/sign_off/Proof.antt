@@ -1,13 +1,11 @@
 -- `commands::sign_off` meets its contract: too short a buffer, or the command as it was made. Assumes nothing.
-use lib.Dec.{lit≤}
 use mathlib.Core.List.{List, [], _∷_}
+use mathlib.Core.Path.{refl}
 use Prim.Native.Nat.{ℕ}
-use Rattle.commands.proofs.Making.{frame-made}
-use Rattle.frames.specs.Frames.{bareFrame, sealed}
-use mathlib.Core.Path.{refl, sym, _∙_}
 use native.Mathlib.Omega.{arith}
-use Rattle.commands.proofs.Making.{too-short, built}
 use borrow.Author.Needs.{needs}
+use Rattle.commands.proofs.Making.{frame-made, too-short, built}
+use Rattle.frames.specs.Frames.{bareFrame, sealed}
 use Rattle.commands.proofs.sign_off.Statement.{statement}
 use Rattle.commands.proofs.sign_off.Tie as tie
 

@@ -1,9 +1,8 @@
 -- `commands::sign_on` meets its contract: too short a buffer, or the command as it was made. Assumes nothing.
-use Rattle.frames.specs.Session.{signOn}
-use mathlib.Core.Path.{refl, sym, _∙_}
-use native.Mathlib.Omega.{arith}
-use Rattle.commands.proofs.Making.{too-short, built}
+use mathlib.Core.Path.{refl}
 use borrow.Author.Needs.{needs}
+use Rattle.frames.specs.Session.{signOn}
+use Rattle.commands.proofs.Making.{too-short, built}
 use Rattle.commands.proofs.sign_on.Statement.{statement}
 use Rattle.commands.proofs.sign_on.Tie as tie
 

@@ -1,11 +1,10 @@
 -- `commands::sign_on_to` meets its contract: too short a buffer, a field outside its rule, or the command as it was made. Assumes nothing.
-use Rattle.values.proofs.Rules.{digits-long}
+use mathlib.Core.Path.{sym, _∙_}
 use borrow.Author.Tests.{not-true, not-false}
-use Rattle.frames.specs.Session.{signOnTo}
-use mathlib.Core.Path.{refl, sym, _∙_}
-use native.Mathlib.Omega.{arith}
-use Rattle.commands.proofs.Making.{too-short, built, field-refused}
 use borrow.Author.Needs.{needs}
+use Rattle.values.proofs.Rules.{digits-long}
+use Rattle.frames.specs.Session.{signOnTo}
+use Rattle.commands.proofs.Making.{too-short, built, field-refused}
 use Rattle.commands.proofs.sign_on_to.Statement.{statement}
 use Rattle.commands.proofs.sign_on_to.Tie as tie
 

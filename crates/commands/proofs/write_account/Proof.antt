@@ -1,13 +1,13 @@
 -- `commands::write_account` meets its contract: too short a buffer, a field outside its rule, or the command as it was made. Assumes nothing.
+use mathlib.Core.Path.{sym, _∙_}
+use native.Mathlib.Omega.{arith}
+use borrow.Author.Tests.{not-true, not-false}
+use borrow.Author.Needs.{needs}
 use lib.Dec.{lit≤}
 use Rattle.values.proofs.Rules.{account-long}
-use borrow.Author.Tests.{not-true, not-false}
 use Rattle.frames.specs.Commands.{setAccount, bracketed}
 use Rattle.frames.specs.Frames.{frameOf, sealed}
-use mathlib.Core.Path.{refl, sym, _∙_}
-use native.Mathlib.Omega.{arith}
 use Rattle.commands.proofs.Making.{too-short, built, field-refused}
-use borrow.Author.Needs.{needs}
 use Rattle.commands.proofs.write_account.Statement.{statement}
 use Rattle.commands.proofs.write_account.Tie as tie
 

@@ -1,11 +1,10 @@
 -- `commands::write_clock` meets its contract: too short a buffer, a field outside its rule, or the command as it was made. Assumes nothing.
+use mathlib.Core.Path.{sym, _∙_}
 use borrow.Author.Tests.{not-true, not-false}
+use borrow.Author.Needs.{needs}
 use Rattle.frames.specs.Commands.{setClock, bracketed}
 use Rattle.frames.specs.Frames.{frameOf, sealed}
-use mathlib.Core.Path.{refl, sym, _∙_}
-use native.Mathlib.Omega.{arith}
 use Rattle.commands.proofs.Making.{too-short, built, field-refused}
-use borrow.Author.Needs.{needs}
 use Rattle.commands.proofs.write_clock.Statement.{statement}
 use Rattle.commands.proofs.write_clock.Tie as tie
 

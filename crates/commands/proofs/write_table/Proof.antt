@@ -1,14 +1,12 @@
 -- `commands::write_table` meets its contract: too short a buffer, a field outside its rule, or the command as it was made. Assumes nothing.
-use Rattle.values.specs.Registers.{goodTable, goodRow}
+use mathlib.Core.Path.{sym, _∙_}
+use borrow.Author.Tests.{not-true, not-false}
+use borrow.Author.Needs.{needs}
 use Rattle.line.proofs.Runs.{and-right}
 use Rattle.values.proofs.Rules.{row-long}
-use borrow.Author.Tests.{not-true, not-false}
 use Rattle.frames.specs.Commands.{setTable, bracketed}
 use Rattle.frames.specs.Frames.{frameOf, sealed}
-use mathlib.Core.Path.{refl, sym, _∙_}
-use native.Mathlib.Omega.{arith}
 use Rattle.commands.proofs.Making.{too-short, built, field-refused}
-use borrow.Author.Needs.{needs}
 use Rattle.commands.proofs.write_table.Statement.{statement}
 use Rattle.commands.proofs.write_table.Tie as tie
 
