@@ -2,11 +2,11 @@
 -- Assumes nothing.
 use mathlib.Core.Path.{_≡_, sym, ap, _∙_}
 use mathlib.Core.Bool.{Bool, true, false}
-use mathlib.Core.List.{List, _++_, append-assoc, append-nil}
+use mathlib.Core.List.{List, _++_, append-assoc}
 use Prim.Native.Nat.{ℕ, _+_, _<_, _≤_}
 use native.Mathlib.Omega.{arith}
 use borrow.Author.Tests.{lt-ltb, le-ltb}
-use lib.ListN.{length, take, drop, length-append, length-map, drop-of-length-le}
+use lib.ListN.{length, take, drop, length-append, length-map}
 use lib.Seq.{take-at, drop-at, drop-append-add, drop-drop}
 use Rattle.line.specs.Characters.{sent}
 use Rattle.text.specs.Writing.{stored, holding}
@@ -73,14 +73,6 @@ three buf s t u b1 p1 b2 p2 b3 p3 q1 e1 q2 e2 q3 e3 =
       held = and-then buf 0 (s ++ t) b2 p2 u b3 (and-then buf 0 s b1 p1 t b2 e1 q1 e2) place e3 ∙ ap (stored buf 0) (append-assoc s t u);
       long = omega arith;
     }
-
--- a text that fills the array that it is put into
-pub filled : (buf m : List ℕ) → length m ≡ length buf → stored buf 0 m ≡ m
-unfolding holding
-filled buf m e =
-    let fits : length m ≤ length buf = omega arith in
-    let all : length buf ≤ length m = omega arith in
-    stored-holding buf m fits ∙ (rw (drop-of-length-le buf all) (append-nil m))
 
 -- a line that was put in from the front, with parity, is made
 pub line-made : (buf m b : List ℕ) (n : ℕ) (after : List ℕ) → b ≡ stored buf 0 m → n ≡ length m → length m ≤ length buf

@@ -2,7 +2,7 @@
 use mathlib.Core.Path.{_∙_}
 use borrow.Author.Needs.{needs}
 use Rattle.values.proofs.Rules.{clock-text-long}
-use Rattle.commands.proofs.Making.{filled}
+use Rattle.text.proofs.Writing.{filled}
 use Rattle.commands.proofs.shown_clock.Statement.{statement}
 use Rattle.commands.proofs.shown_clock.Tie as tie
 

@@ -7,7 +7,8 @@ use borrow.Author.Needs.{needs}
 use lib.ListN.{length-append}
 use Rattle.values.specs.Texts.{tableText}
 use Rattle.values.proofs.Rules.{table-text-long}
-use Rattle.commands.proofs.Making.{three, filled}
+use Rattle.commands.proofs.Making.{three}
+use Rattle.text.proofs.Writing.{filled}
 use Rattle.commands.proofs.shown_table.Statement.{statement}
 use Rattle.commands.proofs.shown_table.Tie as tie
 
