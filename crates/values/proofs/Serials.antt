@@ -1,13 +1,13 @@
 -- A serial's text reads back to its ten digits, and a text that reads as a serial is the text that shows it; account and row likewise.
 -- Assumes nothing.
 use mathlib.Core.Path.{_≡_, refl, sym, ap, ap₂, _∙_}
-use mathlib.Core.Bool.{Bool, true}
+use mathlib.Core.Bool.{Bool, true, false, cond}
 use mathlib.Core.List.{List, [], _∷_, _++_, append-nil}
 use Prim.Native.Nat.{ℕ, zero, suc, _+_, _<_, _^_}
 use native.Mathlib.Omega.{arith}
 use borrow.Author.Tests.{lt-ltb}
 use lib.Dec.{eqb}
-use lib.ListN.{length, take, drop, take-append-drop, length-drop}
+use lib.ListN.{length, take, drop, take-append-drop, length-drop, length-append}
 use lib.Seq.{take-at, drop-at, length-take-le, drop-append-add}
 use Rattle.line.specs.Runs.{every}
 use Rattle.line.proofs.Runs.{and-left, and-right, chosen}
@@ -22,7 +22,8 @@ use Rattle.values.specs.Serials.{serialForm, noSerial, serialRead, accou
 use Rattle.values.specs.declared.characters.SerialRead.{SerialRead}
 use Rattle.values.specs.declared.characters.AccountRead.{AccountRead}
 use Rattle.values.specs.declared.characters.RowRead.{RowRead}
-use Rattle.values.proofs.Rules.{digits-long}
+use Rattle.values.proofs.Rules.{digits-long, account-long, row-long}
+use Rattle.values.proofs.Fields.{fits-long}
 
 serial-plain : plain serialForm ≡ true
 unfolding plain every
@@ -118,3 +119,27 @@ pub row-read-is-text : (s : List ℕ) → rowRead s .ok ≡ true → rowRead s .
 unfolding rowRead
 row-read-is-text s h =
     rw (chosen (λ (r : RowRead). r .ok) (goodRow s) (record { ok = true; row = s }) _ refl h)
+
+-- what is read has its size, read or refused
+of-either : {A : Type 0} (f : A → List ℕ) (b : Bool) (x y : A) (n : ℕ) → (b ≡ true → length (f x) ≡ n) → length (f y) ≡ n → length (f (cond b x y)) ≡ n
+of-either f true x y n h k = h refl
+of-either f false x y n h k = k
+
+serial-digits-long : (s : List ℕ) → fits (pattern serialForm) s ≡ true → length (take 3 s ++ drop 4 s) ≡ 10
+unfolding pattern
+serial-digits-long s f =
+    let n : length s ≡ 11 = fits-long (pattern serialForm) s f in
+    let three : length (take 3 s) ≡ 3 = length-take-le 3 s (omega arith) in
+    omega (arith, length-append (take 3 s) (drop 4 s), length-drop 4 s)
+
+pub serial-read-long : (s : List ℕ) → length (serialRead s .serial) ≡ 10
+unfolding serialRead
+serial-read-long s = of-either (λ (r : SerialRead). r .serial) (fits (pattern serialForm) s) _ noSerial 10 (serial-digits-long s) refl
+
+pub account-read-long : (s : List ℕ) → length (accountRead s .account) ≡ 10
+unfolding accountRead
+account-read-long s = of-either (λ (r : AccountRead). r .account) (goodAccount s) _ _ 10 (account-long s) refl
+
+pub row-read-long : (s : List ℕ) → length (rowRead s .row) ≡ 24
+unfolding rowRead
+row-read-long s = of-either (λ (r : RowRead). r .row) (goodRow s) _ _ 24 (row-long s) refl
