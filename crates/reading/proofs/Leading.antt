@@ -7,13 +7,20 @@ use Prim.Native.Nat.{ℕ, zero, suc, _+_, _-_, _<_, _≤_}
 use native.Mathlib.Omega.{arith}
 use borrow.Author.Tests.{leb-true}
 use lib.Dec.{leb}
-use lib.ListN.{length, drop, getD, drop-of-length-le}
-use Rattle.line.proofs.Runs.{left-next}
-use Rattle.reading.specs.Sets.{leading}
+use lib.ListN.{length, take, drop, getD, drop-of-length-le, length-drop}
+use lib.Seq.{drop-drop, take-add}
+use Rattle.line.proofs.Runs.{left-next, and-left, and-right, every-append}
+use Rattle.line.specs.Runs.{every}
+use Rattle.reading.specs.Sets.{leading, Lesser}
 
 or-cases : (a b : Bool) → (a || b) ≡ true → (a ≡ true) ⊎ (b ≡ true)
 or-cases true b h = inl refl
 or-cases false b h = inr h
+
+-- what is at most either number is at most the lesser
+pub under : (a b r k : ℕ) → Lesser a b r → k ≤ a → k ≤ b → k ≤ r
+under a b r k l ha hb =
+    ⊎-elim (λ e. omega (arith, leb-true a r e)) (λ e. omega (arith, leb-true b r e)) (or-cases (leb a r) (leb b r) (l .tight))
 
 module _ (p : ℕ → Bool) where
   leading-nil : (k : ℕ) → leading p k [] ≡ 0
@@ -60,7 +67,38 @@ module _ (p : ℕ → Bool) where
         ⊎-elim (λ e. leading-end (omega (arith, leb-true (length s - at) (i - at) e))) (λ e. leading-most (leb-true most (i - at) e))
         (or-cases (leb (length s - at) (i - at)) (leb most (i - at)) h)
 
-  pub leading-start : (s : List ℕ) (at most : ℕ) → (at - at) + leading p (most - (at - at)) (drop at s) ≡ leading p most (drop at s)
-  leading-start s at most =
-      let e : leading p (most - (at - at)) (drop at s) ≡ leading p most (drop at s) = ap (λ (n : ℕ). leading p n (drop at s)) {x = most - (at - at)} {y = most} (omega arith) in
+  -- none, at the place itself
+  pub none-passed : (s : List ℕ) (at : ℕ) → every p (take (at - at) (drop at s)) ≡ true
+  unfolding every
+  none-passed s at = ap (λ (n : ℕ). every p (take n (drop at s))) {x = at - at} {y = 0} (omega arith)
+
+  -- those that were passed lead
+  leading-over : (k most : ℕ) (s : List ℕ) → k ≤ length s → k ≤ most → every p (take k s) ≡ true → k + leading p (most - k) (drop k s) ≡ leading p most s
+  unfolding every
+  leading-over zero most s l m h =
+      let e : leading p (most - 0) s ≡ leading p most s = ap (λ (n : ℕ). leading p n s) {x = most - 0} {y = most} (omega arith) in
       omega arith
+  leading-over (suc k) most [] l m h = absurd (omega arith)
+  leading-over (suc k) zero (c ∷ s) l m h = absurd (omega arith)
+  leading-over (suc k) (suc most) (c ∷ s) l m h =
+      let t : p c ≡ true = and-left (p c) (every p (take k s)) h in
+      let r : k + leading p (most - k) (drop k s) ≡ leading p most s = leading-over k most s (omega arith) (omega arith) (and-right (p c) (every p (take k s)) h) in
+      let e : leading p (suc most - suc k) (drop k s) ≡ leading p (most - k) (drop k s) = ap (λ (n : ℕ). leading p n (drop k s)) {x = suc most - suc k} {y = most - k} (omega arith) in
+      let f : leading p (suc most) (c ∷ s) ≡ suc (leading p most s) = leading-cons most c s t in
+      omega arith
+
+  pub passed : (s : List ℕ) (at next most : ℕ) → at ≤ next → next ≤ length s → next - at ≤ most → every p (take (next - at) (drop at s)) ≡ true
+      → (next - at) + leading p (most - (next - at)) (drop next s) ≡ leading p most (drop at s)
+  passed s at next most from there few h =
+      let e : drop (next - at) (drop at s) ≡ drop next s = drop-drop (next - at) at s ∙ ap (λ (n : ℕ). drop n s) {x = at + (next - at)} {y = next} (omega arith) in
+      rw (← e) (leading-over (next - at) most (drop at s) (omega (arith, length-drop at s)) few h)
+
+  -- eight more that were passed
+  pub eight-more : (s : List ℕ) (at i : ℕ) → at ≤ i → every p (take (i - at) (drop at s)) ≡ true → every p (take (i + 8 - i) (drop i s)) ≡ true
+      → every p (take (i + 8 - at) (drop at s)) ≡ true
+  eight-more s at i from h k =
+      let n : i + 8 - at ≡ i - at + 8 = omega arith in
+      let m : i + 8 - i ≡ 8 = omega arith in
+      let d : drop (i - at) (drop at s) ≡ drop i s = drop-drop (i - at) at s ∙ ap (λ (j : ℕ). drop j s) {x = at + (i - at)} {y = i} (omega arith) in
+      let next : every p (take 8 (drop i s)) ≡ true = rw m at k in
+      rw (n, take-add (i - at) 8 (drop at s), d) (every-append p (take (i - at) (drop at s)) (take 8 (drop i s)) h next)

@@ -1,3 +1,3 @@
-pub mod Table
+pub mod Classes
 pub mod Leading
 pub mod Deciding

@@ -2,9 +2,10 @@
 use mathlib.Core.Path.{_≡_}
 use mathlib.Core.Bool.{Bool, true, false, cond, not, _&&_, _||_}
 use mathlib.Core.List.{List, [], _∷_}
-use Prim.Native.Nat.{ℕ, zero, suc, _+_, _≤_}
+use Prim.Native.Nat.{ℕ, zero, suc, _+_, _-_, _≤_}
 use lib.Dec.{eqb, leb}
-use lib.ListN.{length, drop, getD}
+use lib.ListN.{length, take, drop, getD}
+use Rattle.line.specs.Runs.{every}
 use Rattle.text.specs.Classes.{isDigit, isLetter, isPrintable}
 use Rattle.reading.specs.declared.SetRead.{SetRead}
 
@@ -15,10 +16,6 @@ isAddress c = (isLetter c || isDigit c) || eqb c 46
 -- a value has printable characters without `()/!`
 unfoldable pub isValue : ℕ → Bool
 isValue c = isPrintable c && (not (eqb c 40 || eqb c 41) && not (eqb c 47 || eqb c 33))
-
--- 1 for an address, 2 for a value, 3 for both
-unfoldable pub kindOf : ℕ → ℕ
-kindOf c = cond (isAddress c) 1 0 + cond (isValue c) 2 0
 
 unfoldable pub ofKind : Bool → ℕ → Bool
 ofKind value c = cond value (isValue c) (isAddress c)
@@ -33,6 +30,19 @@ pub record Lesser (a b r : ℕ) : Type 0 where
   pub low : r ≤ a
   pub high : r ≤ b
   pub tight : (leb a r || leb b r) ≡ true
+
+-- the characters from a place up to r, within an end, may all stand in a value
+pub record Passes (s : List ℕ) (at end r : ℕ) : Type 0 where
+  pub from : at ≤ r
+  pub within : r ≤ end
+  pub all : every isValue (take (r - at) (drop at s)) ≡ true
+
+-- the characters from a place up to another, no more than are looked at, lead with what follows them
+pub record Passed (s : List ℕ) (at next : ℕ) (value : Bool) (most : ℕ) : Type 0 where
+  pub from : at ≤ next
+  pub there : next ≤ length s
+  pub few : next - at ≤ most
+  pub lead : (next - at) + leading (ofKind value) (most - (next - at)) (drop next s) ≡ leading (ofKind value) most (drop at s)
 
 -- so many lead, and no more than there are
 pub record Leads (value : Bool) (most : ℕ) (s : List ℕ) (r : ℕ) : Type 0 where

@@ -1,9 +1,9 @@
 // Data sets read one by one from lent data, and the values in them.
 ghost use mathlib.Core.Path.{_≡_};
-ghost use mathlib.Core.Bool.{Bool};
+ghost use mathlib.Core.Bool.{true};
 ghost use Prim.Native.Nat.{_+_, _-_, _≤_};
 ghost use lib.ListN.{length, take, drop, getD};
-ghost use Rattle.reading.specs.Sets.{kindOf, ofKind, Lesser, Leads, startsWith3, endAt, malformedAt, setRead};
+ghost use Rattle.reading.specs.Sets.{isAddress, isValue, ofKind, Lesser, Passes, Passed, Leads, startsWith3, endAt, malformedAt, setRead};
 
 // The answers of document 01.
 pub const END: u8 = 0;
@@ -12,278 +12,33 @@ pub const DONE: u8 = 1;
 
 pub const MALFORMED: u8 = 25;
 
-// What each byte may stand in: 1 an address, 2 a value, 3 both. One look for each character is the quickest way found.
-const KINDS: [u8; 256] = [
-    0,
-    0,
-    0,
-    0,
-    0,
-    0,
-    0,
-    0,
-    0,
-    0,
-    0,
-    0,
-    0,
-    0,
-    0,
-    0,
-    0,
-    0,
-    0,
-    0,
-    0,
-    0,
-    0,
-    0,
-    0,
-    0,
-    0,
-    0,
-    0,
-    0,
-    0,
-    0,
-    2,
-    0,
-    2,
-    2,
-    2,
-    2,
-    2,
-    2,
-    0,
-    0,
-    2,
-    2,
-    2,
-    2,
-    3,
-    0,
-    3,
-    3,
-    3,
-    3,
-    3,
-    3,
-    3,
-    3,
-    3,
-    3,
-    2,
-    2,
-    2,
-    2,
-    2,
-    2,
-    2,
-    3,
-    3,
-    3,
-    3,
-    3,
-    3,
-    3,
-    3,
-    3,
-    3,
-    3,
-    3,
-    3,
-    3,
-    3,
-    3,
-    3,
-    3,
-    3,
-    3,
-    3,
-    3,
-    3,
-    3,
-    3,
-    3,
-    2,
-    2,
-    2,
-    2,
-    2,
-    2,
-    3,
-    3,
-    3,
-    3,
-    3,
-    3,
-    3,
-    3,
-    3,
-    3,
-    3,
-    3,
-    3,
-    3,
-    3,
-    3,
-    3,
-    3,
-    3,
-    3,
-    3,
-    3,
-    3,
-    3,
-    3,
-    3,
-    2,
-    2,
-    2,
-    2,
-    0,
-    0,
-    0,
-    0,
-    0,
-    0,
-    0,
-    0,
-    0,
-    0,
-    0,
-    0,
-    0,
-    0,
-    0,
-    0,
-    0,
-    0,
-    0,
-    0,
-    0,
-    0,
-    0,
-    0,
-    0,
-    0,
-    0,
-    0,
-    0,
-    0,
-    0,
-    0,
-    0,
-    0,
-    0,
-    0,
-    0,
-    0,
-    0,
-    0,
-    0,
-    0,
-    0,
-    0,
-    0,
-    0,
-    0,
-    0,
-    0,
-    0,
-    0,
-    0,
-    0,
-    0,
-    0,
-    0,
-    0,
-    0,
-    0,
-    0,
-    0,
-    0,
-    0,
-    0,
-    0,
-    0,
-    0,
-    0,
-    0,
-    0,
-    0,
-    0,
-    0,
-    0,
-    0,
-    0,
-    0,
-    0,
-    0,
-    0,
-    0,
-    0,
-    0,
-    0,
-    0,
-    0,
-    0,
-    0,
-    0,
-    0,
-    0,
-    0,
-    0,
-    0,
-    0,
-    0,
-    0,
-    0,
-    0,
-    0,
-    0,
-    0,
-    0,
-    0,
-    0,
-    0,
-    0,
-    0,
-    0,
-    0,
-    0,
-    0,
-    0,
-    0,
-    0,
-    0,
-    0,
-    0,
-    0,
-    0,
-    0,
-    0,
-    0,
-    0,
-    0,
-    0,
-    0,
-    0,
-    0,
-];
-
-fn kind(c: u8) -> u8
-    ensures { λ r. ⌜ r ≡ kindOf c ⌝ }
+// Whether a byte may stand in an address; most are digits.
+fn is_address(c: u8) -> bool
+    ensures { λ r. ⌜ r ≡ isAddress c ⌝ }
 {
-    KINDS[c as usize]
+    if (48 <= c) & (c <= 57) {
+        return true;
+    }
+    (c == b'.') | (((65 <= c) & (c <= 90)) | ((97 <= c) & (c <= 122)))
 }
 
-// Whether a byte may stand in a value, or else in an address.
+// Whether a byte may stand in a value; most are digits or letters.
+fn is_value(c: u8) -> bool
+    ensures { λ r. ⌜ r ≡ isValue c ⌝ }
+{
+    if (48 <= c) & (c <= 126) {
+        return true;
+    }
+    ((c == b' ') | ((34 <= c) & (c <= 39))) | ((42 <= c) & (c <= 46))
+}
+
 fn of_kind(value: bool, c: u8) -> bool
     ensures { λ r. ⌜ r ≡ ofKind value c ⌝ }
 {
-    let k = kind(c);
-    (value & (2 <= k)) | (!value & (k % 2 == 1))
+    if value {
+        return is_value(c);
+    }
+    is_address(c)
 }
 
 fn lesser(a: usize, b: usize) -> usize
@@ -292,14 +47,30 @@ fn lesser(a: usize, b: usize) -> usize
     if a < b { a } else { b }
 }
 
-// How many characters of a kind stand from a place on; at most so many are looked at.
-fn run(s: &[u8], at: usize, value: bool, most: usize) -> usize
-    requires { ⌜ at ≤ length (now s) ⌝ }
+// Passes eight characters of a value at a time, while all of them are digits or letters, say; the others are looked at one by one.
+fn pass_eights(s: &[u8], at: usize, end: usize) -> usize
+    requires { ⌜ (at ≤ end) × (end ≤ length (now s)) ⌝ }
+    ensures { λ r. ⌜ Passes (now (s .entry)) at end r ⌝ }
+{
+    let mut i = at;
+    while i + 8 <= end {
+        let j = i + 8;
+        if !text::all_between(&s[i..j], 48, 126) {
+            return i;
+        }
+        i = j;
+    }
+    i
+}
+
+// How many characters of a kind stand from a place on, of at most so many; those before `from` are known to be of it.
+fn run(s: &[u8], at: usize, from: usize, value: bool, most: usize) -> usize
+    requires { ⌜ Passed (now s) at from value most ⌝ }
     ensures { λ r. ⌜ Leads value most (drop at (now (s .entry))) r ⌝ }
 {
     let n = lesser(s.len() - at, most);
     let end = at + n;
-    let mut i = at;
+    let mut i = from;
     while i < end {
         if !of_kind(value, s[i]) {
             return i - at;
@@ -307,6 +78,16 @@ fn run(s: &[u8], at: usize, value: bool, most: usize) -> usize
         i += 1;
     }
     n
+}
+
+// The length of a value that starts at a place, 33 where it is longer than 32.
+fn value_run(s: &[u8], at: usize) -> usize
+    requires { ⌜ at ≤ length (now s) ⌝ }
+    ensures { λ r. ⌜ Leads true 33 (drop at (now (s .entry))) r ⌝ }
+{
+    let n = lesser(s.len() - at, 33);
+    let from = pass_eights(s, at, at + n);
+    run(s, at, from, true, 33)
 }
 
 pub struct SetRead {
@@ -363,7 +144,7 @@ pub fn next_set(data: &[u8], at: usize) -> SetRead
     if data.len() <= at {
         return ended(at);
     }
-    let a = run(data, at, false, 17);
+    let a = run(data, at, at, false, 17);
     if a == 0 {
         if three(data, at, b'!', 13, 10) {
             return ended(at);
@@ -381,7 +162,7 @@ pub fn next_set(data: &[u8], at: usize) -> SetRead
         return malformed(at);
     }
     let first = open + 1;
-    let v = run(data, first, true, 33);
+    let v = value_run(data, first);
     let close = first + v;
     if 32 < v {
         return malformed(at);

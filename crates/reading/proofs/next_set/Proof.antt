@@ -7,6 +7,8 @@ use borrow.Author.Tests.{le-leb, lt-leb, eq-eqb, ne-eqb, not-true, not-false}
 use borrow.Author.Needs.{needs}
 use lib.ListN.{drop, length-drop, List·getD-eq-default}
 use Rattle.reading.proofs.Deciding.{no-end, past-end, line-end, no-address, by-value}
+use Rattle.reading.proofs.Leading.{passed, none-passed}
+use Rattle.reading.specs.Sets.{ofKind}
 use Rattle.reading.proofs.next_set.Statement.{statement}
 use Rattle.reading.proofs.next_set.Tie as tie
 
@@ -18,7 +20,8 @@ returns c =
     c .ended .ensures ∙ past-end _ _ (c .before .if1 .taken)
 
 run-requires : tie.Need-run-requires
-run-requires c κs = search needs
+run-requires c κs =
+    let s = c .before .before .args .«data» .now in let at = c .before .before .args .at in record { from = omega arith; there = omega (arith, c .if1 .left); few = omega arith; lead = passed (ofKind false) s at at 17 (omega arith) (omega (arith, c .if1 .left)) (omega arith) (none-passed (ofKind false) s at) }
 
 three-requires : tie.Need-three-requires
 three-requires c κs = search needs
@@ -68,37 +71,37 @@ returns-6 c =
 add-first : tie.Need-add-first
 add-first c = search needs
 
-run-requires-2 : tie.Need-run-requires-2
-run-requires-2 c κs = search needs
+value-run-requires : tie.Need-value-run-requires
+value-run-requires c κs = search needs
 
 add-close : tie.Need-add-close
 add-close c =
-    record { fits = omega (arith, c .run2 .ensures .there, length-drop (c .before .before .before .before .before .before .before .before .before .args .at + c .before .before .before .before .before .before .run .result + 1) (c .before .before .before .before .before .before .before .before .before .args .«data» .now)) }
+    record { fits = omega (arith, c .value-run .ensures .there, length-drop (c .before .before .before .before .before .before .before .before .before .args .at + c .before .before .before .before .before .before .run .result + 1) (c .before .before .before .before .before .before .before .before .before .args .«data» .now)) }
 
 malformed-requires-5 : tie.Need-malformed-requires-5
 malformed-requires-5 c κs = search needs
 
 returns-7 : tie.Need-returns-7
 returns-7 c =
-    let s = c .before .before .before .before .before .before .before .before .before .before .before .args .«data» .now in let at = c .before .before .before .before .before .before .before .before .before .before .before .args .at in let a = c .before .before .before .before .before .before .before .before .run .result in let one : 1 ≤ a = omega (arith, c .before .before .before .before .before .before .before .if2 .left) in c .malformed5 .ensures ∙ by-value s at (c .before .before .before .before .before .before .before .before .before .if1 .left) a (c .before .before .before .before .before .before .before .before .run .ensures .is) (no-end 17 (drop at s) (λ z. c .before .before .before .before .before .before .before .if2 .left (c .before .before .before .before .before .before .before .before .run .ensures .is ∙ z))) (rw (le-leb 1 a one, le-leb a 16 (c .before .before .before .before .before .before .if4 .left), eq-eqb _ _ (c .before .before .before .if6 .left))) (c .before .before .run2 .result) false (c .before .before .run2 .ensures .is) (rw (lt-leb (c .before .before .run2 .result) 32 (c .before .if7 .taken)))
+    let s = c .before .before .before .before .before .before .before .before .before .before .before .args .«data» .now in let at = c .before .before .before .before .before .before .before .before .before .before .before .args .at in let a = c .before .before .before .before .before .before .before .before .run .result in let one : 1 ≤ a = omega (arith, c .before .before .before .before .before .before .before .if2 .left) in c .malformed5 .ensures ∙ by-value s at (c .before .before .before .before .before .before .before .before .before .if1 .left) a (c .before .before .before .before .before .before .before .before .run .ensures .is) (no-end 17 (drop at s) (λ z. c .before .before .before .before .before .before .before .if2 .left (c .before .before .before .before .before .before .before .before .run .ensures .is ∙ z))) (rw (le-leb 1 a one, le-leb a 16 (c .before .before .before .before .before .before .if4 .left), eq-eqb _ _ (c .before .before .before .if6 .left))) (c .before .before .value-run .result) false (c .before .before .value-run .ensures .is) (rw (lt-leb (c .before .before .value-run .result) 32 (c .before .if7 .taken)))
 
 three-requires-2 : tie.Need-three-requires-2
 three-requires-2 c κs =
-    omega (arith, c .before .run2 .ensures .there, length-drop (c .before .before .before .before .before .before .before .before .before .before .args .at + c .before .before .before .before .before .before .before .run .result + 1) (c .before .before .before .before .before .before .before .before .before .before .args .«data» .now))
+    omega (arith, c .before .value-run .ensures .there, length-drop (c .before .before .before .before .before .before .before .before .before .before .args .at + c .before .before .before .before .before .before .before .run .result + 1) (c .before .before .before .before .before .before .before .before .before .before .args .«data» .now))
 
 malformed-requires-6 : tie.Need-malformed-requires-6
 malformed-requires-6 c κs = search needs
 
 returns-8 : tie.Need-returns-8
 returns-8 c =
-    let s = c .before .before .before .before .before .before .before .before .before .before .before .before .before .args .«data» .now in let at = c .before .before .before .before .before .before .before .before .before .before .before .before .before .args .at in let a = c .before .before .before .before .before .before .before .before .before .before .run .result in let one : 1 ≤ a = omega (arith, c .before .before .before .before .before .before .before .before .before .if2 .left) in c .malformed6 .ensures ∙ by-value s at (c .before .before .before .before .before .before .before .before .before .before .before .if1 .left) a (c .before .before .before .before .before .before .before .before .before .before .run .ensures .is) (no-end 17 (drop at s) (λ z. c .before .before .before .before .before .before .before .before .before .if2 .left (c .before .before .before .before .before .before .before .before .before .before .run .ensures .is ∙ z))) (rw (le-leb 1 a one, le-leb a 16 (c .before .before .before .before .before .before .before .before .if4 .left), eq-eqb _ _ (c .before .before .before .before .before .if6 .left))) (c .before .before .before .before .run2 .result) false (c .before .before .before .before .run2 .ensures .is) (rw (le-leb (c .before .before .before .before .run2 .result) 32 (c .before .before .before .if7 .left), ← c .before .before .three2 .ensures) (not-true _ (c .before .if8 .taken)))
+    let s = c .before .before .before .before .before .before .before .before .before .before .before .before .before .args .«data» .now in let at = c .before .before .before .before .before .before .before .before .before .before .before .before .before .args .at in let a = c .before .before .before .before .before .before .before .before .before .before .run .result in let one : 1 ≤ a = omega (arith, c .before .before .before .before .before .before .before .before .before .if2 .left) in c .malformed6 .ensures ∙ by-value s at (c .before .before .before .before .before .before .before .before .before .before .before .if1 .left) a (c .before .before .before .before .before .before .before .before .before .before .run .ensures .is) (no-end 17 (drop at s) (λ z. c .before .before .before .before .before .before .before .before .before .if2 .left (c .before .before .before .before .before .before .before .before .before .before .run .ensures .is ∙ z))) (rw (le-leb 1 a one, le-leb a 16 (c .before .before .before .before .before .before .before .before .if4 .left), eq-eqb _ _ (c .before .before .before .before .before .if6 .left))) (c .before .before .before .before .value-run .result) false (c .before .before .before .before .value-run .ensures .is) (rw (le-leb (c .before .before .before .before .value-run .result) 32 (c .before .before .before .if7 .left), ← c .before .before .three2 .ensures) (not-true _ (c .before .if8 .taken)))
 
 add-t8 : tie.Need-add-t8
 add-t8 c = search needs
 
 returns-9 : tie.Need-returns-9
 returns-9 c =
-    let s = c .before .before .before .before .before .before .before .before .before .before .before .before .args .«data» .now in let at = c .before .before .before .before .before .before .before .before .before .before .before .before .args .at in let a = c .before .before .before .before .before .before .before .before .before .run .result in let one : 1 ≤ a = omega (arith, c .before .before .before .before .before .before .before .before .if2 .left) in by-value s at (c .before .before .before .before .before .before .before .before .before .before .if1 .left) a (c .before .before .before .before .before .before .before .before .before .run .ensures .is) (no-end 17 (drop at s) (λ z. c .before .before .before .before .before .before .before .before .if2 .left (c .before .before .before .before .before .before .before .before .before .run .ensures .is ∙ z))) (rw (le-leb 1 a one, le-leb a 16 (c .before .before .before .before .before .before .before .if4 .left), eq-eqb _ _ (c .before .before .before .before .if6 .left))) (c .before .before .before .run2 .result) true (c .before .before .before .run2 .ensures .is) (rw (le-leb (c .before .before .before .run2 .result) 32 (c .before .before .if7 .left), ← c .before .three2 .ensures) (not-false _ (c .if8 .left)))
+    let s = c .before .before .before .before .before .before .before .before .before .before .before .before .args .«data» .now in let at = c .before .before .before .before .before .before .before .before .before .before .before .before .args .at in let a = c .before .before .before .before .before .before .before .before .before .run .result in let one : 1 ≤ a = omega (arith, c .before .before .before .before .before .before .before .before .if2 .left) in by-value s at (c .before .before .before .before .before .before .before .before .before .before .if1 .left) a (c .before .before .before .before .before .before .before .before .before .run .ensures .is) (no-end 17 (drop at s) (λ z. c .before .before .before .before .before .before .before .before .if2 .left (c .before .before .before .before .before .before .before .before .before .run .ensures .is ∙ z))) (rw (le-leb 1 a one, le-leb a 16 (c .before .before .before .before .before .before .before .if4 .left), eq-eqb _ _ (c .before .before .before .before .if6 .left))) (c .before .before .before .value-run .result) true (c .before .before .before .value-run .ensures .is) (rw (le-leb (c .before .before .before .value-run .result) 32 (c .before .before .if7 .left), ← c .before .three2 .ensures) (not-false _ (c .if8 .left)))
 
 pub next-set-spec : {M : Type 1} → statement M
 next-set-spec =
@@ -121,7 +124,7 @@ next-set-spec =
     malformed-requires-4
     returns-6
     add-first
-    run-requires-2
+    value-run-requires
     add-close
     malformed-requires-5
     returns-7

@@ -6,16 +6,16 @@ use native.Mathlib.Omega.{arith}
 use borrow.Author.Tests.{not-true, not-false}
 use lib.ListN.{length, drop, length-drop}
 use Rattle.reading.specs.Sets.{ofKind, leading}
-use Rattle.reading.proofs.Leading.{leading-turn, leading-stop, leading-all, leading-start}
+use Rattle.reading.proofs.Leading.{leading-turn, leading-stop, leading-all, under}
 use Rattle.reading.proofs.run.Statement.{statement}
 use Rattle.reading.proofs.run.Tie as tie
 
 abbrev Inv-loop : tie.InvT-loop
-Inv-loop s at value most n end i₀ i =
+Inv-loop s at from value most n end i₀ i =
     (at ≤ i) × (i ≤ end) × (end ≡ at + n) × (end ≤ length s) × (n ≤ most) × ((i - at) + leading (ofKind value) (most - (i - at)) (drop i s) ≡ leading (ofKind value) most (drop at s))
 
 abbrev μ-loop : tie.MeasureT-loop
-μ-loop s at value most n end i₀ i = end - i
+μ-loop s at from value most n end i₀ i = end - i
 
 sub-lesser : tie.Need-sub-lesser Inv-loop μ-loop
 sub-lesser c = omega arith
@@ -29,7 +29,10 @@ add-end c = omega arith
 loop-holds : tie.Need-loop-holds Inv-loop μ-loop
 loop-holds c =
     let a = c .before .before .args in
-    (omega arith, omega arith, refl, omega arith, omega arith, leading-start (ofKind (a .value)) (a .s .now) (a .at) (a .most))
+    let pre = c .before .before .pre in
+    let few : a .from - a .at ≤ c .lesser .result =
+    under (length (a .s .now) - a .at) (a .most) (c .lesser .result) (a .from - a .at) (c .lesser .ensures) (omega (arith, pre .there)) (pre .few) in
+    (pre .from, omega arith, refl, omega arith, omega arith, pre .lead)
 
 shared-slice-read-of-kind : tie.Need-shared-slice-read-of-kind Inv-loop μ-loop
 shared-slice-read-of-kind c = omega arith
