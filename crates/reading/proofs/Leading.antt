@@ -13,7 +13,7 @@ use Rattle.line.proofs.Runs.{left-next, and-left, and-right, every-append}
 use Rattle.line.specs.Runs.{every}
 use Rattle.reading.specs.Sets.{leading, Lesser}
 
-or-cases : (a b : Bool) → (a || b) ≡ true → (a ≡ true) ⊎ (b ≡ true)
+pub or-cases : (a b : Bool) → (a || b) ≡ true → (a ≡ true) ⊎ (b ≡ true)
 or-cases true b h = inl refl
 or-cases false b h = inr h
 

@@ -1,0 +1,4 @@
+pub mod Sending
+pub mod Blocks
+pub mod Commands
+pub mod Lines
