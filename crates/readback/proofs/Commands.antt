@@ -1,34 +1,33 @@
 -- Each command of the head, its fields within their rules: its data are printable, its characters come back undamaged, its BCC fits,
 -- and it is no longer than a frame may be. Assumes nothing.
 use mathlib.Core.Path.{_≡_, refl}
-use mathlib.Core.Bool.{Bool, true, _&&_, _||_}
+use mathlib.Core.Bool.{true, _||_}
 use mathlib.Core.List.{List, [], _∷_, _++_, map}
 use mathlib.Core.Logic.{⊎-elim}
 use Prim.Native.Nat.{ℕ, _+_, _≤_}
 use native.Mathlib.Omega.{arith}
 use borrow.Author.Tests.{leb-true, le-leb, eqb-true}
+use lib.ListN.{length, take, drop, length-append}
 use lib.Dec.{leb, eqb}
-use lib.ListN.{length, drop}
+use Rattle.frames.specs.Commands.{B0, P1, R1, W1, bracketed, askClock, askSerial, askAccount, askEnergy, askTable, setClock, setAccount, setTable}
+use Rattle.frames.specs.Frames.{bareFrame, closed, frameOf, onWire}
+use Rattle.frames.specs.Session.{signOn, signOnTo, confirmation, enterData, passwordData}
+use Rattle.values.specs.Registers.{goodSerial, goodDigits, isAccountCharacter, goodAccount, goodRow, goodTable}
+use Rattle.values.specs.Texts.{serialText, tableForm, clockForm, tableText, clockText}
+use Rattle.values.proofs.Serials.{every-take, every-drop}
+use Rattle.values.proofs.Rules.{digits-long, account-long, row-long, zone-most, table-text-long, clock-text-long}
+use Rattle.readback.proofs.Sending.{closed-characters, sent-undamaged-all, sent-comes-back-all, frame-characters, closed-sums}
+use Rattle.readback.proofs.Forms.{fixedAll, layout-all}
 use Rattle.line.specs.Characters.{seven, undamagedAll}
 use Rattle.line.specs.Checksum.{bccOf}
 use Rattle.line.specs.Runs.{every}
 use Rattle.line.proofs.Runs.{and-left, and-right, and-both, every-append}
 use Rattle.text.specs.Classes.{between, isDigit, isLetter, isPrintable}
-use Rattle.text.specs.Decimal.{decimal}
-use Rattle.text.specs.Layout.{Piece, digits, fixed, layoutText}
-use Rattle.text.proofs.Decimal.{decimal-digits}
 use Rattle.clock.specs.declared.Clock.{Clock}
-use Rattle.values.specs.Registers.{goodDigits, isAccountCharacter, goodAccount, goodRow, goodTable}
-use Rattle.values.specs.Texts.{tableForm, clockForm, tableText, clockText}
-use Rattle.values.proofs.Rules.{zone-most}
-use Rattle.frames.specs.Frames.{frameOf, onWire}
-use Rattle.frames.specs.Commands.{bracketed, askClock, askSerial, askAccount, askEnergy, askTable, setClock, setAccount, setTable}
-use Rattle.frames.specs.Session.{enterData, passwordData}
 use Rattle.blocks.specs.Parts.{isCharacter}
 use Rattle.reading.proofs.Classes.{every-weaker}
 use Rattle.reading.proofs.Leading.{or-cases}
 use Rattle.readback.specs.Said.{Command, enter, password, readClock, readSerial, readAccount, readTotal, readZone, readTable, writeClock, writeAccount, writeTable, goodFields, lettersOf, dataOf, spoken}
-use Rattle.readback.proofs.Sending.{sent-undamaged-all, sent-comes-back-all, frame-characters, closed-sums}
 
 printable : (c : ℕ) → 32 ≤ c → c ≤ 126 → isPrintable c ≡ true
 unfolding isPrintable between
@@ -60,28 +59,13 @@ account-printable c h =
     (λ e. ⊎-elim (equal-printable c 32 (omega arith) (omega arith)) (equal-printable c 95 (omega arith) (omega arith)) (or-cases (eqb c 32) (eqb c 95) e))
     (or-cases (isLetter c || isDigit c) (eqb c 32 || eqb c 95) h)
 
--- the text of a form whose fixed characters are printable
-fixedPrintable : List Piece → Bool
-fixedPrintable [] = true
-fixedPrintable (fixed t ∷ ps) = every isPrintable t && fixedPrintable ps
-fixedPrintable (digits w ∷ ps) = fixedPrintable ps
-
-layout-printable : (ps : List Piece) (ns : List ℕ) → fixedPrintable ps ≡ true → every isPrintable (layoutText ps ns) ≡ true
-unfolding layoutText fixedPrintable
-layout-printable [] ns h = unfold every in refl
-layout-printable (fixed t ∷ ps) ns h =
-    every-append isPrintable t (layoutText ps ns) (and-left (every isPrintable t) (fixedPrintable ps) h) (layout-printable ps ns (and-right (every isPrintable t) (fixedPrintable ps) h))
-layout-printable (digits w ∷ ps) [] h = unfold every in refl
-layout-printable (digits w ∷ ps) (n ∷ ns) h =
-    every-append isPrintable (decimal w n) (layoutText ps ns) (every-weaker isDigit isPrintable digit-printable (decimal w n) (decimal-digits w n)) (layout-printable ps ns h)
-
 table-printable : (n : ℕ) → every isPrintable (tableText n) ≡ true
-unfolding tableText fixedPrintable
-table-printable n = layout-printable tableForm (n ∷ []) refl
+unfolding tableText fixedAll
+table-printable n = layout-all isPrintable digit-printable tableForm (n ∷ []) refl
 
 clock-printable : (c : Clock) → every isPrintable (clockText c) ≡ true
-unfolding clockText fixedPrintable every isPrintable between
-clock-printable c = layout-printable clockForm _ refl
+unfolding clockText fixedAll every isPrintable between
+clock-printable c = layout-all isPrintable digit-printable clockForm _ refl
 
 digits-printable : (n : ℕ) (s : List ℕ) → goodDigits n s ≡ true → every isPrintable s ≡ true
 unfolding goodDigits
@@ -133,24 +117,32 @@ character-of : (c : ℕ) → isPrintable c ≡ true → isCharacter c ≡ true
 unfolding isPrintable isCharacter between
 character-of c h = le-leb c 127 (omega (arith, leb-true c 126 (and-right (leb 32 c) (leb c 126) h)))
 
-letters-characters : (c : Command) → every isCharacter (lettersOf c) ≡ true
-unfolding lettersOf every isCharacter
-letters-characters enter = refl
-letters-characters (password p) = refl
-letters-characters readClock = refl
-letters-characters readSerial = refl
-letters-characters readAccount = refl
-letters-characters readTotal = refl
-letters-characters (readZone n) = refl
-letters-characters (readTable n) = refl
-letters-characters (writeClock c) = refl
-letters-characters (writeAccount a) = refl
-letters-characters (writeTable n row) = refl
+-- what is said of P1, R1 and W1 is said of each command's letters
+of-letters : (P : List ℕ → Type 0) → P P1 → P R1 → P W1 → (c : Command) → P (lettersOf c)
+unfolding lettersOf
+of-letters P p r w enter = p
+of-letters P p r w (password x) = p
+of-letters P p r w readClock = r
+of-letters P p r w readSerial = r
+of-letters P p r w readAccount = r
+of-letters P p r w readTotal = r
+of-letters P p r w (readZone n) = r
+of-letters P p r w (readTable n) = r
+of-letters P p r w (writeClock c) = w
+of-letters P p r w (writeAccount a) = w
+of-letters P p r w (writeTable n row) = w
+
+letters-two : (c : Command) → length (lettersOf c) ≡ 2
+letters-two = of-letters (λ (l : List ℕ). length l ≡ 2) refl refl refl
+
+letters-printable : (c : Command) → every isPrintable (lettersOf c) ≡ true
+unfolding every isPrintable between
+letters-printable = of-letters (λ (l : List ℕ). every isPrintable l ≡ true) refl refl refl
 
 pub command-characters : (c : Command) → goodFields c ≡ true → every isCharacter (spoken c) ≡ true
 unfolding spoken
 command-characters c h =
-    frame-characters (lettersOf c) (dataOf c) (letters-characters c) (every-weaker isPrintable isCharacter character-of (dataOf c) (command-printable c h))
+    frame-characters (lettersOf c) (dataOf c) (every-weaker isPrintable isCharacter character-of (lettersOf c) (letters-printable c)) (every-weaker isPrintable isCharacter character-of (dataOf c) (command-printable c h))
 
 -- on the wire no byte of it is damaged, and its seven bits are its characters again
 pub command-undamaged : (c : Command) → undamagedAll (onWire (spoken c)) ≡ true
@@ -163,3 +155,64 @@ command-comes-back c h = sent-comes-back-all (spoken c) (command-characters c h)
 pub command-bcc : (c : Command) → bccOf (drop 1 (spoken c)) ≡ 0
 unfolding spoken frameOf
 command-bcc c = closed-sums (lettersOf c ++ (2 ∷ dataOf c))
+
+-- SOH, two printable characters, STX, printable data, ETX, BCC
+pub record Shaped (s letters content : List ℕ) : Type 0 where
+  pub whole : s ≡ 1 ∷ (((letters ++ (2 ∷ content)) ++ (3 ∷ [])) ++ (bccOf ((letters ++ (2 ∷ content)) ++ (3 ∷ [])) ∷ []))
+  pub two : length letters ≡ 2
+  pub named : every isPrintable letters ≡ true
+  pub plain : every isPrintable content ≡ true
+
+pub command-shape : (c : Command) → goodFields c ≡ true → Shaped (spoken c) (lettersOf c) (dataOf c)
+unfolding spoken frameOf closed
+command-shape c h = record { whole = refl; two = letters-two c; named = letters-printable c; plain = command-printable c h }
+
+bracketed-long : (s : List ℕ) → length (bracketed s) ≡ length s + 2
+unfolding bracketed
+bracketed-long s = omega (arith, length-append s (41 ∷ []))
+
+data-short : (c : Command) → goodFields c ≡ true → length (dataOf c) ≤ 30
+unfolding dataOf goodFields enterData passwordData askClock askSerial askAccount askEnergy askTable setClock setAccount setTable
+data-short enter h = omega (arith, bracketed-long [])
+data-short (password p) h = omega (arith, bracketed-long p, digits-long 8 p h)
+data-short readClock h = omega (arith, bracketed-long [])
+data-short readSerial h = omega (arith, bracketed-long [])
+data-short readAccount h = omega (arith, bracketed-long [])
+data-short readTotal h = omega (arith, bracketed-long [])
+data-short (readZone n) h = omega (arith, bracketed-long [])
+data-short (readTable n) h = omega (arith, bracketed-long (tableText n), table-text-long n)
+data-short (writeClock c) h = omega (arith, bracketed-long (clockText c), clock-text-long c)
+data-short (writeAccount a) h = omega (arith, bracketed-long a, account-long a h)
+data-short (writeTable n row) h =
+    omega (arith, bracketed-long (tableText n ++ (59 ∷ row)), length-append (tableText n) (59 ∷ row), table-text-long n, row-long row (and-right (goodTable 24 n) (goodRow row) h))
+
+-- no command is longer than 36 characters; a frame may have 64
+pub command-short : (c : Command) → goodFields c ≡ true → length (spoken c) ≤ 36
+unfolding spoken frameOf closed
+command-short c h =
+    let body = lettersOf c ++ (2 ∷ dataOf c) in
+    omega (arith, data-short c h, letters-two c, length-append (lettersOf c) (2 ∷ dataOf c), length-append body (3 ∷ []), length-append (body ++ (3 ∷ [])) (bccOf (body ++ (3 ∷ [])) ∷ []))
+
+-- B0 comes back too, and so do the sign-on and the confirmation
+pub sign-off-comes-back : map seven (onWire (bareFrame B0)) ≡ bareFrame B0
+unfolding bareFrame every isCharacter
+sign-off-comes-back = sent-comes-back-all (bareFrame B0) (closed-characters B0 refl)
+
+pub sign-on-comes-back : map seven (onWire signOn) ≡ signOn
+unfolding signOn every isCharacter
+sign-on-comes-back = sent-comes-back-all signOn refl
+
+serial-characters : (s : List ℕ) → goodSerial s ≡ true → every isCharacter (serialText s) ≡ true
+unfolding serialText every isCharacter
+serial-characters s h =
+    let all = every-weaker isPrintable isCharacter character-of s (digits-printable 10 s h) in
+    every-append isCharacter (take 3 s) (32 ∷ drop 3 s) (every-take isCharacter 3 s all) (every-drop isCharacter 3 s all)
+
+pub sign-on-to-comes-back : (s : List ℕ) → goodSerial s ≡ true → map seven (onWire (signOnTo s)) ≡ signOnTo s
+unfolding signOnTo every isCharacter
+sign-on-to-comes-back s h =
+    sent-comes-back-all (signOnTo s) (every-append isCharacter (serialText s) (33 ∷ 13 ∷ 10 ∷ []) (serial-characters s h) refl)
+
+pub confirmation-comes-back : (y : ℕ) → y ≤ 127 → map seven (onWire (confirmation y)) ≡ confirmation y
+unfolding confirmation every isCharacter
+confirmation-comes-back y h = sent-comes-back-all (confirmation y) (rw (le-leb y 127 h))

@@ -30,13 +30,13 @@ unfolding plain every
 serial-plain = refl
 
 -- digits, cut
-every-take : (p : ℕ → Bool) (n : ℕ) (s : List ℕ) → every p s ≡ true → every p (take n s) ≡ true
+pub every-take : (p : ℕ → Bool) (n : ℕ) (s : List ℕ) → every p s ≡ true → every p (take n s) ≡ true
 unfolding every
 every-take p zero s h = refl
 every-take p (suc n) [] h = refl
 every-take p (suc n) (c ∷ s) h = rw (and-left (p c) (every p s) h) (every-take p n s (and-right (p c) (every p s) h))
 
-every-drop : (p : ℕ → Bool) (n : ℕ) (s : List ℕ) → every p s ≡ true → every p (drop n s) ≡ true
+pub every-drop : (p : ℕ → Bool) (n : ℕ) (s : List ℕ) → every p s ≡ true → every p (drop n s) ≡ true
 unfolding every
 every-drop p zero s h = h
 every-drop p (suc n) [] h = refl
