@@ -18,7 +18,7 @@ fn close(buf: &mut [u8], n: usize)
 }
 
 // Puts parity on the first n characters.
-fn send(buf: &mut [u8], n: usize)
+pub fn send(buf: &mut [u8], n: usize)
     requires { ⌜ n ≤ length (now buf) ⌝ }
     ensures { λ _. ⌜ now (buf .exit) ≡ onWire (take n (now (buf .entry))) ++ drop n (now (buf .entry)) ⌝ }
 {

@@ -2,15 +2,17 @@
 -- Assumes nothing.
 use mathlib.Core.Path.{_≡_, refl, sym, ap, ap₂, _∙_}
 use mathlib.Core.List.{List, [], _∷_, _++_, map}
-use Prim.Native.Nat.{ℕ, zero, suc, _+_, _*_, _/_, _%_, _^_, _<_}
+use Prim.Native.Nat.{ℕ, zero, suc, _+_, _*_, _/_, _%_, _^_, _<_, _≤_}
 use native.Mathlib.Nat.{mod-lt, zero-lt-suc, mod-eq-of-lt}
 use native.Mathlib.Omega.{arith}
 use lib.Arith.{bin-ind}
 use lib.Dec.{lit<}
+use lib.ListN.{length, getD, drop, drop-of-length-le}
 use lib.Bits.{bitXor, differ, xor-step, xor-shr, xor-mod, xor-lt, xor-self, xor-zero-r}
 use Rattle.line.specs.Characters.{seven, sent}
 use Rattle.line.specs.Checksum.{bccOf}
 use Rattle.line.proofs.Parity.{seven-sent, seven-seven}
+use Rattle.line.proofs.Runs.{left-next}
 
 digit-assoc : (x y z : ℕ) → x < 2 → y < 2 → z < 2 → differ (differ x y) z ≡ differ x (differ y z)
 digit-assoc zero y z hx hy hz = refl
@@ -72,3 +74,14 @@ pub bcc-sent : (s : List ℕ) → bccOf (map sent s) ≡ bccOf (map seven s)
 unfolding bccOf
 bcc-sent [] = refl
 bcc-sent (b ∷ s) = ap₂ bitXor (seven-sent b ∙ sym (seven-seven b)) (bcc-sent s)
+
+-- a sum of whole bytes so far, with the BCC of what is left, is the BCC of the whole
+module _ (s : List ℕ) (i sum whole : ℕ) where
+  pub bcc-turn : i < length s → bitXor (seven sum) (bccOf (drop i s)) ≡ whole → bitXor (seven (bitXor sum (getD s i 0))) (bccOf (drop (i + 1) s)) ≡ whole
+  unfolding bccOf
+  bcc-turn h e =
+      rw (seven-xor sum (getD s i 0), xor-assoc (seven sum) (seven (getD s i 0)) (bccOf (drop (i + 1) s))) (rw (left-next i s h) at e)
+
+  pub bcc-end : length s ≤ i → bitXor (seven sum) (bccOf (drop i s)) ≡ whole → seven sum ≡ whole
+  unfolding bccOf
+  bcc-end h e = sym (xor-zero-r (seven sum)) ∙ (rw (drop-of-length-le s h) at e)

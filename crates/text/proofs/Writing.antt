@@ -1,12 +1,12 @@
 -- Writes that follow one another are one write, a write keeps the length, and the reader's form of a write. Assumes nothing.
 use mathlib.Core.Path.{_≡_, refl, sym, ap, _∙_}
-use mathlib.Core.List.{List, [], _∷_, _++_}
+use mathlib.Core.List.{List, [], _∷_, _++_, append-nil}
 use Prim.Native.Nat.{ℕ, zero, suc, _+_, _<_, _≤_}
 use native.Mathlib.Nat.{add-zero, add-assoc, zero-add}
 use native.Mathlib.Omega.{arith}
 use native.Mathlib.Numerals.{add-one, one-add}
-use lib.ListN.{length, getD, take, drop, set, length-append, length-set}
-use lib.Seq.{take-suc, length-take-le, set-out, sets, sets-eq}
+use lib.ListN.{length, getD, take, drop, set, length-append, length-set, drop-of-length-le}
+use lib.Seq.{take-suc, length-take-le, sets, sets-eq}
 use Rattle.text.specs.Writing.{stored, holding}
 
 pub length-stored : (buf : List ℕ) (at : ℕ) (xs : List ℕ) → length (stored buf at xs) ≡ length buf
@@ -54,8 +54,10 @@ pub and-then : (buf : List ℕ) (at : ℕ) (xs mid : List ℕ) (place : ℕ) (ys
     → mid ≡ stored buf at xs → place ≡ at + length xs → after ≡ stored mid place ys → after ≡ stored buf at (xs ++ ys)
 and-then buf at xs mid place ys after e p f = rw (f, e, p) (stored-append buf at xs ys)
 
--- a write past the end changes nothing
-pub stored-out : (buf : List ℕ) (at : ℕ) (xs : List ℕ) → length buf ≤ at → stored buf at xs ≡ buf
-unfolding stored
-stored-out buf at [] h = refl
-stored-out buf at (x ∷ xs) h = rw (set-out buf at x h) (stored-out buf (at + 1) xs (omega arith))
+-- a text that fills what it is put into
+pub filled : (buf m : List ℕ) → length m ≡ length buf → stored buf 0 m ≡ m
+unfolding holding
+filled buf m e =
+    let fits : length m ≤ length buf = omega arith in
+    let all : length buf ≤ length m = omega arith in
+    stored-holding buf m fits ∙ (rw (drop-of-length-le buf all) (append-nil m))

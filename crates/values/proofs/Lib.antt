@@ -1,2 +1,4 @@
 pub mod Fields
 pub mod RoundTrip
+pub mod Rules
+pub mod Serials

@@ -2,3 +2,4 @@ pub mod Registers
 pub mod Texts
 pub mod Numbers
 pub mod Reading
+pub mod Serials

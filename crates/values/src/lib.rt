@@ -5,6 +5,7 @@ ghost use lib.ListN.{length};
 ghost use Rattle.text.specs.Decimal.{valueOf};
 ghost use Rattle.values.specs.Registers.{goodDigits, isAccountCharacter, goodAccount, goodRow, goodTable, goodZone};
 
+pub mod characters;
 mod number;
 pub mod reading;
 pub mod writing;

@@ -8,8 +8,7 @@ use lib.ListN.{length, drop, getD, drop-of-length-le}
 use lib.Bits.{bitXor, xor-zero-r}
 use Rattle.line.specs.Characters.{seven}
 use Rattle.line.specs.Checksum.{bccOf}
-use Rattle.line.proofs.Runs.{left-next}
-use Rattle.line.proofs.Xor.{xor-assoc, seven-xor}
+use Rattle.line.proofs.Xor.{bcc-turn, bcc-end}
 use Rattle.line.proofs.bcc.Statement.{statement}
 use Rattle.line.proofs.bcc.Tie as tie
 
@@ -18,11 +17,6 @@ Inv-loop s sum₀ i₀ sum i = (i ≤ length s) × (bitXor (seven sum) (bccOf (d
 
 abbrev μ-loop : tie.MeasureT-loop
 μ-loop s sum₀ i₀ sum i = length s - i
-
-turn : (s : List ℕ) (i sum whole : ℕ) → i < length s → bitXor (seven sum) (bccOf (drop i s)) ≡ whole → bitXor (seven (bitXor sum (getD s i 0))) (bccOf (drop (i + 1) s)) ≡ whole
-unfolding bccOf
-turn s i sum whole h e =
-    rw (seven-xor sum (getD s i 0), xor-assoc (seven sum) (seven (getD s i 0)) (bccOf (drop (i + 1) s))) (rw (left-next i s h) at e)
 
 loop-holds : tie.Need-loop-holds Inv-loop μ-loop
 unfolding seven
@@ -40,13 +34,12 @@ loop-less c = omega arith
 loop-again : tie.Need-loop-again Inv-loop μ-loop
 loop-again c =
     let at-loop = c .before .before in
-    (omega arith, turn (at-loop .before .args .s .now) (at-loop .loop .i) (at-loop .loop .sum) _ (c .before .loop-test .taken) (at-loop .loop .inv .1))
+    (omega arith, bcc-turn (at-loop .before .args .s .now) (at-loop .loop .i) (at-loop .loop .sum) _ (c .before .loop-test .taken) (at-loop .loop .inv .1))
 
 returns : tie.Need-returns Inv-loop μ-loop
-unfolding bccOf seven
+unfolding seven
 returns c =
-    let s = c .before .before .args .s .now in
-    sym (xor-zero-r (seven (c .before .loop .sum))) ∙ (rw (drop-of-length-le s (c .loop-test .left)) at (c .before .loop .inv .1))
+    bcc-end (c .before .before .args .s .now) (c .before .loop .i) (c .before .loop .sum) _ (c .loop-test .left) (c .before .loop .inv .1)
 
 pub bcc-spec : {M : Type 1} → statement M
 bcc-spec =

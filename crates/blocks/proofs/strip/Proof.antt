@@ -1,0 +1,36 @@
+-- `blocks::strip` meets its contract: too short a buffer, a damaged byte, or the seven bits of each. Assumes nothing.
+use mathlib.Core.Path.{sym, _∙_}
+use borrow.Author.Tests.{lt-ltb, le-ltb, not-true, not-false}
+use borrow.Author.Needs.{needs}
+use Rattle.blocks.specs.Stripping.{strippedOf, strippedInto}
+use Rattle.blocks.proofs.strip.Statement.{statement}
+use Rattle.blocks.proofs.strip.Tie as tie
+
+returns : tie.Need-returns
+unfolding strippedOf strippedInto
+returns c =
+    record { answer = rw (lt-ltb _ _ (c .if1 .taken)); held = rw (lt-ltb _ _ (c .if1 .taken)) }
+
+undamaged-requires : tie.Need-undamaged-requires
+undamaged-requires c κs = search needs
+
+returns-2 : tie.Need-returns-2
+unfolding strippedOf strippedInto
+returns-2 c =
+    let d = sym (c .before .undamaged .ensures) ∙ not-true _ (c .if2 .taken) in record { answer = rw (le-ltb _ _ (c .before .before .if1 .left), d); held = rw (le-ltb _ _ (c .before .before .if1 .left), d) }
+
+copy-seven-requires : tie.Need-copy-seven-requires
+copy-seven-requires c κs = search needs
+
+same-length : tie.Need-same-length
+same-length c = search needs
+
+returns-3 : tie.Need-returns-3
+unfolding strippedOf strippedInto
+returns-3 c =
+    let d = sym (c .before .before .before .before .before .undamaged .ensures) ∙ not-false _ (c .before .before .before .before .if2 .left) in record { answer = rw (le-ltb _ _ (c .before .before .before .before .before .before .if1 .left), d); held = rw (le-ltb _ _ (c .before .before .before .before .before .before .if1 .left), d) (c .before .before .copy-seven .ensures) }
+
+pub strip-spec : {M : Type 1} → statement M
+strip-spec =
+    tie.close
+    (tie.spec returns undamaged-requires returns-2 copy-seven-requires same-length returns-3)

@@ -1,0 +1,2 @@
+pub mod Stripping
+pub mod Parts

@@ -1,0 +1,39 @@
+-- Document 01, "The head": a command is built in a buffer of at least 64 bytes, or nothing is written.
+use mathlib.Core.Path.{_≡_}
+use mathlib.Core.Bool.{Bool, cond, _||_}
+use mathlib.Core.List.{List}
+use Prim.Native.Nat.{ℕ, _+_, _≤_}
+use lib.Dec.{eqb, ltb}
+use lib.ListN.{length}
+use Rattle.text.specs.Writing.{holding}
+use Rattle.commands.specs.declared.Built.{Built}
+
+-- Y of the confirmation: '0', '1' or '7'
+unfoldable pub goodChoice : ℕ → Bool
+goodChoice y = (eqb y 48 || eqb y 49) || eqb y 55
+
+-- 19 for a buffer under 64, then 9 for a field outside its rule, else 1 with the command's length
+unfoldable pub builtIn : List ℕ → Bool → List ℕ → Built
+builtIn buf ok command =
+    cond (ltb (length buf) 64) (record { number = 19; length = 0 })
+    (cond ok (record { number = 1; length = length command }) (record { number = 9; length = 0 }))
+
+-- the buffer begins with the command just where it is built, and keeps all else
+unfoldable pub keptOr : List ℕ → Bool → List ℕ → List ℕ
+keptOr buf ok command = cond (ltb (length buf) 64) buf (cond ok (holding buf command) buf)
+
+-- a builder's whole promise: the buffer, whether the fields lie within their rules, the command; the answer and the buffer after it
+pub record Builds (buf : List ℕ) (ok : Bool) (command : List ℕ) (r : Built) (after : List ℕ) : Type 0 where
+  pub answer : r ≡ builtIn buf ok command
+  pub held : after ≡ keptOr buf ok command
+
+-- what a command is made in: room for it, a first part and a content of a command's size
+pub record Room (buf start content : List ℕ) : Type 0 where
+  pub room : 64 ≤ length buf
+  pub begun : 1 ≤ length start
+  pub small : length start + length content ≤ 40
+
+-- the command stands at the front, and its length is told
+pub record Made (buf command : List ℕ) (r : Built) (after : List ℕ) : Type 0 where
+  pub answer : r ≡ record { number = 1; length = length command }
+  pub held : after ≡ holding buf command

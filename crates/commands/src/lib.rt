@@ -1,0 +1,293 @@
+// What the head says: every command, built in a lent buffer of at least 64 bytes, or refused with nothing written.
+ghost use mathlib.Core.Path.{_≡_};
+ghost use mathlib.Core.Bool.{true, _&&_};
+ghost use mathlib.Core.List.{[], _∷_, _++_};
+ghost use Prim.Native.Nat.{_+_, _≤_};
+ghost use lib.ListN.{length};
+ghost use Rattle.clock.specs.Seconds.{realClock};
+ghost use Rattle.values.specs.Registers.{goodSerial, goodPassword, goodAccount, goodRow, goodTable, goodZone};
+ghost use Rattle.values.specs.Texts.{serialText, tableText, clockText};
+ghost use Rattle.frames.specs.Frames.{sealed, frameOf, bareFrame, onWire};
+ghost use Rattle.frames.specs.Commands.{B0, P1, R1, W1, askClock, askSerial, askAccount, askEnergy, askTable, setClock, setAccount, setTable};
+ghost use Rattle.frames.specs.Session.{signOn, signOnTo, confirmation, enterData, passwordData};
+ghost use Rattle.commands.specs.Building.{goodChoice, Builds, Room, Made};
+use clock::Clock;
+use values::TableNo;
+use values::ZoneNo;
+
+// The answers of document 01: built; a field outside its rule; a buffer under 64 bytes.
+pub const DONE: u8 = 1;
+
+pub const FIELD: u8 = 9;
+
+pub const SHORT: u8 = 19;
+
+// The least buffer that a command is built in.
+pub const ROOM: usize = 64;
+
+pub struct Built {
+    pub number: u8,
+    pub length: usize,
+}
+
+fn short() -> Built
+    ensures { λ r. ⌜ r ≡ record { number = 19; length = 0 } ⌝ }
+{
+    Built {
+        number: SHORT,
+        length: 0,
+    }
+}
+
+fn refused() -> Built
+    ensures { λ r. ⌜ r ≡ record { number = 9; length = 0 } ⌝ }
+{
+    Built {
+        number: FIELD,
+        length: 0,
+    }
+}
+
+// A line: its start, its content and its end, with parity.
+fn line_of(buf: &mut [u8], start: &[u8], content: &[u8], end: &[u8]) -> Built
+    requires { ⌜ Room (now buf) (now start) (now content) × (length (now end) ≤ 3) ⌝ }
+    ensures { λ r. ⌜ Made (now (buf .entry)) (onWire (now (start .entry) ++ (now (content .entry) ++ now (end .entry)))) r (now (buf .exit)) ⌝ }
+{
+    let a = text::put(buf, 0, start);
+    let b = text::put(buf, a, content);
+    let n = text::put(buf, b, end);
+    frames::send(buf, n);
+    Built {
+        number: DONE,
+        length: n,
+    }
+}
+
+// A frame: its start through the opening bracket, and its content; the closing bracket, ETX and BCC come after it.
+fn frame(buf: &mut [u8], start: &[u8], content: &[u8]) -> Built
+    requires { ⌜ Room (now buf) (now start) (now content) ⌝ }
+    ensures { λ r. ⌜ Made (now (buf .entry)) (onWire (sealed (now (start .entry) ++ (now (content .entry) ++ (41 ∷ []))))) r (now (buf .exit)) ⌝ }
+{
+    let a = text::put(buf, 0, start);
+    let b = text::put(buf, a, content);
+    let c = text::put(buf, b, b")");
+    let n = frames::seal(buf, c);
+    Built {
+        number: DONE,
+        length: n,
+    }
+}
+
+// The sign-on `/?!`.
+pub fn sign_on(buf: &mut [u8]) -> Built
+    ensures { λ r. ⌜ Builds (now (buf .entry)) true (onWire signOn) r (now (buf .exit)) ⌝ }
+{
+    if buf.len() < ROOM {
+        return short();
+    }
+    line_of(buf, b"/?", b"", b"!\r\n")
+}
+
+// The serial as it is shown.
+fn shown_serial(serial: &[u8]) -> [u8; 11]
+    requires { ⌜ length (now serial) ≡ 10 ⌝ }
+    ensures { λ r. ⌜ r ≡ serialText (now (serial .entry)) ⌝ }
+{
+    let mut shown = [0u8; 11];
+    values::writing::put_serial(&mut shown, 0, serial);
+    shown
+}
+
+// The sign-on to the meter of a serial, given by its ten digits.
+pub fn sign_on_to(buf: &mut [u8], serial: &[u8]) -> Built
+    ensures { λ r. ⌜ Builds (now (buf .entry)) (goodSerial (now (serial .entry))) (onWire (signOnTo (now (serial .entry)))) r (now (buf .exit)) ⌝ }
+{
+    if buf.len() < ROOM {
+        return short();
+    }
+    if !values::is_digits(serial, 10) {
+        return refused();
+    }
+    line_of(buf, b"/?", &shown_serial(serial), b"!\r\n")
+}
+
+// The confirmation, at 9600 baud, with the character '0', '1' or '7'.
+pub fn confirm(buf: &mut [u8], choice: u8) -> Built
+    ensures { λ r. ⌜ Builds (now (buf .entry)) (goodChoice choice) (onWire (confirmation choice)) r (now (buf .exit)) ⌝ }
+{
+    if buf.len() < ROOM {
+        return short();
+    }
+    let good = ((choice == b'0') | (choice == b'1')) | (choice == b'7');
+    if !good {
+        return refused();
+    }
+    line_of(buf, b"\x0605", &[choice], b"\r\n")
+}
+
+// P1 with empty brackets: reading only.
+pub fn enter(buf: &mut [u8]) -> Built
+    ensures { λ r. ⌜ Builds (now (buf .entry)) true (onWire (frameOf P1 enterData)) r (now (buf .exit)) ⌝ }
+{
+    if buf.len() < ROOM {
+        return short();
+    }
+    frame(buf, b"\x01P1\x02(", b"")
+}
+
+// P1 with a password of eight digits.
+pub fn password(buf: &mut [u8], password: &[u8]) -> Built
+    ensures { λ r. ⌜ Builds (now (buf .entry)) (goodPassword (now (password .entry))) (onWire (frameOf P1 (passwordData (now (password .entry))))) r (now (buf .exit)) ⌝ }
+{
+    if buf.len() < ROOM {
+        return short();
+    }
+    if !values::is_digits(password, 8) {
+        return refused();
+    }
+    frame(buf, b"\x01P1\x02(", password)
+}
+
+// R1 for the clock.
+pub fn read_clock(buf: &mut [u8]) -> Built
+    ensures { λ r. ⌜ Builds (now (buf .entry)) true (onWire (frameOf R1 askClock)) r (now (buf .exit)) ⌝ }
+{
+    if buf.len() < ROOM {
+        return short();
+    }
+    frame(buf, b"\x01R1\x02T(", b"")
+}
+
+// R1 for the serial.
+pub fn read_serial(buf: &mut [u8]) -> Built
+    ensures { λ r. ⌜ Builds (now (buf .entry)) true (onWire (frameOf R1 askSerial)) r (now (buf .exit)) ⌝ }
+{
+    if buf.len() < ROOM {
+        return short();
+    }
+    frame(buf, b"\x01R1\x02L(", b"")
+}
+
+// R1 for the account.
+pub fn read_account(buf: &mut [u8]) -> Built
+    ensures { λ r. ⌜ Builds (now (buf .entry)) true (onWire (frameOf R1 askAccount)) r (now (buf .exit)) ⌝ }
+{
+    if buf.len() < ROOM {
+        return short();
+    }
+    frame(buf, b"\x01R1\x02K(", b"")
+}
+
+// R1 for the total.
+pub fn read_total(buf: &mut [u8]) -> Built
+    ensures { λ r. ⌜ Builds (now (buf .entry)) true (onWire (frameOf R1 (askEnergy 0))) r (now (buf .exit)) ⌝ }
+{
+    if buf.len() < ROOM {
+        return short();
+    }
+    frame(buf, b"\x01R1\x02E0(", b"")
+}
+
+// R1 for a zone's energy.
+pub fn read_zone(buf: &mut [u8], zone: ZoneNo) -> Built
+    ensures { λ r. ⌜ Builds (now (buf .entry)) (goodZone (zone .0)) (onWire (frameOf R1 (askEnergy (zone .0)))) r (now (buf .exit)) ⌝ }
+{
+    if buf.len() < ROOM {
+        return short();
+    }
+    if !values::is_zone(zone) {
+        return refused();
+    }
+    let n = zone.0;
+    frame(buf, &[1, b'R', b'1', 2, b'E', 48 + n, b'('], b"")
+}
+
+// R1 for a table.
+pub fn read_table(buf: &mut [u8], table: TableNo) -> Built
+    ensures { λ r. ⌜ Builds (now (buf .entry)) (goodTable 24 (table .0)) (onWire (frameOf R1 (askTable (table .0)))) r (now (buf .exit)) ⌝ }
+{
+    if buf.len() < ROOM {
+        return short();
+    }
+    if !values::is_table(table, values::TABLES) {
+        return refused();
+    }
+    let n = table.0;
+    frame(buf, b"\x01R1\x02Z(", &[48 + n / 10 % 10, 48 + n % 10])
+}
+
+// The clock as it is written.
+fn shown_clock(c: Clock) -> [u8; 19]
+    ensures { λ r. ⌜ r ≡ clockText c ⌝ }
+{
+    let mut shown = [0u8; 19];
+    values::writing::put_clock(&mut shown, 0, c);
+    shown
+}
+
+// W1 for the clock.
+pub fn write_clock(buf: &mut [u8], c: Clock) -> Built
+    ensures { λ r. ⌜ Builds (now (buf .entry)) (realClock c) (onWire (frameOf W1 (setClock c))) r (now (buf .exit)) ⌝ }
+{
+    if buf.len() < ROOM {
+        return short();
+    }
+    if !clock::is_clock(c) {
+        return refused();
+    }
+    frame(buf, b"\x01W1\x02T(", &shown_clock(c))
+}
+
+// W1 for the account.
+pub fn write_account(buf: &mut [u8], account: &[u8]) -> Built
+    ensures { λ r. ⌜ Builds (now (buf .entry)) (goodAccount (now (account .entry))) (onWire (frameOf W1 (setAccount (now (account .entry))))) r (now (buf .exit)) ⌝ }
+{
+    if buf.len() < ROOM {
+        return short();
+    }
+    if !values::is_account(account) {
+        return refused();
+    }
+    frame(buf, b"\x01W1\x02K(", account)
+}
+
+// A table's number and its row, as they are written.
+fn shown_table(t: TableNo, row: &[u8]) -> [u8; 27]
+    requires { ⌜ length (now row) ≡ 24 ⌝ }
+    ensures { λ r. ⌜ r ≡ tableText (t .0) ++ (59 ∷ now (row .entry)) ⌝ }
+{
+    let mut shown = [0u8; 27];
+    let a = values::writing::put_table(&mut shown, 0, t);
+    let b = text::put(&mut shown, a, b";");
+    text::put(&mut shown, b, row);
+    shown
+}
+
+// W1 for a table.
+pub fn write_table(buf: &mut [u8], table: TableNo, row: &[u8]) -> Built
+    ensures { λ r. ⌜ Builds (now (buf .entry)) (goodTable 24 (table .0) && goodRow (now (row .entry))) (onWire (frameOf W1 (setTable (table .0) (now (row .entry))))) r (now (buf .exit)) ⌝ }
+{
+    if buf.len() < ROOM {
+        return short();
+    }
+    let good = values::is_table(table, values::TABLES) & values::is_row(row);
+    if !good {
+        return refused();
+    }
+    frame(buf, b"\x01W1\x02Z(", &shown_table(table, row))
+}
+
+// B0, the end of a session.
+pub fn sign_off(buf: &mut [u8]) -> Built
+    ensures { λ r. ⌜ Builds (now (buf .entry)) true (onWire (bareFrame B0)) r (now (buf .exit)) ⌝ }
+{
+    if buf.len() < ROOM {
+        return short();
+    }
+    let a = text::put(buf, 0, b"\x01B0");
+    let n = frames::seal(buf, a);
+    Built {
+        number: DONE,
+        length: n,
+    }
+}

@@ -1,0 +1,108 @@
+// Values read back, for C: 1, or 25 with zeros; a buffer under a value's size is kept, with 26.
+ghost use mathlib.Core.Path.{_≡_};
+ghost use Rattle.values.specs.Reading.{dateRead, timeRead, counterRead};
+ghost use Rattle.values.specs.Serials.{serialRead, accountRead, rowRead};
+ghost use Rattle.headlink.specs.Telling.{valueNumber, Tells};
+
+pub const SHORT: u8 = 26;
+
+fn number(ok: bool) -> u8
+    ensures { λ r. ⌜ r ≡ valueNumber ok ⌝ }
+{
+    if ok {
+        reading::DONE
+    } else {
+        reading::MALFORMED
+    }
+}
+
+// A serial's ten digits.
+#[no_mangle]
+pub extern "C" fn dirgemist_head_value_serial(value: &[u8], out: &mut [u8]) -> u8
+    ensures { λ r. ⌜ Tells (now (out .entry)) 10 (serialRead (now (value .entry)) .ok) (serialRead (now (value .entry)) .serial) r (now (out .exit)) ⌝ }
+{
+    if out.len() < 10 {
+        return SHORT;
+    }
+    let v = values::characters::read_serial(value);
+    let characters = v.serial;
+    text::put(out, 0, &characters);
+    number(v.ok)
+}
+
+// An account's ten characters.
+#[no_mangle]
+pub extern "C" fn dirgemist_head_value_account(value: &[u8], out: &mut [u8]) -> u8
+    ensures { λ r. ⌜ Tells (now (out .entry)) 10 (accountRead (now (value .entry)) .ok) (accountRead (now (value .entry)) .account) r (now (out .exit)) ⌝ }
+{
+    if out.len() < 10 {
+        return SHORT;
+    }
+    let v = values::characters::read_account(value);
+    let characters = v.account;
+    text::put(out, 0, &characters);
+    number(v.ok)
+}
+
+// A row's 24 characters.
+#[no_mangle]
+pub extern "C" fn dirgemist_head_value_row(value: &[u8], out: &mut [u8]) -> u8
+    ensures { λ r. ⌜ Tells (now (out .entry)) 24 (rowRead (now (value .entry)) .ok) (rowRead (now (value .entry)) .row) r (now (out .exit)) ⌝ }
+{
+    if out.len() < 24 {
+        return SHORT;
+    }
+    let v = values::characters::read_row(value);
+    let characters = v.row;
+    text::put(out, 0, &characters);
+    number(v.ok)
+}
+
+// A date.
+#[no_mangle]
+pub extern "C" fn dirgemist_head_value_date(
+    value: &[u8],
+    year: &mut u16,
+    month: &mut u8,
+    day: &mut u8,
+) -> u8
+    ensures number { λ r. ⌜ r ≡ valueNumber (dateRead (now (value .entry)) .ok) ⌝ }
+    ensures date { λ _. ⌜ record { year = now (year .exit); month = now (month .exit); day = now (day .exit) } ≡ dateRead (now (value .entry)) .date ⌝ }
+{
+    let v = values::reading::read_date(value);
+    let d = v.date;
+    *year = d.year;
+    *month = d.month;
+    *day = d.day;
+    number(v.ok)
+}
+
+// A time.
+#[no_mangle]
+pub extern "C" fn dirgemist_head_value_time(
+    value: &[u8],
+    hour: &mut u8,
+    minute: &mut u8,
+    second: &mut u8,
+) -> u8
+    ensures number { λ r. ⌜ r ≡ valueNumber (timeRead (now (value .entry)) .ok) ⌝ }
+    ensures time { λ _. ⌜ record { hour = now (hour .exit); minute = now (minute .exit); second = now (second .exit) } ≡ timeRead (now (value .entry)) .time ⌝ }
+{
+    let v = values::reading::read_time(value);
+    let t = v.time;
+    *hour = t.hour;
+    *minute = t.minute;
+    *second = t.second;
+    number(v.ok)
+}
+
+// A counter's Wh.
+#[no_mangle]
+pub extern "C" fn dirgemist_head_value_counter(value: &[u8], wh: &mut u32) -> u8
+    ensures number { λ r. ⌜ r ≡ valueNumber (counterRead 9 3 (now (value .entry)) .ok) ⌝ }
+    ensures wh { λ _. ⌜ now (wh .exit) ≡ counterRead 9 3 (now (value .entry)) .wh ⌝ }
+{
+    let v = values::reading::read_counter(value);
+    *wh = v.wh;
+    number(v.ok)
+}

@@ -1,0 +1,46 @@
+// Replies, for C: parity stripped, the part of a block, and its data sets one by one.
+ghost use mathlib.Core.Path.{_≡_};
+ghost use Rattle.blocks.specs.Stripping.{Strips};
+ghost use Rattle.blocks.specs.Parts.{partOf};
+ghost use Rattle.reading.specs.Sets.{setRead};
+
+// Strips a reply's parity into a second buffer.
+#[no_mangle]
+pub extern "C" fn dirgemist_head_strip(reply: &[u8], out: &mut [u8], size: &mut usize) -> u8
+    ensures { λ r. ⌜ Strips (now (reply .entry)) (now (out .entry)) (record { number = r; length = now (size .exit) }) (now (out .exit)) ⌝ }
+{
+    let s = blocks::strip(reply, out);
+    *size = s.length;
+    s.number
+}
+
+// Where the part of a stripped block starts, and its length.
+#[no_mangle]
+pub extern "C" fn dirgemist_head_part(stripped: &[u8], start: &mut usize, size: &mut usize) -> u8
+    ensures { λ r. ⌜ record { number = r; start = now (start .exit); length = now (size .exit) } ≡ partOf (now (stripped .entry)) ⌝ }
+{
+    let p = blocks::find(stripped);
+    *start = p.start;
+    *size = p.length;
+    p.number
+}
+
+// The data set at a place: the lengths of its address and its value, the place after it, and where it is malformed its place.
+#[no_mangle]
+pub extern "C" fn dirgemist_head_next(
+    sets: &[u8],
+    at: usize,
+    address: &mut usize,
+    value: &mut usize,
+    next: &mut usize,
+    place: &mut usize,
+) -> u8
+    ensures { λ r. ⌜ record { number = r; «address_length» = now (address .exit); «value_length» = now (value .exit); next = now (next .exit); place = now (place .exit) } ≡ setRead (now (sets .entry)) at ⌝ }
+{
+    let s = reading::next_set(sets, at);
+    *address = s.address_length;
+    *value = s.value_length;
+    *next = s.next;
+    *place = s.place;
+    s.number
+}

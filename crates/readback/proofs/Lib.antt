@@ -1,0 +1,6 @@
+pub mod Sending
+pub mod Blocks
+pub mod Forms
+pub mod Commands
+pub mod Lines
+pub mod Values

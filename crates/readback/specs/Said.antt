@@ -1,0 +1,68 @@
+-- Document 01, "The head": everything that the head says after the confirmation, with its fields.
+use mathlib.Core.Bool.{Bool, true, _&&_}
+use mathlib.Core.List.{List}
+use Prim.Native.Nat.{ℕ}
+use Rattle.clock.specs.declared.Clock.{Clock}
+use Rattle.clock.specs.Seconds.{realClock}
+use Rattle.values.specs.Registers.{goodPassword, goodAccount, goodRow, goodTable, goodZone}
+use Rattle.frames.specs.Frames.{frameOf}
+use Rattle.frames.specs.Commands.{P1, R1, W1, askClock, askSerial, askAccount, askEnergy, askTable, setClock, setAccount, setTable}
+use Rattle.frames.specs.Session.{enterData, passwordData}
+
+-- the commands with data
+pub data Command : Type 0 where
+  enter : Command
+  password : List ℕ → Command
+  readClock : Command
+  readSerial : Command
+  readAccount : Command
+  readTotal : Command
+  readZone : ℕ → Command
+  readTable : ℕ → Command
+  writeClock : Clock → Command
+  writeAccount : List ℕ → Command
+  writeTable : ℕ → List ℕ → Command
+
+-- the fields lie within their rules
+unfoldable pub goodFields : Command → Bool
+goodFields (password p) = goodPassword p
+goodFields (readZone n) = goodZone n
+goodFields (readTable n) = goodTable 24 n
+goodFields (writeClock c) = realClock c
+goodFields (writeAccount a) = goodAccount a
+goodFields (writeTable n row) = goodTable 24 n && goodRow row
+goodFields enter = true
+goodFields readClock = true
+goodFields readSerial = true
+goodFields readAccount = true
+goodFields readTotal = true
+
+unfoldable pub lettersOf : Command → List ℕ
+lettersOf enter = P1
+lettersOf (password p) = P1
+lettersOf readClock = R1
+lettersOf readSerial = R1
+lettersOf readAccount = R1
+lettersOf readTotal = R1
+lettersOf (readZone n) = R1
+lettersOf (readTable n) = R1
+lettersOf (writeClock c) = W1
+lettersOf (writeAccount a) = W1
+lettersOf (writeTable n row) = W1
+
+unfoldable pub dataOf : Command → List ℕ
+dataOf enter = enterData
+dataOf (password p) = passwordData p
+dataOf readClock = askClock
+dataOf readSerial = askSerial
+dataOf readAccount = askAccount
+dataOf readTotal = askEnergy 0
+dataOf (readZone n) = askEnergy n
+dataOf (readTable n) = askTable n
+dataOf (writeClock c) = setClock c
+dataOf (writeAccount a) = setAccount a
+dataOf (writeTable n row) = setTable n row
+
+-- the characters of a command
+unfoldable pub spoken : Command → List ℕ
+spoken c = frameOf (lettersOf c) (dataOf c)

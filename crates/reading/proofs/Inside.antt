@@ -1,0 +1,70 @@
+-- A set that was read lies within the data, and the next place is past it. Assumes nothing.
+use mathlib.Core.Path.{_≡_, refl, sym, _∙_}
+use mathlib.Core.Bool.{Bool, true, false, cond, _&&_, _||_}
+use mathlib.Core.List.{List}
+use Prim.Native.Nat.{ℕ, _+_, _≤_, _<_}
+use native.Mathlib.Omega.{arith}
+use borrow.Author.Tests.{leb-true, leb-false, eq-eqb}
+use lib.Dec.{leb, eqb}
+use lib.ListN.{length, drop, getD, length-drop}
+use Rattle.line.proofs.Runs.{and-left, and-right, chosen}
+use Rattle.reading.specs.Sets.{startsWith3, endAt, malformedAt, setAt, isSet, addressLength, valueLength, setHere, setRead}
+use Rattle.reading.specs.declared.SetRead.{SetRead}
+
+pub record Inside (s : List ℕ) (at : ℕ) (r : SetRead) : Type 0 where
+  pub next : r .next ≡ at + r .«address_length» + 1 + r .«value_length» + 3
+  pub fits : r .next ≤ length s
+
+unfoldable pub done : SetRead → Bool
+done r = eqb (r .number) 1
+
+-- a choice that shows what only its second side shows was made for that one
+other : {A : Type 0} (shows : A → Bool) (b : Bool) (x y : A) → shows x ≡ false → shows (cond b x y) ≡ true → b ≡ false
+other shows true x y e h = sym h ∙ e
+other shows false x y e h = refl
+
+or-left : (a b : Bool) → (a || b) ≡ false → a ≡ false
+or-left true b h = h
+or-left false b h = refl
+
+closed-long : (s : List ℕ) → startsWith3 41 13 10 s ≡ true → 3 ≤ length s
+unfolding startsWith3
+closed-long s h = leb-true 3 (length s) (and-left (leb 3 (length s)) _ h)
+
+set-closed : (s : List ℕ) (a v : ℕ) → isSet s a v ≡ true → a + 1 + v + 3 ≤ length s
+unfolding isSet
+set-closed s a v h =
+    let value = and-right ((leb 1 a && leb a 16) && eqb (getD s a 0) 40) (leb v 32 && startsWith3 41 13 10 (drop (a + 1 + v) s)) h in
+    let long = closed-long (drop (a + 1 + v) s) (and-right (leb v 32) (startsWith3 41 13 10 (drop (a + 1 + v) s)) value) in
+    omega (arith, length-drop (a + 1 + v) s)
+
+module _ (s : List ℕ) (at : ℕ) where
+  set-inside : at < length s → isSet (drop at s) (addressLength (drop at s)) (valueLength (drop at s) (addressLength (drop at s))) ≡ true → Inside s at (setHere at (drop at s))
+  unfolding setHere
+  set-inside h e =
+      let a = addressLength (drop at s) in
+      let v = valueLength (drop at s) a in
+      let room : a + 1 + v + 3 ≤ length (drop at s) = set-closed (drop at s) a v e in
+      rw e (record { next = refl; fits = omega (arith, length-drop at s) })
+
+  -- what shows as a set is one
+  pub is-set : done (setHere at (drop at s)) ≡ true → isSet (drop at s) (addressLength (drop at s)) (valueLength (drop at s) (addressLength (drop at s))) ≡ true
+  unfolding setHere done
+  is-set k =
+      let a = addressLength (drop at s) in
+      let v = valueLength (drop at s) a in
+      chosen done (isSet (drop at s) a v) (setAt at a v) (malformedAt at) refl k
+
+  pub inside : setRead s at .number ≡ 1 → Inside s at (setRead s at)
+  unfolding setRead done
+  inside h =
+      let here = setHere at (drop at s) in
+      let ended = leb (length s) at || startsWith3 33 13 10 (drop at s) in
+      let shown : done (setRead s at) ≡ true = eq-eqb (setRead s at .number) 1 h in
+      let goes-on : ended ≡ false = other done ended (endAt at) here refl shown in
+      let in-data : at < length s = leb-false (length s) at (or-left (leb (length s) at) (startsWith3 33 13 10 (drop at s)) goes-on) in
+      let set-shown : done here ≡ true = rw goes-on at shown in
+      rw goes-on (set-inside in-data (is-set set-shown))
+
+pub read-inside : (s : List ℕ) (at : ℕ) (r : SetRead) → r ≡ setRead s at → r .number ≡ 1 → Inside s at r
+read-inside s at r e h = rw e (inside s at (rw e at h))

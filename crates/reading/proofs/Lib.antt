@@ -1,0 +1,4 @@
+pub mod Classes
+pub mod Leading
+pub mod Deciding
+pub mod Inside

@@ -1,0 +1,48 @@
+-- What the rule of a register says of its length or its size, and the lengths of the texts that show it. Assumes nothing.
+use mathlib.Core.Path.{_≡_, refl, _∙_}
+use mathlib.Core.Bool.{true}
+use mathlib.Core.List.{List, _∷_}
+use Prim.Native.Nat.{ℕ, _≤_}
+use native.Mathlib.Omega.{arith}
+use borrow.Author.Tests.{eqb-true, leb-true}
+use lib.Dec.{eqb, leb}
+use lib.ListN.{length, take, drop, length-append, length-drop}
+use lib.Seq.{length-take-le}
+use Rattle.line.specs.Runs.{every}
+use Rattle.line.proofs.Runs.{and-left, and-right}
+use Rattle.text.specs.Classes.{between, isDigit}
+use Rattle.text.specs.Decimal.{decimal}
+use Rattle.text.specs.Layout.{layoutText}
+use Rattle.clock.specs.declared.Clock.{Clock}
+use Rattle.values.specs.Registers.{goodDigits, isAccountCharacter, goodAccount, goodRow, goodZone}
+use Rattle.values.specs.Texts.{serialText, tableText, clockText}
+
+pub digits-long : (n : ℕ) (s : List ℕ) → goodDigits n s ≡ true → length s ≡ n
+unfolding goodDigits
+digits-long n s h = eqb-true (length s) n (and-left (eqb (length s) n) (every isDigit s) h)
+
+pub account-long : (s : List ℕ) → goodAccount s ≡ true → length s ≡ 10
+unfolding goodAccount
+account-long s h = eqb-true (length s) 10 (and-left (eqb (length s) 10) (every isAccountCharacter s) h)
+
+pub row-long : (s : List ℕ) → goodRow s ≡ true → length s ≡ 24
+unfolding goodRow
+row-long s h = eqb-true (length s) 24 (and-left (eqb (length s) 24) (every (between 49 52) s) h)
+
+pub zone-most : (n : ℕ) → goodZone n ≡ true → n ≤ 4
+unfolding goodZone between
+zone-most n h = leb-true n 4 (and-right (leb 1 n) (leb n 4) h)
+
+pub serial-text-long : (s : List ℕ) → length s ≡ 10 → length (serialText s) ≡ 11
+unfolding serialText
+serial-text-long s h =
+    let three : length (take 3 s) ≡ 3 = length-take-le 3 s (omega arith) in
+    length-append (take 3 s) (32 ∷ drop 3 s) ∙ (rw three (omega (arith, length-drop 3 s)))
+
+pub table-text-long : (n : ℕ) → length (tableText n) ≡ 2
+unfolding tableText layoutText decimal
+table-text-long n = refl
+
+pub clock-text-long : (c : Clock) → length (clockText c) ≡ 19
+unfolding clockText layoutText decimal
+clock-text-long c = refl

@@ -1,0 +1,169 @@
+//! The speed of the head's reading: the proved library beside Rust by hand, in one run, on the same
+//! data block.
+
+#[path = "../../../trials/src/head_link.rs"]
+#[allow(dead_code)]
+mod head_link;
+
+use benchmark::fast_head;
+use model::head::{self, answer, Clock, Registers, Step};
+use std::hint::black_box;
+use std::process::ExitCode;
+use std::time::Instant;
+
+/// Calls in a batch, and batches on each side; the median batch counts.
+const CALLS: u32 = 5_000;
+const BATCHES: usize = 81;
+
+/// A meter's registers, each its own.
+fn registers() -> Registers {
+    Registers {
+        serial: *b"0123456789",
+        account: *b"Kiln_7 Abc",
+        clock: Clock {
+            year: 2024,
+            month: 2,
+            day: 29,
+            hour: 23,
+            minute: 59,
+            second: 58,
+        },
+        counters: [1_500, 999_999_999, 0, 123_456_789],
+        tables: std::array::from_fn(|table| {
+            std::array::from_fn(|hour| b'1' + ((7 * table + 3 * hour) % 4) as u8)
+        }),
+    }
+}
+
+/// The hand-written reader behind a call that is not inlined, as the library's is.
+#[inline(never)]
+fn fast_next(sets: &[u8], at: usize) -> Step {
+    fast_head::next(sets, at)
+}
+
+/// Reads all data sets through one reader: the last answer, how many were read, and where it stays.
+#[inline(always)]
+fn read_all(next: impl Fn(&[u8], usize) -> Step, sets: &[u8]) -> (u8, usize, usize) {
+    let (mut count, mut at) = (0, 0);
+    loop {
+        let step = next(sets, at);
+        if step.answer != answer::DONE {
+            return (step.answer, count, at);
+        }
+        count += 1;
+        at = step.next;
+    }
+}
+
+/// The median time of a call on either side, in nanoseconds. The sides take turns, so that
+/// whatever else the machine does meets both.
+fn medians(mut rust: impl FnMut(), mut library: impl FnMut()) -> (f64, f64) {
+    let batch = |call: &mut dyn FnMut()| {
+        let start = Instant::now();
+        call();
+        start.elapsed().as_nanos() as f64 / f64::from(CALLS)
+    };
+    let mut times = (Vec::new(), Vec::new());
+    for _ in 0..BATCHES {
+        times.0.push(batch(&mut || (0..CALLS).for_each(|_| rust())));
+        times
+            .1
+            .push(batch(&mut || (0..CALLS).for_each(|_| library())));
+    }
+    let median = |mut times: Vec<f64>| {
+        times.sort_by(f64::total_cmp);
+        times[times.len() / 2]
+    };
+    (median(times.0), median(times.1))
+}
+
+/// Both sides give the same answers and the same bytes, on the block that is timed and on it
+/// with every byte hurt.
+fn all_equal(wire: &[u8], block: &[u8], sets: &[u8]) -> bool {
+    let strips = |reply: &[u8]| {
+        let (mut one, mut other) = (vec![0x5A; reply.len() + 1], vec![0x5A; reply.len() + 1]);
+        fast_head::strip(reply, &mut one) == head_link::strip(reply, &mut other) && one == other
+    };
+    let hurt = |bytes: &[u8], place: usize, bit: u32| {
+        let mut bytes = bytes.to_vec();
+        bytes[place] ^= 1 << bit;
+        bytes
+    };
+    let bits = || 0..8;
+    strips(wire)
+        && fast_head::part(block) == head_link::part(block)
+        && read_all(fast_next, sets) == read_all(head_link::next, sets)
+        && (0..wire.len()).all(|place| bits().all(|bit| strips(&hurt(wire, place, bit))))
+        && (0..block.len()).all(|place| {
+            bits().all(|bit| {
+                let block = hurt(block, place, bit);
+                fast_head::part(&block) == head_link::part(&block)
+            })
+        })
+        && (0..sets.len()).all(|place| {
+            bits().all(|bit| {
+                let sets = hurt(sets, place, bit);
+                fast_head::next(&sets, place / 36 * 36) == head_link::next(&sets, place / 36 * 36)
+            })
+        })
+}
+
+fn main() -> ExitCode {
+    let sets = registers().data();
+    let block = head::block(&sets);
+    let wire = head::on_the_wire(&block);
+    assert_eq!(wire.len(), 1_063);
+    if !all_equal(&wire, &block, &sets) {
+        println!("head: the sides differ; nothing is timed");
+        return ExitCode::FAILURE;
+    }
+    let (mut one, mut other) = (vec![0; wire.len()], vec![0; wire.len()]);
+    let strip = medians(
+        || {
+            black_box(fast_head::strip(black_box(&wire), black_box(&mut one)));
+        },
+        || {
+            black_box(head_link::strip(black_box(&wire), black_box(&mut other)));
+        },
+    );
+    let part = medians(
+        || {
+            black_box(fast_head::part(black_box(&block)));
+        },
+        || {
+            black_box(head_link::part(black_box(&block)));
+        },
+    );
+    let called = medians(
+        || {
+            black_box(read_all(fast_next, black_box(&sets)));
+        },
+        || {
+            black_box(read_all(head_link::next, black_box(&sets)));
+        },
+    );
+    let inlined = medians(
+        || {
+            black_box(fast_head::read_all(black_box(&sets)));
+        },
+        || {
+            black_box(read_all(head_link::next, black_box(&sets)));
+        },
+    );
+    println!(
+        "{:<28}{:>10}{:>12}{:>8}",
+        "name", "rust_ns", "rattle_ns", "ratio"
+    );
+    for (name, (rust, library)) in [
+        ("strip, data block", strip),
+        ("part, data block", part),
+        ("33 data sets, each a call", called),
+        ("33 data sets, Rust inlined", inlined),
+    ] {
+        println!(
+            "{name:<28}{rust:>10.1}{library:>12.1}{:>8.2}",
+            library / rust
+        );
+    }
+    ExitCode::SUCCESS
+}
