@@ -8,18 +8,21 @@ ghost use Rattle.clock.specs.Dates.{leap, daysIn, realDate, realTime};
 ghost use Rattle.clock.specs.Seconds.{realClock, nextMonth, nextDay, nextSecond};
 ghost use Rattle.clock.specs.Weekday.{daysBefore, weekday};
 
+#[repr(C)]
 pub struct Date {
     pub year: u16,
     pub month: u8,
     pub day: u8,
 }
 
+#[repr(C)]
 pub struct Time {
     pub hour: u8,
     pub minute: u8,
     pub second: u8,
 }
 
+#[repr(C)]
 pub struct Clock {
     pub date: Date,
     pub time: Time,

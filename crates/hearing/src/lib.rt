@@ -7,6 +7,9 @@ ghost use Rattle.hearing.specs.Receivers.{keptReceiver, restartedReceive
 ghost use Rattle.state.specs.Making.{emptyReceiver};
 use state::Receiver;
 
+// A line or frame starts with no damage seen.
+const UNMARKED: bool = false;
+
 // What a character does to the receiver.
 pub enum Hearing {
     // It is dropped.
@@ -123,7 +126,7 @@ pub fn restart(c: u8) -> Receiver
     Receiver {
         held,
         count: 1,
-        mark: false,
+        mark: UNMARKED,
     }
 }
 

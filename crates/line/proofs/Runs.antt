@@ -2,7 +2,7 @@
 -- Assumes nothing.
 use mathlib.Core.Path.{_≡_, refl, sym, ap, _∙_}
 use mathlib.Core.Bool.{Bool, true, false, cond, _&&_, and-true}
-use mathlib.Core.List.{List, [], _∷_, _++_, map}
+use mathlib.Core.List.{List, [], _∷_, _++_, append-nil, map}
 use Prim.Native.Nat.{ℕ, zero, suc, _+_, _<_, _≤_}
 use mathlib.Core.Logic.{⊎-elim}
 use native.Mathlib.Nat.{le-of-suc-le-suc, not-suc-le-zero, eq-or-lt-of-le}
@@ -56,10 +56,6 @@ changed-next f (suc i) (x ∷ s) h = changed-next f i s (le-of-suc-le-suc h)
 pub changed-all : (f : ℕ → ℕ) (i : ℕ) (s : List ℕ) → length s ≤ i → changed f i s ≡ map f s
 unfolding changed
 changed-all f i s h = rw (drop-of-length-le, take-all i s) (append-nil (map f s))
-  where
-    append-nil : (l : List ℕ) → l ++ [] ≡ l
-    append-nil [] = refl
-    append-nil (x ∷ l) = ap (λ (r : List ℕ). x ∷ r) (append-nil l)
 
 -- what is left, one element at a time
 pub left-next : (i : ℕ) (s : List ℕ) → i < length s → drop i s ≡ getD s i 0 ∷ drop (i + 1) s

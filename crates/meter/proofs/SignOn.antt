@@ -1,7 +1,7 @@
 -- A line and its LF, five characters and the sixth: what is held is compared without the character that is on its way. Assumes nothing.
 use mathlib.Core.Path.{_≡_, refl, sym, ap, ap₂, _∙_}
 use mathlib.Core.Bool.{Bool, true, _&&_, _||_, and-true}
-use mathlib.Core.List.{List, [], _∷_, _++_, append-assoc}
+use mathlib.Core.List.{List, [], _∷_, _++_, append-nil, append-assoc}
 use Prim.Native.Nat.{ℕ, _+_, _≤_}
 use native.Mathlib.Omega.{arith}
 use lib.Dec.{eqb}
@@ -52,10 +52,6 @@ program-by-held five c = sym (same-snoc five (6 ∷ 48 ∷ 53 ∷ 49 ∷ 13 ∷ 
 fills : (message : List ℕ) → length message ≡ 15 → holding (replicate 15 0) message ≡ message
 unfolding holding
 fills message n = rw n (append-nil message)
-  where
-    append-nil : (l : List ℕ) → l ++ [] ≡ l
-    append-nil [] = refl
-    append-nil (x ∷ l) = ap (λ (r : List ℕ). x ∷ r) (append-nil l)
 
 -- the line put together in fifteen places
 pub our-line-put : (serial b1 b2 b3 : List ℕ) (p1 p2 : ℕ) → length (serialText serial) ≡ 11

@@ -112,15 +112,15 @@ fn ended(at: usize) -> SetRead
 }
 
 // A malformed set: its place, and the reader stays.
-fn malformed(at: usize) -> SetRead
-    ensures { λ r. ⌜ r ≡ malformedAt at ⌝ }
+fn malformed(start: usize) -> SetRead
+    ensures { λ r. ⌜ r ≡ malformedAt start ⌝ }
 {
     SetRead {
         number: MALFORMED,
         address_length: 0,
         value_length: 0,
-        next: at,
-        place: at,
+        next: start,
+        place: start,
     }
 }
 

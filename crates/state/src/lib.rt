@@ -9,6 +9,7 @@ use clock::Date;
 use clock::Time;
 
 // What was received of a line or frame so far.
+#[repr(C)]
 pub struct Receiver {
     pub held: [u8; 63],
     pub count: u8,
@@ -16,6 +17,7 @@ pub struct Receiver {
 }
 
 // The zones' counters in Wh.
+#[repr(C)]
 pub struct Counters {
     pub t1: u32,
     pub t2: u32,
@@ -24,6 +26,7 @@ pub struct Counters {
 }
 
 // What a refused frame never changes.
+#[repr(C)]
 pub struct Registers {
     pub serial: [u8; 10],
     pub account: [u8; 10],
@@ -34,6 +37,7 @@ pub struct Registers {
 }
 
 // Mode: 0 listening, 1 confirmation, 2 password, 3 read-only, 4 programming.
+#[repr(C)]
 pub struct Meter {
     pub mode: u8,
     pub attempts: u8,

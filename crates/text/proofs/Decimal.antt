@@ -1,7 +1,7 @@
 -- A number written in digits reads back, and digits that are read are written back. Assumes nothing.
 use mathlib.Core.Path.{_≡_, refl, sym, ap, ap₂, _∙_}
 use mathlib.Core.Bool.{Bool, true, false, _&&_}
-use mathlib.Core.List.{List, [], _∷_, _++_, append-assoc}
+use mathlib.Core.List.{List, [], _∷_, _++_, append-nil, append-assoc}
 use Prim.Native.Nat.{ℕ, zero, suc, _+_, _-_, _*_, _/_, _%_, _^_, _<_, _≤_}
 use native.Mathlib.Nat.{lt-of-lt-of-le, le-trans, le-of-eq, mul-le-mul-right, mul-assoc, mul-comm, one-mul, pow-suc, add-suc, add-zero, zero-add, mod-lt, zero-lt-suc}
 use native.Mathlib.Omega.{arith}
@@ -56,10 +56,6 @@ last-digit w acc c s low high =
 decimal-from : (s : List ℕ) (w acc : ℕ) → every isDigit s ≡ true → decimal (w + length s) (valueFrom acc s) ≡ decimal w acc ++ s
 unfolding valueFrom every
 decimal-from [] w acc e = ap (λ (k : ℕ). decimal k acc) (add-zero w) ∙ sym (append-nil (decimal w acc))
-  where
-    append-nil : (l : List ℕ) → l ++ [] ≡ l
-    append-nil [] = refl
-    append-nil (x ∷ l) = ap (λ (r : List ℕ). x ∷ r) (append-nil l)
 decimal-from (c ∷ s) w acc e =
     let d = and-left (isDigit c) (every isDigit s) e in
     let low = digit-low c d in

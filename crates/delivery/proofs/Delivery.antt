@@ -1,0 +1,120 @@
+-- The delivery of a post, over all posts and all states: the frames of its entries fed to a meter that is ready, with rooms of 2,048 or more.
+-- Assumes nothing.
+use mathlib.Core.Path.{_≡_, refl, sym, ap, ap₂, subst, _∙_}
+use mathlib.Core.Bool.{Bool, true, false, not, _&&_, _||_}
+use mathlib.Core.List.{List, [], _∷_, _++_, map, List·Memᴰ}
+use Prim.Native.Nat.{ℕ, zero, suc, _*_, _≤_}
+use native.Mathlib.Omega.{arith}
+use borrow.Author.Tests.{leb-true, eqb-true, not-true}
+use lib.Dec.{eqb, leb}
+use lib.ListN.{length, take, drop, replicate, length-append, length-map}
+use lib.Seq.{take-append-seam}
+use Rattle.line.specs.Characters.{sent}
+use Rattle.line.specs.Runs.{every}
+use Rattle.line.proofs.Runs.{and-left, and-right}
+use Rattle.text.specs.Classes.{between}
+use Rattle.text.specs.Writing.{holding}
+use Rattle.values.specs.Registers.{goodTable}
+use Rattle.state.specs.declared.Receiver.{Receiver}
+use Rattle.state.specs.declared.Meter.{Meter}
+use Rattle.state.specs.WellFormed.{markGood, heldGood, receiverGood, wellFormed}
+use Rattle.state.specs.Making.{emptyReceiver}
+use Rattle.state.proofs.Facts.{formed, formed-receiver, held-long, long}
+use Rattle.frames.specs.Frames.{frameOf}
+use Rattle.frames.specs.Commands.{W1, setTable}
+use Rattle.frames.proofs.Table.{length-table-frame}
+use Rattle.post.specs.Grammar.{Entry, rising, IsPost}
+use Rattle.post.proofs.Lines.{row-length}
+use Rattle.post.proofs.Reading.{good-rising, rising-row, rising-rest}
+use Rattle.export.specs.Frames.{entryFrame, framesOf, Done}
+use Rattle.delivery.specs.Feeding.{Said, answered, left, acknowledgedOnce, rowsAfter, deliveredTo}
+use Rattle.delivery.specs.Delivery.{Ready, Delivered}
+use Rattle.delivery.proofs.Feeding.{Fed, fed-in}
+use Rattle.delivery.proofs.Held.{Fit, ready}
+use Rattle.delivery.proofs.Frames.{frames-fed}
+use Rattle.delivery.proofs.Rows.{others-kept, named-held}
+
+-- a good receiver that holds nothing is the empty one
+zeros : (s : List ℕ) → every (between 0 0) s ≡ true → s ≡ replicate (length s) 0
+unfolding every between
+zeros [] h = refl
+zeros (c ∷ s) h =
+    let e : c ≤ 0 = leb-true c 0 (and-right (leb 0 c) (leb c 0) (and-left (between 0 0 c) (every (between 0 0) s) h)) in
+    ap₂ (λ (x : ℕ) (l : List ℕ). x ∷ l) {y = 0} (omega arith) (zeros s (and-right (between 0 0 c) (every (between 0 0) s) h))
+
+empty-is : (mode : ℕ) (r : Receiver) → receiverGood mode r ≡ true → r .count ≡ 0 → r ≡ emptyReceiver
+unfolding heldGood markGood
+empty-is mode r h none =
+    let f = formed-receiver mode r h in
+    let e : r .held ≡ replicate 63 0 =
+    zeros (r .held)
+    (ap (λ (k : ℕ). every (between 0 0) (drop k (r .held))) (sym none)
+    ∙ and-right (every (between 0 127) (r .held)) (every (between 0 0) (drop (r .count) (r .held)))
+    (and-right (eqb (length (r .held)) 63) (every (between 0 127) (r .held) && every (between 0 0) (drop (r .count) (r .held))) (f .held)))
+    ∙ ap (λ (n : ℕ). replicate n 0) (held-long mode r h) in
+    let k : r .mark ≡ false = not-true (r .mark) (rw none at (f .mark)) in
+    ap₂ (λ (l : List ℕ) (n : ℕ). record { held = l; count = n; mark = r .mark }) e none ∙ ap (λ (b : Bool). record { held = replicate 63 0; count = 0; mark = b }) k
+
+module _ (m : Meter) (r : Ready m) where
+  ready-is : m ≡ ready (m .attempts) (m .registers)
+  ready-is =
+      ap₂ (λ (n : ℕ) (v : Receiver). record { mode = n; attempts = m .attempts; receiver = v; registers = m .registers }) (r .mode)
+      (empty-is (m .mode) (m .receiver) (formed m (r .formed) .receiver) (r .empty))
+
+  fit-is : Fit (m .attempts) (m .registers)
+  fit-is = record { attempts = formed m (r .formed) .attempts; registers = formed m (r .formed) .registers }
+
+  -- the state after the frames of good entries, as one definition
+  pub entries-fed : (es : List Entry) → rising 24 0 es ≡ true → Fed m (framesOf es) (acknowledgedOnce es) (deliveredTo m es)
+  entries-fed es h =
+      subst (λ (x : Meter). Fed x (framesOf es) (acknowledgedOnce es) (deliveredTo x es)) (sym ready-is)
+      (frames-fed (m .attempts) (m .registers) 0 es fit-is h)
+
+  entries-delivered : (es : List Entry) → rising 24 0 es ≡ true → Delivered m es (acknowledgedOnce es) (deliveredTo m es)
+  unfolding goodTable between
+  entries-delivered es h =
+      record {
+        acknowledged = refl;
+        named = named-held (m .registers .tables) 0 es h (long m (r .formed) .tables);
+        others = λ n good other. others-kept (m .registers .tables) 0 es h n (leb-true 1 n (and-left (leb 1 n) (leb n 24) good)) other;
+        kept = refl;
+      }
+
+  -- every accepted post is delivered
+  pub delivery : (text : List ℕ) (p : IsPost 24 text) (rooms : ℕ → ℕ) → ((i : ℕ) → 2048 ≤ rooms i)
+      → Delivered m (p .entries) (answered m rooms (framesOf (p .entries))) (left m rooms (framesOf (p .entries)))
+  delivery text p rooms room =
+      let es = p .entries in
+      let h = good-rising 24 es (p .good) in
+      let f = fed-in m rooms (framesOf es) (acknowledgedOnce es) (deliveredTo m es) room (entries-fed es h) in
+      subst (λ (s : List Said). Delivered m es s (left m rooms (framesOf es))) (sym (f .0))
+      (subst (λ (x : Meter). Delivered m es (acknowledgedOnce es) x) (sym (f .1)) (entries-delivered es h))
+
+length-frames : (above : ℕ) (es : List Entry) → rising 24 above es ≡ true → length (framesOf es) ≡ 36 * length es
+unfolding framesOf entryFrame
+length-frames above [] h = refl
+length-frames above (e ∷ es) h =
+    let f = frameOf W1 (setTable (e .number) (e .row)) in
+    omega (
+      arith,
+      length-append (map sent f) (framesOf es),
+      length-map f sent,
+      length-table-frame (e .number) (e .row) (row-length (e .row) (rising-row 24 above e es h)),
+      length-frames (e .number) es (rising-rest 24 above e es h),
+    )
+
+-- what the export writes is the frames
+pub exported-frames : (text out : List ℕ) (number size place : ℕ) (after : List ℕ) (d : Done 24 text out number size place after)
+    → take size after ≡ framesOf (d .is-post .entries)
+unfolding holding
+exported-frames text out number size place after d =
+    let es = d .is-post .entries in
+    let n : size ≡ length (framesOf es) = d .long ∙ sym (length-frames 0 es (good-rising 24 es (d .is-post .good))) in
+    ap₂ take n (d .written) ∙ take-append-seam (framesOf es) (drop (length (framesOf es)) out)
+
+-- the exported bytes, in order, deliver the post
+pub export-delivers : (m : Meter) → Ready m → (text out : List ℕ) (number size place : ℕ) (after : List ℕ) (d : Done 24 text out number size place after) (rooms : ℕ → ℕ)
+    → ((i : ℕ) → 2048 ≤ rooms i) → Delivered m (d .is-post .entries) (answered m rooms (take size after)) (left m rooms (take size after))
+export-delivers m r text out number size place after d rooms room =
+    subst (λ (b : List ℕ). Delivered m (d .is-post .entries) (answered m rooms b) (left m rooms b)) (sym (exported-frames text out number size place after d))
+    (delivery m r text (d .is-post) rooms room)

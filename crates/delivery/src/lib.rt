@@ -1,0 +1,1 @@
+// The delivery of a post to a meter.

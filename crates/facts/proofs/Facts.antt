@@ -1,0 +1,67 @@
+-- The facts that document 01 marks [P] hold: by computing them, and the places by the one answer of the check. Assumes nothing.
+use mathlib.Core.Path.{_≡_, refl, ap, _∙_}
+use mathlib.Core.Bool.{true, cond, _&&_}
+use mathlib.Core.List.{List, [], _∷_, _++_, map}
+use Prim.Native.Nat.{ℕ, _+_, _-_}
+use lib.Count.{ones}
+use lib.ListN.{getD, replicate}
+use Rattle.line.specs.Characters.{seven, sent}
+use Rattle.line.specs.Checksum.{bccOf}
+use Rattle.line.specs.Runs.{every}
+use Rattle.text.specs.Classes.{isDigit, between, matching, sameText}
+use Rattle.text.specs.Decimal.{decimal, valueFrom, valueOf, numberAt}
+use Rattle.text.specs.Layout.{layoutText, pattern, agrees, fits}
+use Rattle.clock.specs.Dates.{leap, thirty, daysIn, realDate, realTime}
+use Rattle.clock.specs.Seconds.{realClock, dateOf}
+use Rattle.clock.specs.Weekday.{daysBefore, dayNumber, weekday}
+use Rattle.values.specs.Texts.{tableText, counterText}
+use Rattle.values.specs.Reading.{clockRead}
+use Rattle.frames.specs.Frames.{closed, frameOf, bareFrame, blockOf, onWire}
+use Rattle.frames.specs.Commands.{B0, P0, P1, W1, bracketed, askClock, askSerial, askAccount, askEnergy, setTable}
+use Rattle.frames.specs.Session.{enterData}
+use Rattle.state.specs.declared.Counters.{Counters}
+use Rattle.state.specs.declared.Registers.{Registers}
+use Rattle.datasets.specs.Sets.{dataSet, linesOf, energySet}
+use Rattle.replies.specs.declared.Ask.the-variants.{Energy}
+use Rattle.replies.specs.Shown.{energy}
+use Rattle.replies.specs.Answers.{askedSets, askedData}
+use Rattle.deciding.specs.declared.Verdict.the-variants.{Refuse, Read, WriteClock}
+use Rattle.deciding.specs.Asking.{energyAsked, asked}
+use Rattle.deciding.specs.Telling.{enclosed, inner, clockTold, told}
+use Rattle.changes.specs.Zones.{tableFor, grown, counted}
+use Rattle.post.specs.Grammar.{lineText}
+use Rattle.facts.specs.Facts.{Facts, leapDay, allOnes}
+use Rattle.facts.proofs.Places.{only-answer, empty-answer, last-answer, past-answer}
+
+energy-shown : (g : Registers) → g .counters .t1 ≡ 1500
+    → blockOf (askedData g (Energy 1))
+    ≡ 2 ∷ 49 ∷ 53 ∷ 46 ∷ 56 ∷ 46 ∷ 49 ∷ 40 ∷ 48 ∷ 48 ∷ 48 ∷ 48 ∷ 48 ∷ 49 ∷ 46 ∷ 53 ∷ 48 ∷ 48 ∷ 42 ∷ 107 ∷ 87 ∷ 104 ∷ 41 ∷ 13 ∷ 10 ∷ 3 ∷ 108 ∷ []
+unfolding askedData askedSets energy linesOf dataSet counterText layoutText decimal blockOf closed bccOf seven
+energy-shown g h = ap (λ (wh : ℕ). blockOf (linesOf (energySet 1 wh ∷ []))) h
+
+counter-wraps : (c : Counters) → c .t1 ≡ 999999999 → counted c 1 1 .t1 ≡ 0
+unfolding counted
+counter-wraps c h = ap (λ (n : ℕ). grown n 1) h
+
+pub facts : Facts
+unfolding ones bareFrame frameOf closed bccOf seven sent bracketed enterData setTable tableText layoutText decimal asked energyAsked askClock askSerial askAccount askEnergy sameText matching weekday dayNumber daysBefore tableFor leap told enclosed inner clockTold clockRead pattern fits agrees isDigit between numberAt valueOf valueFrom realClock realDate realTime daysIn thirty
+facts =
+    record {
+      leave = refl;
+      ask-password = refl;
+      enter = refl;
+      enter-wire = refl;
+      ones-01 = refl;
+      ones-04 = refl;
+      ones-06 = refl;
+      asks-first = refl;
+      energy-block = energy-shown;
+      saturday = refl;
+      saturday-table = refl;
+      wraps = counter-wraps;
+      leap-day = refl;
+      no-leap-day = refl;
+      empty-text = only-answer [] 20 0 empty-answer;
+      only-last = only-answer (33 ∷ []) 20 0 last-answer;
+      past-24 = λ row good. only-answer (lineText 24 row ++ (49 ∷ [])) 20 36 (past-answer row good);
+    }

@@ -1,0 +1,71 @@
+// The meter as firmware holds it: the state lies in the host's record and is changed in place.
+// A reference to a record is walked by hand, so these functions only pass values on.
+ghost use mathlib.Core.Path.{_≡_};
+ghost use lib.ListN.{length};
+ghost use Rattle.text.specs.Writing.{holding};
+ghost use Rattle.frames.specs.Frames.{onWire};
+ghost use Rattle.meter.specs.Character.{character};
+ghost use Rattle.firmware.specs.Replies.{replyTo, replyOf};
+use meter::Answer;
+use state::Meter;
+
+// What is left of an answer once its next state lies in the record.
+pub struct Reply {
+    pub number: u8,
+    pub length: usize,
+    pub speed: u8,
+}
+
+fn reply_of(a: Answer) -> Reply
+    ensures { λ r. ⌜ r ≡ replyTo a ⌝ }
+{
+    Reply {
+        number: a.number,
+        length: a.length,
+        speed: a.speed,
+    }
+}
+
+fn next_of(a: Answer) -> Meter
+    ensures { λ r. ⌜ r ≡ a .next ⌝ }
+{
+    a.next
+}
+
+// A received character; the record becomes the next state.
+pub fn receive_in_place(m: &mut Meter, b: u8, reply: &mut [u8]) -> Reply
+    ensures { λ r. ⌜ (r ≡ replyOf (character (now (m .entry)) (length (now (reply .entry))) b))
+        × (now (m .exit) ≡ character (now (m .entry)) (length (now (reply .entry))) b .next)
+        × (now (reply .exit) ≡ holding (now (reply .entry)) (onWire (character (now (m .entry)) (length (now (reply .entry))) b .reply))) ⌝ }
+{
+    let a = meter::receive(*m, b, reply);
+    *m = next_of(a);
+    reply_of(a)
+}
+
+fn tell(r: Reply, count: &mut usize, speed: &mut u8) -> u8
+    ensures { λ n. ⌜ (n ≡ r .number) × (now (count .exit) ≡ r .length) × (now (speed .exit) ≡ r .speed) ⌝ }
+{
+    *count = r.length;
+    *speed = r.speed;
+    r.number
+}
+
+// The same for C: the answer's number, with the reply's length and its speed where the caller asks for them.
+#[no_mangle]
+pub extern "C" fn dirgemist_meter_receive(
+    m: &mut Meter,
+    b: u8,
+    reply: &mut [u8],
+    count: &mut usize,
+    speed: &mut u8,
+) -> u8
+    ensures { λ r. ⌜ (r ≡ character (now (m .entry)) (length (now (reply .entry))) b .number)
+        × (now (m .exit) ≡ character (now (m .entry)) (length (now (reply .entry))) b .next)
+        × (now (reply .exit) ≡ holding (now (reply .entry)) (onWire (character (now (m .entry)) (length (now (reply .entry))) b .reply)))
+        × (now (count .exit) ≡ length (character (now (m .entry)) (length (now (reply .entry))) b .reply))
+        × (now (speed .exit) ≡ character (now (m .entry)) (length (now (reply .entry))) b .speed) ⌝ }
+{
+    let r = receive_in_place(m, b, reply);
+    tell(r, count, speed)
+}

@@ -1,0 +1,145 @@
+/* dirgemist_head.h: what a reading head says to a meter on the optical link, and what it makes of the replies.
+ *
+ * A head signs on, confirms, sends P1 and then R1 and W1 frames, and ends with B0. Each of these is built by one call, parity and
+ * BCC included, ready for the line. A reply is stripped of its parity, its part is found, and the data sets of the part are read
+ * one by one; the value of a set is read back to the numbers or characters that made it.
+ *
+ * Every function takes any bytes of any length and any numbers, keeps nothing between calls and may be called from several
+ * threads at once. Each is proved, for all inputs, to do what its paragraph says. A buffer is a pointer and a length; where the
+ * length is 0 the pointer is never read or written through, and any pointer that is not null will do. What is only read is const.
+ * Buffers and numbers handed out must not overlap each other or what is read. Every number handed out is always written.
+ *
+ * Link with libheadlink.a.
+ */
+#ifndef DIRGEMIST_HEAD_H
+#define DIRGEMIST_HEAD_H
+
+#include <stddef.h>
+#include <stdint.h>
+
+#ifdef __cplusplus
+extern "C" {
+#endif
+
+/* The numbers returned. */
+#define DIRGEMIST_HEAD_END 0         /* no more data sets; the reader stays */
+#define DIRGEMIST_HEAD_DONE 1        /* built, stripped, found or read */
+#define DIRGEMIST_HEAD_FIELD 9       /* a field outside its rule; nothing written */
+#define DIRGEMIST_HEAD_NO_ROOM 19    /* a command buffer under DIRGEMIST_HEAD_COMMAND_ROOM; nothing written */
+#define DIRGEMIST_HEAD_NO_BLOCK 22   /* not STX .. ETX and one character */
+#define DIRGEMIST_HEAD_WRONG_BCC 23  /* a block whose BCC does not fit */
+#define DIRGEMIST_HEAD_DAMAGED 24    /* a byte whose count of ones is odd; nothing written */
+#define DIRGEMIST_HEAD_MALFORMED 25  /* no data set at that place, or a value not in its line's form */
+#define DIRGEMIST_HEAD_SHORT_COPY 26 /* a buffer shorter than what goes into it; nothing written */
+
+/* Lengths in bytes. */
+#define DIRGEMIST_HEAD_COMMAND_ROOM 64 /* the least buffer that a command is built in */
+#define DIRGEMIST_HEAD_SERIAL 10       /* a serial's digits */
+#define DIRGEMIST_HEAD_PASSWORD 8      /* a password's digits */
+#define DIRGEMIST_HEAD_ACCOUNT 10      /* an account's characters */
+#define DIRGEMIST_HEAD_ROW 24          /* a table's row */
+
+/* ---- Commands.
+ *
+ * Each writes one command at the front of out, a buffer of out_length bytes, with even parity. It returns
+ *   DIRGEMIST_HEAD_DONE     the command stands at the front of out and *length is its length; every byte past it is as it was;
+ *   DIRGEMIST_HEAD_NO_ROOM  out_length is under DIRGEMIST_HEAD_COMMAND_ROOM; this comes before the next;
+ *   DIRGEMIST_HEAD_FIELD    a field lies outside its rule, which the paragraph gives; one without a rule never returns this.
+ * A refusal leaves every byte of out as it was, and *length is 0. */
+
+/* The sign-on to any meter: `/?!` CR LF. */
+uint8_t dirgemist_head_sign_on(uint8_t *out, size_t out_length, size_t *length);
+
+/* The sign-on to the meter of a serial: `/?nnn nnnnnnn!` CR LF. The serial is ten digits, '0' to '9'. */
+uint8_t dirgemist_head_sign_on_to(const uint8_t *serial, size_t serial_length, uint8_t *out, size_t out_length, size_t *length);
+
+/* The confirmation: ACK `0` `5` choice CR LF. The choice is the character '0' or '7' for the data block, '1' for a session. */
+uint8_t dirgemist_head_confirm(uint8_t choice, uint8_t *out, size_t out_length, size_t *length);
+
+/* P1 `()`: a session that only reads. */
+uint8_t dirgemist_head_enter(uint8_t *out, size_t out_length, size_t *length);
+
+/* P1 `(password)`: a session that may write. The password is eight digits. */
+uint8_t dirgemist_head_password(const uint8_t *password, size_t password_length, uint8_t *out, size_t out_length, size_t *length);
+
+/* R1 `T()`, `L()`, `K()` and `E0()`: ask for the clock, the serial, the account and the total. */
+uint8_t dirgemist_head_read_clock(uint8_t *out, size_t out_length, size_t *length);
+uint8_t dirgemist_head_read_serial(uint8_t *out, size_t out_length, size_t *length);
+uint8_t dirgemist_head_read_account(uint8_t *out, size_t out_length, size_t *length);
+uint8_t dirgemist_head_read_total(uint8_t *out, size_t out_length, size_t *length);
+
+/* R1 `En()`: asks for a zone's energy. The zone is 1 to 4. */
+uint8_t dirgemist_head_read_zone(uint8_t zone, uint8_t *out, size_t out_length, size_t *length);
+
+/* R1 `Z(xx)`: asks for a table. The table is 1 to 24. */
+uint8_t dirgemist_head_read_table(uint8_t table, uint8_t *out, size_t out_length, size_t *length);
+
+/* W1 `T(dd-mm-yyyy;hh:nn:ss)`: sets the clock. It is a real date in 2000 to 2099 with a time of day. */
+uint8_t dirgemist_head_write_clock(uint16_t year, uint8_t month, uint8_t day, uint8_t hour, uint8_t minute, uint8_t second, uint8_t *out, size_t out_length, size_t *length);
+
+/* W1 `K(account)`: sets the account. It is ten letters, digits, spaces or underscores. */
+uint8_t dirgemist_head_write_account(const uint8_t *account, size_t account_length, uint8_t *out, size_t out_length, size_t *length);
+
+/* W1 `Z(xx;row)`: sets a table. The table is 1 to 24, the row 24 characters '1' to '4'. */
+uint8_t dirgemist_head_write_table(uint8_t table, const uint8_t *row, size_t row_length, uint8_t *out, size_t out_length, size_t *length);
+
+/* B0: ends the session. */
+uint8_t dirgemist_head_sign_off(uint8_t *out, size_t out_length, size_t *length);
+
+/* ---- Replies. */
+
+/* Strips the parity of the reply_length bytes at reply into out, a buffer of out_length bytes. Returns
+ *   DIRGEMIST_HEAD_DONE        the seven bits of each byte stand at the front of out, *length is reply_length, and every byte of out
+ *                              past them is as it was; an empty reply is good in any room;
+ *   DIRGEMIST_HEAD_SHORT_COPY  out_length is under reply_length; this comes before the next;
+ *   DIRGEMIST_HEAD_DAMAGED     the count of ones in some byte is odd.
+ * A refusal leaves every byte of out as it was, and *length is 0. */
+uint8_t dirgemist_head_strip(const uint8_t *reply, size_t reply_length, uint8_t *out, size_t out_length, size_t *length);
+
+/* Finds the part of a stripped block: the data between its STX and its ETX. Returns
+ *   DIRGEMIST_HEAD_DONE       the part is the *length bytes from stripped + *start on;
+ *   DIRGEMIST_HEAD_NO_BLOCK   the first byte is not STX, the last but one not ETX, another ETX stands before that, or a byte is above
+ *                             7F hex; the shortest block is STX ETX BCC;
+ *   DIRGEMIST_HEAD_WRONG_BCC  the last byte is not the exclusive-or of all from the second through that ETX.
+ * A refusal gives *start and *length 0. */
+uint8_t dirgemist_head_part(const uint8_t *stripped, size_t stripped_length, size_t *start, size_t *length);
+
+/* Reads the data set that starts at place at of the sets_length bytes at sets: an address of 1 to 16 letters, digits or '.', '(', a
+ * value of 0 to 32 printable characters without `()/!`, ')' CR LF. Returns
+ *   DIRGEMIST_HEAD_DONE       the address is the *address_length bytes from at on, the value the *value_length bytes behind its '(', and
+ *                             *next the place behind the set; *place is 0;
+ *   DIRGEMIST_HEAD_END        `!` CR LF stands at at, or at is the end of the data or past it; *next is at and *place is 0;
+ *   DIRGEMIST_HEAD_MALFORMED  anything else stands there; *next and *place are at.
+ * But for DIRGEMIST_HEAD_DONE both lengths are 0. A reader starts at 0 and goes on at *next. */
+uint8_t dirgemist_head_next(const uint8_t *sets, size_t sets_length, size_t at, size_t *address_length, size_t *value_length, size_t *next, size_t *place);
+
+/* ---- Values, as they stand between the brackets of a data set.
+ *
+ * Each returns DIRGEMIST_HEAD_DONE with the value, or DIRGEMIST_HEAD_MALFORMED with zeros for it where the length bytes at value are not
+ * in the form given. Those that write characters write as many as the paragraph says at the front of the buffer, characters or
+ * zeros (the number 0), and leave the bytes past them as they were; where the buffer is shorter than that they return
+ * DIRGEMIST_HEAD_SHORT_COPY and leave all of it as it was. */
+
+/* `nnn nnnnnnn`: the DIRGEMIST_HEAD_SERIAL digits of a serial. */
+uint8_t dirgemist_head_value_serial(const uint8_t *value, size_t length, uint8_t *serial, size_t serial_length);
+
+/* The DIRGEMIST_HEAD_ACCOUNT characters of an account: letters, digits, spaces or underscores. */
+uint8_t dirgemist_head_value_account(const uint8_t *value, size_t length, uint8_t *account, size_t account_length);
+
+/* The DIRGEMIST_HEAD_ROW characters of a row: '1' to '4'. */
+uint8_t dirgemist_head_value_row(const uint8_t *value, size_t length, uint8_t *row, size_t row_length);
+
+/* `yy-mm-dd`: a real date of 20yy. */
+uint8_t dirgemist_head_value_date(const uint8_t *value, size_t length, uint16_t *year, uint8_t *month, uint8_t *day);
+
+/* `hh:nn:ss`: a time of day. */
+uint8_t dirgemist_head_value_time(const uint8_t *value, size_t length, uint8_t *hour, uint8_t *minute, uint8_t *second);
+
+/* `eeeeee.eee*kWh`: a counter's Wh, 0 to 999,999,999. */
+uint8_t dirgemist_head_value_counter(const uint8_t *value, size_t length, uint32_t *wh);
+
+#ifdef __cplusplus
+}
+#endif
+
+#endif
