@@ -5,7 +5,7 @@ use std::env;
 use std::path::PathBuf;
 
 /// The proved libraries that some binary of this package links.
-const LIBRARIES: [&str; 3] = ["firmware", "forum", "headlink"];
+const LIBRARIES: [&str; 4] = ["firmware", "forum", "headlink", "speed"];
 
 fn main() {
     let hosts = PathBuf::from(env::var_os("CARGO_MANIFEST_DIR").expect("cargo sets it")).join("..");
