@@ -9,10 +9,10 @@ use model::meter::{bcc, with_parity, Answer, Clock, Meter, BLOCK, ROOM};
 use std::hint::black_box;
 use std::time::Instant;
 
-/// Batches; the median counts.
-const BATCHES: usize = 41;
+/// Batches; the median counts. They are short, so that whatever else the machine does spoils few.
+const BATCHES: usize = 401;
 /// Times that a batch plays its messages.
-const TURNS: u32 = 2_000;
+const TURNS: u32 = 50;
 
 /// A meter that is changed in place: the model's record, or the one that the library lays out.
 trait Side {
