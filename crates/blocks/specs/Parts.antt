@@ -8,7 +8,6 @@ use lib.ListN.{length, take, drop, getD}
 use Rattle.line.specs.Runs.{every}
 use Rattle.line.specs.Checksum.{bccOf}
 use Rattle.blocks.specs.declared.PartAt.{PartAt}
-use Rattle.blocks.specs.declared.Seen.{Seen}
 
 unfoldable pub isCharacter : ℕ → Bool
 isCharacter c = leb c 127

@@ -8,11 +8,7 @@ use lib.Dec.{ltb}
 use Rattle.state.specs.declared.Meter.{Meter}
 use Rattle.meter.specs.Outcomes.{Outcome}
 use Rattle.meter.specs.Character.{character}
-use Rattle.delivery.specs.Feeding.{Said, saidIn, later, answered, left}
-
--- reply buffers of 2,048 bytes
-abbrev pub full : ℕ → ℕ
-full i = 2048
+use Rattle.delivery.specs.Feeding.{Said, saidIn, later, answered, left, full}
 
 -- what some bytes are answered with, and the state after them
 pub record Fed (m : Meter) (bytes : List ℕ) (said : List Said) (after : Meter) : Type 0 where

@@ -30,7 +30,7 @@ use Rattle.meter.specs.Acting.{acted}
 use Rattle.meter.specs.Outcomes.{Outcome, silent, speedOf}
 use Rattle.meter.specs.Character.{symbol, heard, taken, character}
 use Rattle.delivery.specs.Feeding.{Said, nothing}
-use Rattle.delivery.proofs.Feeding.{Fed, fed-none, fed-next, full}
+use Rattle.delivery.proofs.Feeding.{Fed, fed-none, fed-next}
 
 -- in programming mode with an empty receiver
 abbrev pub ready : ℕ → Registers → Meter

@@ -4,3 +4,4 @@ pub mod Verdicts
 pub mod Rows
 pub mod Frames
 pub mod Delivery
+pub mod Counting

@@ -1,15 +1,19 @@
 -- Demand 3: what a delivered post leaves.
 use mathlib.Core.Path.{_≡_}
+use mathlib.Core.Logic.{_⊎_}
 use mathlib.Core.Bool.{true}
 use mathlib.Core.List.{List, List·Memᴰ}
 use Prim.Native.Nat.{ℕ}
+use lib.ListN.{length}
 use Rattle.values.specs.Registers.{goodTable}
 use Rattle.state.specs.declared.Meter.{Meter}
 use Rattle.state.specs.WellFormed.{wellFormed}
 use Rattle.changes.specs.Changes.{withRegisters, withTables}
 use Rattle.replies.specs.Shown.{rowOf}
-use Rattle.post.specs.Grammar.{Entry}
-use Rattle.delivery.specs.Feeding.{Said, acknowledgedOnce}
+use Rattle.post.specs.Grammar.{Entry, IsPost}
+use Rattle.post.specs.Place.{Longest}
+use Rattle.export.specs.Frames.{framesOf}
+use Rattle.delivery.specs.Feeding.{Said, answered, left, full, acknowledgements, acknowledgedOnce}
 
 -- well-formed, in programming mode, with an empty receiver
 pub record Ready (m : Meter) : Type 0 where
@@ -24,3 +28,25 @@ pub record Delivered (m : Meter) (es : List Entry) (said : List Said) (after : M
   pub others : (n : ℕ) → goodTable 24 n ≡ true → ((e : Entry) → List·Memᴰ e es → e .number ≡ n → ⊥)
       → rowOf (after .registers .tables) n ≡ rowOf (m .registers .tables) n
   pub kept : after ≡ withRegisters m (withTables (m .registers) (after .registers .tables))
+
+-- number 1: a post, whose frames were fed; to a meter that is ready it is delivered, with one acknowledgement a line
+pub record Posted (m : Meter) (text : List ℕ) (number place acknowledged : ℕ) (next : Meter) : Type 0 where
+  pub done : number ≡ 1
+  pub is-post : IsPost 24 text
+  pub no-place : place ≡ 0
+  pub counted : acknowledged ≡ acknowledgements (answered m full (framesOf (is-post .entries)))
+  pub fed : next ≡ left m full (framesOf (is-post .entries))
+  pub each : Ready m → acknowledged ≡ length (is-post .entries)
+  pub delivered : Ready m → Delivered m (is-post .entries) (answered m full (framesOf (is-post .entries))) next
+
+-- number 20: no post; the meter is as it was
+pub record Unposted (m : Meter) (text : List ℕ) (number place acknowledged : ℕ) (next : Meter) : Type 0 where
+  pub refused : number ≡ 20
+  pub no-post : IsPost 24 text → ⊥
+  pub longest : Longest (IsPost 24) text place
+  pub none : acknowledged ≡ 0
+  pub kept : next ≡ m
+
+unfoldable pub DeliveredAs : Meter → List ℕ → ℕ → ℕ → ℕ → Meter → Type 0
+DeliveredAs m text number place acknowledged next =
+    Posted m text number place acknowledged next ⊎ Unposted m text number place acknowledged next

@@ -1,6 +1,8 @@
 -- Demand 3: bytes given to a meter one after the other, with no other event, and what it answers to each.
+use mathlib.Core.Bool.{cond}
 use mathlib.Core.List.{List, [], _∷_, _++_}
-use Prim.Native.Nat.{ℕ, suc, _-_, _*_}
+use Prim.Native.Nat.{ℕ, suc, _+_, _-_, _*_}
+use lib.Dec.{eqb}
 use lib.ListN.{replicate}
 use Rattle.state.specs.declared.Meter.{Meter}
 use Rattle.post.specs.Grammar.{Entry}
@@ -32,6 +34,18 @@ answered m rooms (b ∷ bs) = saidIn (character m (rooms 0) b) ∷ answered (cha
 unfoldable pub left : Meter → (ℕ → ℕ) → List ℕ → Meter
 left m rooms [] = m
 left m rooms (b ∷ bs) = left (character m (rooms 0) b .next) (later rooms) bs
+
+-- reply buffers of 2,048 bytes
+abbrev pub full : ℕ → ℕ
+full i = 2048
+
+-- how many are answered 1
+unfoldable pub isDone : ℕ → ℕ
+isDone number = cond (eqb number 1) 1 0
+
+unfoldable pub acknowledgements : List Said → ℕ
+acknowledgements [] = 0
+acknowledgements (s ∷ ss) = isDone (s .number) + acknowledgements ss
 
 -- taken, nothing to say, in modes 2 to 4
 abbrev pub nothing : Said

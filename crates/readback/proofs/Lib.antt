@@ -4,3 +4,4 @@ pub mod Forms
 pub mod Commands
 pub mod Lines
 pub mod Values
+pub mod Exactly

@@ -65,13 +65,13 @@ sized d h =
     }
 
 -- a line and what follows it, opened up
-abbrev after-value : DataSet → List ℕ → List ℕ
+abbrev pub after-value : DataSet → List ℕ → List ℕ
 after-value d rest = d .value ++ (41 ∷ 13 ∷ 10 ∷ rest)
 
-abbrev opened : DataSet → List ℕ → List ℕ
+abbrev pub opened : DataSet → List ℕ → List ℕ
 opened d rest = d .address ++ (40 ∷ after-value d rest)
 
-line-opened : (d : DataSet) (rest : List ℕ) → lineOf d ++ rest ≡ opened d rest
+pub line-opened : (d : DataSet) (rest : List ℕ) → lineOf d ++ rest ≡ opened d rest
 unfolding lineOf
 line-opened d rest =
     append-assoc (d .address) (40 ∷ (d .value ++ (41 ∷ 13 ∷ 10 ∷ []))) rest

@@ -31,40 +31,50 @@ closed-long : (s : List ℕ) → startsWith3 41 13 10 s ≡ true → 3 ≤ lengt
 unfolding startsWith3
 closed-long s h = leb-true 3 (length s) (and-left (leb 3 (length s)) _ h)
 
-set-closed : (s : List ℕ) (a v : ℕ) → isSet s a v ≡ true → a + 1 + v + 3 ≤ length s
+pub set-closed : (s : List ℕ) (a v : ℕ) → isSet s a v ≡ true → a + 1 + v + 3 ≤ length s
 unfolding isSet
 set-closed s a v h =
     let value = and-right ((leb 1 a && leb a 16) && eqb (getD s a 0) 40) (leb v 32 && startsWith3 41 13 10 (drop (a + 1 + v) s)) h in
     let long = closed-long (drop (a + 1 + v) s) (and-right (leb v 32) (startsWith3 41 13 10 (drop (a + 1 + v) s)) value) in
     omega (arith, length-drop (a + 1 + v) s)
 
-module _ (s : List ℕ) (at : ℕ) where
-  set-inside : at < length s → isSet (drop at s) (addressLength (drop at s)) (valueLength (drop at s) (addressLength (drop at s))) ≡ true → Inside s at (setHere at (drop at s))
-  unfolding setHere
-  set-inside h e =
-      let a = addressLength (drop at s) in
-      let v = valueLength (drop at s) a in
-      let room : a + 1 + v + 3 ≤ length (drop at s) = set-closed (drop at s) a v e in
-      rw e (record { next = refl; fits = omega (arith, length-drop at s) })
+-- what shows as a set: where it stands, its two lengths, and that it is one
+pub record Shown (s : List ℕ) (at a v : ℕ) : Type 0 where
+  pub there : at < length s
+  pub set : isSet (drop at s) a v ≡ true
+  pub is : setRead s at ≡ setAt at a v
 
-  -- what shows as a set is one
-  pub is-set : done (setHere at (drop at s)) ≡ true → isSet (drop at s) (addressLength (drop at s)) (valueLength (drop at s) (addressLength (drop at s))) ≡ true
+module _ (s : List ℕ) (at : ℕ) where
+  set-is : done (setHere at (drop at s)) ≡ true → isSet (drop at s) (addressLength (drop at s)) (valueLength (drop at s) (addressLength (drop at s))) ≡ true
   unfolding setHere done
-  is-set k =
+  set-is k =
       let a = addressLength (drop at s) in
       let v = valueLength (drop at s) a in
       chosen done (isSet (drop at s) a v) (setAt at a v) (malformedAt at) refl k
 
-  pub inside : setRead s at .number ≡ 1 → Inside s at (setRead s at)
+  here-is : isSet (drop at s) (addressLength (drop at s)) (valueLength (drop at s) (addressLength (drop at s))) ≡ true
+      → setHere at (drop at s) ≡ setAt at (addressLength (drop at s)) (valueLength (drop at s) (addressLength (drop at s)))
+  unfolding setHere
+  here-is h = rw h
+
+  pub shown : setRead s at .number ≡ 1 → Shown s at (addressLength (drop at s)) (valueLength (drop at s) (addressLength (drop at s)))
   unfolding setRead done
-  inside h =
+  shown h =
       let here = setHere at (drop at s) in
       let ended = leb (length s) at || startsWith3 33 13 10 (drop at s) in
-      let shown : done (setRead s at) ≡ true = eq-eqb (setRead s at .number) 1 h in
-      let goes-on : ended ≡ false = other done ended (endAt at) here refl shown in
+      let shows : done (setRead s at) ≡ true = eq-eqb (setRead s at .number) 1 h in
+      let goes-on : ended ≡ false = other done ended (endAt at) here refl shows in
       let in-data : at < length s = leb-false (length s) at (or-left (leb (length s) at) (startsWith3 33 13 10 (drop at s)) goes-on) in
-      let set-shown : done here ≡ true = rw goes-on at shown in
-      rw goes-on (set-inside in-data (is-set set-shown))
+      let e = set-is (rw goes-on at shows) in
+      record { there = in-data; set = e; is = rw goes-on (here-is e) }
+
+  pub inside : setRead s at .number ≡ 1 → Inside s at (setRead s at)
+  inside h =
+      let a = addressLength (drop at s) in
+      let v = valueLength (drop at s) a in
+      let k = shown h in
+      let room : a + 1 + v + 3 ≤ length (drop at s) = set-closed (drop at s) a v (k .set) in
+      rw (k .is) (record { next = refl; fits = omega (arith, length-drop at s, k .there) })
 
 pub read-inside : (s : List ℕ) (at : ℕ) (r : SetRead) → r ≡ setRead s at → r .number ≡ 1 → Inside s at r
 read-inside s at r e h = rw e (inside s at (rw e at h))

@@ -1,17 +1,60 @@
-//! The speed of the meter written by hand: a character in programming mode and the data block,
-//! the whole state checked at every call.
+//! The speed of the meter that is changed in place: the proved library beside Rust by hand, in one run, on the
+//! same bytes. A character in programming mode and the data block, the whole state checked at every call.
+
+#[path = "../../../trials/src/firmware_link.rs"]
+mod firmware_link;
 
 use benchmark::fast_meter;
 use model::meter::{bcc, with_parity, Answer, Clock, Meter, BLOCK, ROOM};
 use std::hint::black_box;
 use std::time::Instant;
 
-/// Batches; the median counts.
-const BATCHES: usize = 41;
+/// Batches; the median counts. They are short, so that whatever else the machine does spoils few.
+const BATCHES: usize = 401;
 /// Times that a batch plays its messages.
-const TURNS: u32 = 2_000;
+const TURNS: u32 = 50;
 
-type Character = fn(&mut Meter, u8, &mut [u8]) -> Answer;
+/// A meter that is changed in place: the model's record, or the one that the library lays out.
+trait Side {
+    fn of(meter: &Meter) -> Self;
+    fn character(&mut self, byte: u8, buffer: &mut [u8]) -> Answer;
+    /// Waits for the LF of a confirmation whose first five characters are these.
+    fn wait(&mut self, held: &[u8; 5]);
+}
+
+struct ByHand(Meter);
+
+impl Side for ByHand {
+    fn of(meter: &Meter) -> ByHand {
+        ByHand(meter.clone())
+    }
+
+    fn character(&mut self, byte: u8, buffer: &mut [u8]) -> Answer {
+        fast_meter::character(&mut self.0, byte, buffer)
+    }
+
+    fn wait(&mut self, held: &[u8; 5]) {
+        self.0.mode = 1;
+        self.0.count = 5;
+        self.0.held[..5].copy_from_slice(held);
+    }
+}
+
+impl Side for firmware_link::Meter {
+    fn of(meter: &Meter) -> firmware_link::Meter {
+        meter.into()
+    }
+
+    fn character(&mut self, byte: u8, buffer: &mut [u8]) -> Answer {
+        firmware_link::receive(self, byte, buffer)
+    }
+
+    fn wait(&mut self, held: &[u8; 5]) {
+        self.mode = 1;
+        self.receiver.count = 5;
+        self.receiver.held[..5].copy_from_slice(held);
+    }
+}
 
 /// A meter with something in every register.
 fn meter(mode: u8) -> Meter {
@@ -42,52 +85,73 @@ fn frame(command: &str, data: &str) -> Vec<u8> {
     frame.iter().map(|&c| with_parity(c)).collect()
 }
 
-/// The median time of a batch's part, in nanoseconds.
-fn median(parts: usize, mut batch: impl FnMut()) -> f64 {
-    let mut times: Vec<f64> = (0..BATCHES)
-        .map(|_| {
-            let start = Instant::now();
-            batch();
-            start.elapsed().as_nanos() as f64 / parts as f64
-        })
-        .collect();
-    times.sort_by(f64::total_cmp);
-    times[BATCHES / 2]
+/// The median time of a batch's part on either side, in nanoseconds. The sides take turns, so that
+/// whatever else the machine does meets both.
+fn medians(parts: usize, mut rust: impl FnMut(), mut library: impl FnMut()) -> (f64, f64) {
+    let batch = |call: &mut dyn FnMut()| {
+        let start = Instant::now();
+        call();
+        start.elapsed().as_nanos() as f64 / parts as f64
+    };
+    let mut times = (Vec::new(), Vec::new());
+    for _ in 0..BATCHES {
+        times.0.push(batch(&mut rust));
+        times.1.push(batch(&mut library));
+    }
+    let median = |mut times: Vec<f64>| {
+        times.sort_by(f64::total_cmp);
+        times[BATCHES / 2]
+    };
+    (median(times.0), median(times.1))
 }
 
-/// Nanoseconds for each character of a stream that leaves the meter programming.
-fn stream(character: Character, bytes: &[u8]) -> f64 {
-    let mut meter = meter(4);
-    let mut buffer = [0xAA; ROOM];
-    let time = median(TURNS as usize * bytes.len(), || {
-        for _ in 0..TURNS {
-            for &byte in bytes {
-                let answer = character(black_box(&mut meter), black_box(byte), &mut buffer);
-                assert!(black_box(answer).number <= 1);
-            }
+/// Plays a stream that leaves the meter programming, so many times.
+fn play(side: &mut impl Side, bytes: &[u8], buffer: &mut [u8]) {
+    for _ in 0..TURNS {
+        for &byte in bytes {
+            let answer = black_box(&mut *side).character(black_box(byte), buffer);
+            assert!(black_box(answer).number <= 1);
         }
-    });
-    assert_eq!((meter.mode, meter.count), (4, 0));
-    time
+    }
 }
 
-/// Nanoseconds for the LF of a confirmation that is answered by the data block; the five characters
-/// before it are put back each time.
-fn block(character: Character) -> f64 {
-    let mut waiting = meter(1);
-    waiting.held[..5].copy_from_slice(b"\x06050\r");
-    waiting.count = 5;
-    let mut meter = waiting.clone();
-    let mut buffer = [0xAA; ROOM];
-    median(TURNS as usize, || {
-        for _ in 0..TURNS {
-            meter.mode = 1;
-            meter.count = 5;
-            meter.held[..5].copy_from_slice(&waiting.held[..5]);
-            let answer = character(black_box(&mut meter), black_box(0x0A), &mut buffer);
-            assert_eq!(black_box(answer).length, BLOCK);
-        }
-    })
+/// Nanoseconds for each character of such a stream.
+fn stream(bytes: &[u8]) -> (f64, f64) {
+    let start = meter(4);
+    let (mut rust, mut library) = (ByHand::of(&start), firmware_link::Meter::of(&start));
+    let (mut one, mut other) = ([0xAA; ROOM], [0xAA; ROOM]);
+    let times = medians(
+        TURNS as usize * bytes.len(),
+        || play(&mut rust, bytes, &mut one),
+        || play(&mut library, bytes, &mut other),
+    );
+    assert_eq!(library, (&rust.0).into());
+    assert_eq!((rust.0.mode, rust.0.count), (4, 0));
+    assert_eq!(one, other);
+    times
+}
+
+/// Answers a confirmation by the data block, so many times; the five characters before the LF are put back.
+fn send(side: &mut impl Side, buffer: &mut [u8]) {
+    for _ in 0..TURNS {
+        side.wait(b"\x06050\r");
+        let answer = black_box(&mut *side).character(black_box(0x0A), buffer);
+        assert_eq!(black_box(answer).length, BLOCK);
+    }
+}
+
+/// Nanoseconds for the call that sends the data block.
+fn block() -> (f64, f64) {
+    let start = meter(1);
+    let (mut rust, mut library) = (ByHand::of(&start), firmware_link::Meter::of(&start));
+    let (mut one, mut other) = ([0xAA; ROOM], [0xAA; ROOM]);
+    let times = medians(
+        TURNS as usize,
+        || send(&mut rust, &mut one),
+        || send(&mut library, &mut other),
+    );
+    assert_eq!(one, other);
+    times
 }
 
 fn main() {
@@ -109,30 +173,18 @@ fn main() {
         &frame("R1", "Z(17)"),
     ]
     .concat();
-    let sides: [(&str, Character); 2] = [
-        ("by hand", fast_meter::character),
-        ("model", Meter::character),
-    ];
-    for (name, character) in sides {
+    println!(
+        "{:<34}{:>9}{:>11}{:>7}",
+        "name", "rust_ns", "rattle_ns", "ratio"
+    );
+    for (name, (rust, library)) in [
+        ("a character of table writes", stream(&writes)),
+        ("a character of mixed frames", stream(&mixed)),
+        ("the call that sends the data block", block()),
+    ] {
         println!(
-            "{name}: a character of table writes {:.1} ns, of mixed frames {:.1} ns, \
-             the call that sends the data block {:.1} ns",
-            stream(character, &writes),
-            stream(character, &mixed),
-            block(character)
+            "{name:<34}{rust:>9.1}{library:>11.1}{:>7.2}",
+            library / rust
         );
     }
-    let meter = meter(4);
-    let mut buffer = [0xAA; ROOM];
-    let check = median(TURNS as usize, || {
-        for _ in 0..TURNS {
-            assert!(fast_meter::well_formed(black_box(&meter)));
-        }
-    });
-    let alone = median(TURNS as usize, || {
-        for _ in 0..TURNS {
-            black_box(fast_meter::data_block(black_box(&meter), &mut buffer));
-        }
-    });
-    println!("by hand: the check alone {check:.1} ns, the data block alone {alone:.1} ns");
 }

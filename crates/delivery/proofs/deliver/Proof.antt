@@ -1,0 +1,47 @@
+-- `delivery::deliver` meets its contract: the export's answer, and what feeding its frames gives. Assumes nothing.
+use mathlib.Core.Path.{sym}
+use native.Mathlib.Omega.{arith}
+use lib.Seq.{length-take-le}
+use Rattle.export.proofs.Answers.{frames-bound}
+use Rattle.delivery.proofs.Counting.{not-delivered, was-delivered}
+use borrow.Author.Needs.{needs}
+use Rattle.delivery.proofs.deliver.Statement.{statement}
+use Rattle.delivery.proofs.deliver.Tie as tie
+
+slice-aggregate-export : tie.Need-slice-aggregate-export
+slice-aggregate-export c = search needs
+
+export-requires : tie.Need-export-requires
+export-requires c κs = search needs
+
+returns : tie.Need-returns
+returns c =
+    let a = (c .before .before .before .before .before .args) in
+    not-delivered (a .m) (a .text .now) _ _ _ _ _ (omega arith) (c .if1 .taken) (c .before .before .export .ensures)
+
+array-share-prefix-out : tie.Need-array-share-prefix-out
+array-share-prefix-out c = omega (arith, frames-bound 24 _ _ _ _ _ _ (c .before .before .export .ensures))
+
+slice-aggregate-feed : tie.Need-slice-aggregate-feed
+slice-aggregate-feed c = sym (length-take-le (c .before .before .before .export .result .length) (c .before .before .before .export .last .1 .0) (omega (arith, frames-bound 24 _ _ _ _ _ _ (c .before .before .before .export .ensures))))
+
+feed-requires : tie.Need-feed-requires
+feed-requires c κs = search needs
+
+returns-2 : tie.Need-returns-2
+returns-2 c =
+    let a = (c .before .before .before .before .before .before .before .before .args) in
+    let f = c .before .feed in
+    was-delivered (a .m) (a .text .now) _ _ _ _ _ (omega arith) (f .result .acknowledged) (f .result .next) (omega arith) (f .ensures .0) (f .ensures .1) (c .before .before .before .before .before .export .ensures)
+
+pub deliver-spec : {M : Type 1} → statement M
+deliver-spec =
+    tie.close
+    (tie.spec
+    slice-aggregate-export
+    export-requires
+    returns
+    array-share-prefix-out
+    slice-aggregate-feed
+    feed-requires
+    returns-2)
