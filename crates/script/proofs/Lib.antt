@@ -1,0 +1,9 @@
+pub mod Pairs
+pub mod Widths
+pub mod Words
+pub mod Numbers
+pub mod Reading
+pub mod Writing
+pub mod Taken
+pub mod Wrote
+pub mod RoundTrip
