@@ -10,8 +10,6 @@ use lib.Dec.{eqb}
 use lib.ListN.{length, getD, take, drop, replicate, drop-of-length-le}
 use Rattle.line.proofs.Runs.{left-next}
 use Rattle.state.specs.declared.Meter.{Meter}
-use Rattle.meter.specs.declared.Answer.{Answer}
-use Rattle.meter.specs.Outcomes.{answerOf}
 use Rattle.meter.specs.Character.{character}
 use Rattle.post.specs.Grammar.{Entry, IsPost}
 use Rattle.post.proofs.Reading.{good-rising, one-reading}
@@ -50,23 +48,22 @@ left-cons : (m : Meter) (b : ℕ) (bs : List ℕ) → left m full (b ∷ bs) ≡
 unfolding left
 left-cons m b bs = refl
 
-pub feeding-next : (m : Meter) (s : List ℕ) (i done : ℕ) (next : Meter) (a : Answer) (d : ℕ) → i < length s → a ≡ answerOf (character next 2048 (getD s i 0)) → d ≡ isDone (a .number)
-    → Feeding m s i done next → Feeding m s (i + 1) (done + d) (a .next)
-feeding-next m s i done next a d h e c f =
+pub feeding-next : (m : Meter) (s : List ℕ) (i done : ℕ) (next : Meter) (more : ℕ) (after : Meter) → i < length s
+    → more ≡ done + isDone (character next 2048 (getD s i 0) .number) → after ≡ character next 2048 (getD s i 0) .next
+    → Feeding m s i done next → Feeding m s (i + 1) more after
+feeding-next m s i done next more after h e t f =
     let b = getD s i 0 in
     let rest = drop (i + 1) s in
-    let n : a .number ≡ character next 2048 b .number = ap (λ (x : Answer). x .number) e in
-    let t : a .next ≡ character next 2048 b .next = ap (λ (x : Answer). x .next) e in
+    let d = isDone (character next 2048 b .number) in
     let l = left-next i s h in
-    let count : acknowledgements (answered next full (drop i s)) ≡ d + acknowledgements (answered (a .next) full rest) =
+    let count : acknowledgements (answered next full (drop i s)) ≡ d + acknowledgements (answered after full rest) =
     ap (λ (u : List ℕ). acknowledgements (answered next full u)) l
     ∙ count-next next b rest
-    ∙ sym (ap₂ (λ (k : ℕ) (x : Meter). k + acknowledgements (answered x full rest)) (c ∙ ap isDone n) t) in
-    let dm : d ≤ 1 = subst (λ (k : ℕ). k ≤ 1) (sym c) (done-most (a .number)) in
+    ∙ sym (ap (λ (x : Meter). d + acknowledgements (answered x full rest)) t) in
     let w = f .few in
     record {
       within = omega arith;
-      few = omega arith;
+      few = omega (arith, done-most (character next 2048 b .number));
       counted = omega (arith, f .counted);
       onward = ap (λ (x : Meter). left x full rest) t ∙ sym (left-cons next b rest) ∙ sym (ap (left next full) l) ∙ f .onward;
     }

@@ -1,5 +1,6 @@
 // The delivery of a post: its export, fed byte by byte to a meter.
 ghost use mathlib.Core.Path.{_≡_};
+ghost use Prim.Native.Nat.{_+_, _<_};
 ghost use Rattle.meter.specs.Outcomes.{answerOf};
 ghost use Rattle.meter.specs.Character.{character};
 ghost use Rattle.delivery.specs.Feeding.{answered, left, full, isDone, acknowledgements};
@@ -38,21 +39,36 @@ fn is_done(number: u8) -> usize
     0
 }
 
+// One byte more.
+fn step(f: Fed, b: u8) -> Fed
+    requires { ⌜ f .acknowledged < 18446744073709551615 ⌝ }
+    ensures acknowledged { λ r. ⌜ r .acknowledged ≡ f .acknowledged + isDone (character (f .next) 2048 b .number) ⌝ }
+    ensures next { λ r. ⌜ r .next ≡ character (f .next) 2048 b .next ⌝ }
+{
+    let before = f.next;
+    let answer = give(before, b);
+    let next = answer.next;
+    Fed {
+        acknowledged: f.acknowledged + is_done(answer.number),
+        next,
+    }
+}
+
 // Bytes, one after the other.
 pub fn feed(m: Meter, bytes: &[u8]) -> Fed
     ensures acknowledged { λ r. ⌜ r .acknowledged ≡ acknowledgements (answered m full (now (bytes .entry))) ⌝ }
     ensures next { λ r. ⌜ r .next ≡ left m full (now (bytes .entry)) ⌝ }
 {
-    let mut next = m;
-    let mut acknowledged = 0;
+    let mut fed = Fed {
+        acknowledged: 0,
+        next: m,
+    };
     let mut i = 0;
     while i < bytes.len() {
-        let answer = give(next, bytes[i]);
-        acknowledged += is_done(answer.number);
-        next = answer.next;
+        fed = step(fed, bytes[i]);
         i += 1;
     }
-    Fed { acknowledged, next }
+    fed
 }
 
 // A text, exported and fed to a meter.

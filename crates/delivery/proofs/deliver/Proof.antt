@@ -23,7 +23,7 @@ array-share-prefix-out : tie.Need-array-share-prefix-out
 array-share-prefix-out c = omega (arith, frames-bound 24 _ _ _ _ _ _ (c .before .before .export .ensures))
 
 slice-aggregate-feed : tie.Need-slice-aggregate-feed
-slice-aggregate-feed c = sym (length-take-le (c .before .before .before .export .result .length) (c .before .before .before .export .last .1 .0) (omega (arith, frames-bound 24 _ _ _ _ _ _ (c .before .before .before .export .ensures))))
+slice-aggregate-feed c = sym (length-take-le _ _ (omega (arith, frames-bound 24 _ _ _ _ _ _ (c .before .before .before .export .ensures))))
 
 feed-requires : tie.Need-feed-requires
 feed-requires c κs = search needs
