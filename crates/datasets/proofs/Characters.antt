@@ -10,12 +10,11 @@ use lib.Dec.{eqb, leb}
 use lib.ListN.{length, take, drop}
 use Rattle.line.specs.Runs.{every}
 use Rattle.line.proofs.Runs.{and-left, and-right, and-both, every-append, allBelow, below-all}
-use Rattle.text.specs.Classes.{between, isDigit, isLetter, isPrintable}
+use Rattle.text.specs.Classes.{between, isDigit, isLetter, isPrintable, isAddress, isValue}
 use Rattle.text.specs.Layout.{Piece, digits, fixed, layoutText}
 use Rattle.text.specs.Decimal.{decimal}
 use Rattle.text.proofs.Decimal.{decimal-digits, digit-high}
 use Rattle.values.specs.Registers.{isAccountCharacter}
-use Rattle.datasets.specs.Good.{isAddressCharacter, isValueCharacter}
 
 -- every character of one kind is of the other
 abbrev pub Within : (ℕ → Bool) → (ℕ → Bool) → Type 0
@@ -68,41 +67,41 @@ account-low c h =
     (λ k. or-cases (between 65 90 c || between 97 122 c) (isDigit c) k (letter-low c) (digit-low c))
     (λ k. or-cases (eqb c 32) (eqb c 95) k (λ l. omega (arith, eqb-true c 32 l)) (λ l. omega (arith, eqb-true c 95 l)))
 
-value-low : (c : ℕ) → isValueCharacter c ≡ true → c < 128
-unfolding isValueCharacter isPrintable
+value-low : (c : ℕ) → isValue c ≡ true → c < 128
+unfolding isValue isPrintable
 value-low c h = omega (arith, between-high 32 126 c (and-left (between 32 126 c) _ h))
 
-address-low : (c : ℕ) → isAddressCharacter c ≡ true → c < 128
-unfolding isAddressCharacter isLetter
+address-low : (c : ℕ) → isAddress c ≡ true → c < 128
+unfolding isAddress isLetter
 address-low c h =
     or-cases ((between 65 90 c || between 97 122 c) || isDigit c) (eqb c 46) h
     (λ k. or-cases (between 65 90 c || between 97 122 c) (isDigit c) k (letter-low c) (digit-low c))
     (λ k. omega (arith, eqb-true c 46 k))
 
-pub digit-shown : Within isDigit isValueCharacter
-unfolding isDigit between isValueCharacter isPrintable
-digit-shown = within isDigit isValueCharacter refl digit-low
+pub digit-shown : Within isDigit isValue
+unfolding isDigit between isValue isPrintable
+digit-shown = within isDigit isValue refl digit-low
 
-pub digit-address : Within isDigit isAddressCharacter
-unfolding isDigit between isAddressCharacter isLetter
-digit-address = within isDigit isAddressCharacter refl digit-low
+pub digit-address : Within isDigit isAddress
+unfolding isDigit between isAddress isLetter
+digit-address = within isDigit isAddress refl digit-low
 
-pub account-shown : Within isAccountCharacter isValueCharacter
-unfolding isAccountCharacter isLetter isDigit between isValueCharacter isPrintable
-account-shown = within isAccountCharacter isValueCharacter refl account-low
+pub account-shown : Within isAccountCharacter isValue
+unfolding isAccountCharacter isLetter isDigit between isValue isPrintable
+account-shown = within isAccountCharacter isValue refl account-low
 
-pub row-shown : Within (between 49 52) isValueCharacter
-unfolding between isValueCharacter isPrintable
-row-shown = within (between 49 52) isValueCharacter refl (λ c h. omega (arith, between-high 49 52 c h))
+pub row-shown : Within (between 49 52) isValue
+unfolding between isValue isPrintable
+row-shown = within (between 49 52) isValue refl (λ c h. omega (arith, between-high 49 52 c h))
 
 -- a line's characters: printable, CR and LF
-pub value-line : Within isValueCharacter (between 10 126)
-unfolding isValueCharacter isPrintable between
-value-line = within isValueCharacter (between 10 126) refl value-low
+pub value-line : Within isValue (between 10 126)
+unfolding isValue isPrintable between
+value-line = within isValue (between 10 126) refl value-low
 
-pub address-line : Within isAddressCharacter (between 10 126)
-unfolding isAddressCharacter isLetter isDigit between
-address-line = within isAddressCharacter (between 10 126) refl address-low
+pub address-line : Within isAddress (between 10 126)
+unfolding isAddress isLetter isDigit between
+address-line = within isAddress (between 10 126) refl address-low
 
 -- the fixed pieces of a form are of a kind
 abbrev pub fixedAll : (ℕ → Bool) → List Piece → Bool

@@ -10,7 +10,7 @@ use lib.Dec.{eqb, leb}
 use lib.ListN.{length, take, drop}
 use Rattle.line.specs.Runs.{every}
 use Rattle.line.proofs.Runs.{and-left, and-right, and-both, every-append}
-use Rattle.text.specs.Classes.{between, isDigit, isLetter, isPrintable}
+use Rattle.text.specs.Classes.{between, isDigit, isLetter, isPrintable, isAddress, isValue}
 use Rattle.text.specs.Layout.{layoutText}
 use Rattle.text.specs.Decimal.{decimal}
 use Rattle.text.proofs.Decimal.{decimal-digits}
@@ -19,52 +19,52 @@ use Rattle.clock.specs.declared.Time.{Time}
 use Rattle.values.specs.Registers.{isAccountCharacter}
 use Rattle.values.specs.Texts.{serialText, tableText, dateText, timeText, counterText, dateForm, timeForm, counterForm, tableForm}
 use Rattle.datasets.specs.Sets.{DataSet, dataSet, linesOf, lineOf, timeSet, dateSet, serialSet, accountSet, energySet, tableSet}
-use Rattle.datasets.specs.Good.{isAddressCharacter, isValueCharacter, goodSet, goodSets}
+use Rattle.datasets.specs.Good.{goodSet, goodSets}
 use Rattle.datasets.proofs.Lengths.{time-long, date-long, counter-long, table-long, serial-long}
 use Rattle.datasets.proofs.Characters.{Within, every-within, every-take, every-drop, digit-shown, digit-address, account-shown, row-shown, value-line, address-line, layout-within}
 
 -- an address and a value of their kinds and lengths
-good : (s : DataSet) → between 1 16 (length (s .address)) ≡ true → every isAddressCharacter (s .address) ≡ true → length (s .value) ≤ 32
-    → every isValueCharacter (s .value) ≡ true → goodSet s ≡ true
+good : (s : DataSet) → between 1 16 (length (s .address)) ≡ true → every isAddress (s .address) ≡ true → length (s .value) ≤ 32
+    → every isValue (s .value) ≡ true → goodSet s ≡ true
 unfolding goodSet
 good s n a m v = rw (n, a, le-leb (length (s .value)) 32 m, v)
 
 -- fixed characters are tested by computing
 pub time-good : (t : Time) → goodSet (timeSet t) ≡ true
-unfolding every isAddressCharacter isLetter isDigit between timeText isValueCharacter isPrintable
-time-good t = good (timeSet t) refl refl (omega (arith, time-long t)) (layout-within isValueCharacter digit-shown timeForm _ refl)
+unfolding every isAddress isLetter isDigit between timeText isValue isPrintable
+time-good t = good (timeSet t) refl refl (omega (arith, time-long t)) (layout-within isValue digit-shown timeForm _ refl)
 
 pub date-good : (d : Date) → goodSet (dateSet d) ≡ true
-unfolding every isAddressCharacter isLetter isDigit between dateText isValueCharacter isPrintable
-date-good d = good (dateSet d) refl refl (omega (arith, date-long d)) (layout-within isValueCharacter digit-shown dateForm _ refl)
+unfolding every isAddress isLetter isDigit between dateText isValue isPrintable
+date-good d = good (dateSet d) refl refl (omega (arith, date-long d)) (layout-within isValue digit-shown dateForm _ refl)
 
-serial-shown : (s : List ℕ) → every isDigit s ≡ true → every isValueCharacter (serialText s) ≡ true
+serial-shown : (s : List ℕ) → every isDigit s ≡ true → every isValue (serialText s) ≡ true
 unfolding serialText every
 serial-shown s h =
-    every-append isValueCharacter (take 3 s) (32 ∷ drop 3 s)
-    (every-within isDigit isValueCharacter digit-shown (take 3 s) (every-take isDigit 3 s h))
-    (and-both (isValueCharacter 32) (every isValueCharacter (drop 3 s)) (unfold isValueCharacter isPrintable between in refl)
-    (every-within isDigit isValueCharacter digit-shown (drop 3 s) (every-drop isDigit 3 s h)))
+    every-append isValue (take 3 s) (32 ∷ drop 3 s)
+    (every-within isDigit isValue digit-shown (take 3 s) (every-take isDigit 3 s h))
+    (and-both (isValue 32) (every isValue (drop 3 s)) (unfold isValue isPrintable between in refl)
+    (every-within isDigit isValue digit-shown (drop 3 s) (every-drop isDigit 3 s h)))
 
 pub serial-good : (s : List ℕ) → length s ≡ 10 → every isDigit s ≡ true → goodSet (serialSet s) ≡ true
-unfolding every isAddressCharacter isLetter isDigit between
+unfolding every isAddress isLetter isDigit between
 serial-good s n h = good (serialSet s) refl refl (omega (arith, serial-long s n)) (serial-shown s h)
 
 pub account-good : (s : List ℕ) → length s ≡ 10 → every isAccountCharacter s ≡ true → goodSet (accountSet s) ≡ true
-unfolding every isAddressCharacter isLetter isDigit between
-account-good s n h = good (accountSet s) refl refl (omega arith) (every-within isAccountCharacter isValueCharacter account-shown s h)
+unfolding every isAddress isLetter isDigit between
+account-good s n h = good (accountSet s) refl refl (omega arith) (every-within isAccountCharacter isValue account-shown s h)
 
 pub energy-good : (n wh : ℕ) → goodSet (energySet n wh) ≡ true
-unfolding every isAddressCharacter isLetter isDigit between counterText isValueCharacter isPrintable
+unfolding every isAddress isLetter isDigit between counterText isValue isPrintable
 energy-good n wh =
-    good (energySet n wh) (unfold decimal in refl) (every-within isDigit isAddressCharacter digit-address (decimal 1 n) (decimal-digits 1 n))
-    (omega (arith, counter-long wh)) (layout-within isValueCharacter digit-shown (counterForm 9 3) _ refl)
+    good (energySet n wh) (unfold decimal in refl) (every-within isDigit isAddress digit-address (decimal 1 n) (decimal-digits 1 n))
+    (omega (arith, counter-long wh)) (layout-within isValue digit-shown (counterForm 9 3) _ refl)
 
 pub table-good : (n : ℕ) (row : List ℕ) → length row ≤ 32 → every (between 49 52) row ≡ true → goodSet (tableSet n row) ≡ true
-unfolding every isAddressCharacter isLetter isDigit between tableText
+unfolding every isAddress isLetter isDigit between tableText
 table-good n row short h =
-    good (tableSet n row) (unfold layoutText decimal in refl) (layout-within isAddressCharacter digit-address tableForm (n ∷ []) refl) short
-    (every-within (between 49 52) isValueCharacter row-shown row h)
+    good (tableSet n row) (unfold layoutText decimal in refl) (layout-within isAddress digit-address tableForm (n ∷ []) refl) short
+    (every-within (between 49 52) isValue row-shown row h)
 
 pub good-append : (s t : List DataSet) → goodSets s ≡ true → goodSets t ≡ true → goodSets (s ++ t) ≡ true
 unfolding goodSets
@@ -72,20 +72,20 @@ good-append [] t hs ht = ht
 good-append (x ∷ s) t hs ht = and-both (goodSet x) (goodSets (s ++ t)) (and-left (goodSet x) (goodSets s) hs) (good-append s t (and-right (goodSet x) (goodSets s) hs) ht)
 
 -- a good data set's line holds printable characters, CR and LF
-line-shown : (address value : List ℕ) → every isAddressCharacter address ≡ true → every isValueCharacter value ≡ true
+line-shown : (address value : List ℕ) → every isAddress address ≡ true → every isValue value ≡ true
     → every (between 10 126) (dataSet address value) ≡ true
 unfolding dataSet every between
 line-shown address value a v =
-    every-append (between 10 126) address (40 ∷ (value ++ (41 ∷ 13 ∷ 10 ∷ []))) (every-within isAddressCharacter (between 10 126) address-line address a)
-    (every-append (between 10 126) value (41 ∷ 13 ∷ 10 ∷ []) (every-within isValueCharacter (between 10 126) value-line value v) refl)
+    every-append (between 10 126) address (40 ∷ (value ++ (41 ∷ 13 ∷ 10 ∷ []))) (every-within isAddress (between 10 126) address-line address a)
+    (every-append (between 10 126) value (41 ∷ 13 ∷ 10 ∷ []) (every-within isValue (between 10 126) value-line value v) refl)
 
 set-shown : (s : DataSet) → goodSet s ≡ true → every (between 10 126) (lineOf s) ≡ true
 unfolding goodSet
 set-shown s h =
     let a = between 1 16 (length (s .address)) in
-    let b = every isAddressCharacter (s .address) in
+    let b = every isAddress (s .address) in
     let c = leb (length (s .value)) 32 in
-    let d = every isValueCharacter (s .value) in
+    let d = every isValue (s .value) in
     line-shown (s .address) (s .value) (and-right a b (and-left (a && b) (c && d) h)) (and-right c d (and-right (a && b) (c && d) h))
 
 pub lines-shown : (ss : List DataSet) → goodSets ss ≡ true → every (between 10 126) (linesOf ss) ≡ true

@@ -15,9 +15,9 @@ use Rattle.frames.specs.Session.{signOn, signOnTo, confirmation, enterData, pas
 use Rattle.values.specs.Registers.{goodSerial, goodDigits, isAccountCharacter, goodAccount, goodRow, goodTable}
 use Rattle.values.specs.Texts.{serialText, tableForm, clockForm, tableText, clockText}
 use Rattle.values.proofs.Serials.{every-take, every-drop}
+use Rattle.datasets.proofs.Characters.{every-within, layout-within}
 use Rattle.values.proofs.Rules.{digits-long, account-long, row-long, zone-most, table-text-long, clock-text-long}
 use Rattle.readback.proofs.Sending.{closed-characters, sent-undamaged-all, sent-comes-back-all, frame-characters, closed-sums}
-use Rattle.readback.proofs.Forms.{fixedAll, layout-all}
 use Rattle.line.specs.Characters.{seven, undamagedAll}
 use Rattle.line.specs.Checksum.{bccOf}
 use Rattle.line.specs.Runs.{every}
@@ -25,7 +25,6 @@ use Rattle.line.proofs.Runs.{and-left, and-right, and-both, every-append}
 use Rattle.text.specs.Classes.{between, isDigit, isLetter, isPrintable}
 use Rattle.clock.specs.declared.Clock.{Clock}
 use Rattle.blocks.specs.Parts.{isCharacter}
-use Rattle.reading.proofs.Classes.{every-weaker}
 use Rattle.reading.proofs.Leading.{or-cases}
 use Rattle.readback.specs.Said.{Command, enter, password, readClock, readSerial, readAccount, readTotal, readZone, readTable, writeClock, writeAccount, writeTable, goodFields, lettersOf, dataOf, spoken}
 
@@ -60,24 +59,24 @@ account-printable c h =
     (or-cases (isLetter c || isDigit c) (eqb c 32 || eqb c 95) h)
 
 table-printable : (n : ℕ) → every isPrintable (tableText n) ≡ true
-unfolding tableText fixedAll
-table-printable n = layout-all isPrintable digit-printable tableForm (n ∷ []) refl
+unfolding tableText
+table-printable n = layout-within isPrintable digit-printable tableForm (n ∷ []) refl
 
 clock-printable : (c : Clock) → every isPrintable (clockText c) ≡ true
-unfolding clockText fixedAll every isPrintable between
-clock-printable c = layout-all isPrintable digit-printable clockForm _ refl
+unfolding clockText every isPrintable between
+clock-printable c = layout-within isPrintable digit-printable clockForm _ refl
 
 digits-printable : (n : ℕ) (s : List ℕ) → goodDigits n s ≡ true → every isPrintable s ≡ true
 unfolding goodDigits
-digits-printable n s h = every-weaker isDigit isPrintable digit-printable s (and-right (eqb (length s) n) (every isDigit s) h)
+digits-printable n s h = every-within isDigit isPrintable digit-printable s (and-right (eqb (length s) n) (every isDigit s) h)
 
 row-printable : (s : List ℕ) → goodRow s ≡ true → every isPrintable s ≡ true
 unfolding goodRow
-row-printable s h = every-weaker (between 49 52) isPrintable (λ c. of-range 49 52 c (omega arith) (omega arith)) s (and-right (eqb (length s) 24) (every (between 49 52) s) h)
+row-printable s h = every-within (between 49 52) isPrintable (λ c. of-range 49 52 c (omega arith) (omega arith)) s (and-right (eqb (length s) 24) (every (between 49 52) s) h)
 
 name-printable : (s : List ℕ) → goodAccount s ≡ true → every isPrintable s ≡ true
 unfolding goodAccount
-name-printable s h = every-weaker isAccountCharacter isPrintable account-printable s (and-right (eqb (length s) 10) (every isAccountCharacter s) h)
+name-printable s h = every-within isAccountCharacter isPrintable account-printable s (and-right (eqb (length s) 10) (every isAccountCharacter s) h)
 
 bracketed-printable : (s : List ℕ) → every isPrintable s ≡ true → every isPrintable (bracketed s) ≡ true
 unfolding bracketed every isPrintable between
@@ -142,7 +141,7 @@ letters-printable = of-letters (λ (l : List ℕ). every isPrintable l ≡ true)
 pub command-characters : (c : Command) → goodFields c ≡ true → every isCharacter (spoken c) ≡ true
 unfolding spoken
 command-characters c h =
-    frame-characters (lettersOf c) (dataOf c) (every-weaker isPrintable isCharacter character-of (lettersOf c) (letters-printable c)) (every-weaker isPrintable isCharacter character-of (dataOf c) (command-printable c h))
+    frame-characters (lettersOf c) (dataOf c) (every-within isPrintable isCharacter character-of (lettersOf c) (letters-printable c)) (every-within isPrintable isCharacter character-of (dataOf c) (command-printable c h))
 
 -- on the wire no byte of it is damaged, and its seven bits are its characters again
 pub command-undamaged : (c : Command) → undamagedAll (onWire (spoken c)) ≡ true
@@ -205,7 +204,7 @@ sign-on-comes-back = sent-comes-back-all signOn refl
 serial-characters : (s : List ℕ) → goodSerial s ≡ true → every isCharacter (serialText s) ≡ true
 unfolding serialText every isCharacter
 serial-characters s h =
-    let all = every-weaker isPrintable isCharacter character-of s (digits-printable 10 s h) in
+    let all = every-within isPrintable isCharacter character-of s (digits-printable 10 s h) in
     every-append isCharacter (take 3 s) (32 ∷ drop 3 s) (every-take isCharacter 3 s all) (every-drop isCharacter 3 s all)
 
 pub sign-on-to-comes-back : (s : List ℕ) → goodSerial s ≡ true → map seven (onWire (signOnTo s)) ≡ signOnTo s

@@ -10,10 +10,13 @@ use lib.ListN.{length, take, drop, getD, take-append-drop, length-drop}
 use lib.Seq.{length-take-le, drop-drop}
 use Rattle.line.specs.Runs.{every}
 use Rattle.line.proofs.Runs.{and-left, and-right, left-next}
-use Rattle.reading.specs.Sets.{isAddress, isValue, ofKind, leading, startsWith3, setAt, isSet, addressLength, valueLength, setRead}
+use Rattle.text.specs.Classes.{between, isAddress, isValue}
+use Rattle.datasets.specs.Sets.{lineOf}
+use Rattle.datasets.specs.Good.{goodSet}
+use Rattle.reading.specs.Sets.{ofKind, leading, startsWith3, setAt, isSet, addressLength, valueLength, setRead}
 use Rattle.reading.specs.declared.SetRead.{SetRead}
 use Rattle.reading.proofs.Inside.{shown, set-closed}
-use Rattle.readback.specs.Sets.{goodSet, lineOf, setOf}
+use Rattle.readback.specs.Sets.{setOf}
 use Rattle.readback.proofs.Lines.{line-opened}
 
 led-on : (p : ℕ → Bool) (c k : ℕ) (s : List ℕ) (b : Bool) → p c ≡ b → every p (take k s) ≡ true → every p (take (cond b (suc k) 0) (c ∷ s)) ≡ true
@@ -94,7 +97,7 @@ module _ (t : List ℕ) (a v : ℕ) (h : isSet t a v ≡ true) where
   -- of a good set, where the lengths are those of the runs
   set-good : every isAddress (take a t) ≡ true → every isValue (take v (drop (a + 1) t)) ≡ true
       → goodSet (record { address = take a t; value = take v (drop (a + 1) t) }) ≡ true
-  unfolding goodSet
+  unfolding goodSet between
   set-good ha hv =
       let k = tested t a v h in
       let room = set-closed t a v h in

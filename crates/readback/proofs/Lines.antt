@@ -1,7 +1,7 @@
 -- A line of a data set, followed by anything, is read as that set; so a list of lines reads back line by line. Assumes nothing.
 use mathlib.Core.Path.{_≡_, refl, sym, ap, ap₂, _∙_}
 use mathlib.Core.Bool.{Bool, true, false, _&&_}
-use mathlib.Core.List.{List, [], _∷_, _++_, append-assoc}
+use mathlib.Core.List.{List, [], _∷_, _++_, append-assoc, append-nil}
 use Prim.Native.Nat.{ℕ, zero, suc, _+_, _<_, _≤_}
 use native.Mathlib.Omega.{arith}
 use borrow.Author.Tests.{leb-true, le-leb}
@@ -10,10 +10,12 @@ use lib.ListN.{length, drop, getD, length-append}
 use lib.Seq.{take-at, getD-at, drop-append-seam, drop-append-add, getD-append-add, drop-drop}
 use Rattle.line.specs.Runs.{every}
 use Rattle.line.proofs.Runs.{and-left, and-right}
-use Rattle.text.specs.Classes.{between, isDigit, isLetter, isPrintable}
-use Rattle.reading.specs.Sets.{isAddress, isValue, ofKind, leading, startsWith3, endAt, setAt, setRead}
-use Rattle.reading.proofs.Deciding.{no-end, line-end, by-value}
-use Rattle.readback.specs.Sets.{DataSet, goodSet, goodSets, lineOf, linesOf, lastLine, setOf, also, readFrom, readAll}
+use Rattle.text.specs.Classes.{between, isDigit, isLetter, isPrintable, isAddress, isValue}
+use Rattle.datasets.specs.Sets.{DataSet, dataSet, lineOf, linesOf}
+use Rattle.datasets.specs.Good.{goodSet, goodSets}
+use Rattle.reading.specs.Sets.{ofKind, leading, startsWith3, endAt, setAt, setRead}
+use Rattle.reading.proofs.Deciding.{no-end, past-end, line-end, by-value}
+use Rattle.readback.specs.Sets.{lastLine, setOf, also, readFrom, readAll}
 
 -- a run of one kind, up to a character of another
 pub leads : (p : ℕ → Bool) (xs : List ℕ) (c : ℕ) (rest : List ℕ) (most : ℕ) → every p xs ≡ true → length xs < most → p c ≡ false
@@ -49,7 +51,7 @@ pub record Sized (d : DataSet) : Type 0 where
   pub value : every isValue (d .value) ≡ true
 
 pub sized : (d : DataSet) → goodSet d ≡ true → Sized d
-unfolding goodSet
+unfolding goodSet between
 sized d h =
     let n = length (d .address) in
     let m = length (d .value) in
@@ -72,7 +74,7 @@ abbrev pub opened : DataSet → List ℕ → List ℕ
 opened d rest = d .address ++ (40 ∷ after-value d rest)
 
 pub line-opened : (d : DataSet) (rest : List ℕ) → lineOf d ++ rest ≡ opened d rest
-unfolding lineOf
+unfolding dataSet
 line-opened d rest =
     append-assoc (d .address) (40 ∷ (d .value ++ (41 ∷ 13 ∷ 10 ∷ []))) rest
     ∙ ap (λ (l : List ℕ). d .address ++ (40 ∷ l)) (append-assoc (d .value) (41 ∷ 13 ∷ 10 ∷ []) rest)
@@ -146,7 +148,7 @@ module _ (pre rest : List ℕ) (d : DataSet) (good : goodSet d ≡ true) where
       (ap (λ (l : List ℕ). record { address = d .address; value = l }) (take-at (d .value) (41 ∷ 13 ∷ 10 ∷ rest) (length (d .value)) refl))
 
   line-next : length pre + length (d .address) + 1 + length (d .value) + 3 ≡ length (pre ++ lineOf d)
-  unfolding lineOf
+  unfolding dataSet
   line-next =
       let i = length-append pre (lineOf d) in
       let j = length-append (d .address) (40 ∷ (d .value ++ (41 ∷ 13 ∷ 10 ∷ []))) in
@@ -160,33 +162,41 @@ module _ (pre rest : List ℕ) (d : DataSet) (good : goodSet d ≡ true) where
       rw line-reads
       (ap₂ also line-set (ap₂ (readFrom more) (sym (append-assoc pre (lineOf d) rest)) line-next))
 
--- the last line ends it, whatever follows
-last-reads : (pre rest : List ℕ) → setRead (pre ++ (33 ∷ 13 ∷ 10 ∷ rest)) (length pre) ≡ endAt (length pre)
-last-reads pre rest =
+-- what ends the reading, wherever it stands
+abbrev pub Ends : List ℕ → Type 0
+Ends tail = (pre : List ℕ) → setRead (pre ++ tail) (length pre) ≡ endAt (length pre)
+
+-- the last line does, whatever follows
+pub last-ends : (rest : List ℕ) → Ends (lastLine ++ rest)
+unfolding lastLine
+last-ends rest pre =
     let l = length-append pre (33 ∷ 13 ∷ 10 ∷ rest) in
     sym (line-end (pre ++ (33 ∷ 13 ∷ 10 ∷ rest)) (length pre) (omega arith) (rw (drop-append-seam pre (33 ∷ 13 ∷ 10 ∷ rest)) (ends rest)))
+
+-- and so does the end of the data
+pub none-ends : Ends []
+none-ends pre = sym (past-end (pre ++ []) (length pre) (omega (arith, length-append pre [])))
 
 place : (x y z : List ℕ) → length (x ++ y) + length z ≡ length x + length (y ++ z)
 place x y z = omega (arith, length-append x y, length-append y z)
 
 -- a list of lines reads back line by line, from any place on
-pub lines-read : (ds : List DataSet) (pre rest : List ℕ) (more : ℕ) → goodSets ds ≡ true → length ds < more
-    → readFrom more (pre ++ (linesOf ds ++ (lastLine ++ rest))) (length pre) ≡ record { sets = ds; number = 0; place = length pre + length (linesOf ds) }
-unfolding readFrom linesOf goodSets lastLine also
-lines-read ds pre rest zero h l = absurd (omega arith)
-lines-read [] pre rest (suc more) h l =
-    rw (last-reads pre rest) (ap (λ (n : ℕ). record { sets = []; number = 0; place = n }) (omega arith))
-lines-read (d ∷ ds) pre rest (suc more) h l =
-    let tail = linesOf ds ++ (lastLine ++ rest) in
+pub lines-read : (ds : List DataSet) (pre tail : List ℕ) (more : ℕ) → Ends tail → goodSets ds ≡ true → length ds < more
+    → readFrom more (pre ++ (linesOf ds ++ tail)) (length pre) ≡ record { sets = ds; number = 0; place = length pre + length (linesOf ds) }
+unfolding readFrom linesOf goodSets also
+lines-read ds pre tail zero e h l = absurd (omega arith)
+lines-read [] pre tail (suc more) e h l =
+    rw (e pre) (ap (λ (n : ℕ). record { sets = []; number = 0; place = n }) (omega arith))
+lines-read (d ∷ ds) pre tail (suc more) e h l =
     let good = and-left (goodSet d) (goodSets ds) h in
-    let later = lines-read ds (pre ++ lineOf d) rest more (and-right (goodSet d) (goodSets ds) h) (omega arith) in
-    ap (λ (t : List ℕ). readFrom (suc more) (pre ++ t) (length pre)) (append-assoc (lineOf d) (linesOf ds) (lastLine ++ rest))
-    ∙ step pre tail d good more
+    let later = lines-read ds (pre ++ lineOf d) tail more e (and-right (goodSet d) (goodSets ds) h) (omega arith) in
+    ap (λ (t : List ℕ). readFrom (suc more) (pre ++ t) (length pre)) (append-assoc (lineOf d) (linesOf ds) tail)
+    ∙ step pre (linesOf ds ++ tail) d good more
     ∙ ap (also d) later
     ∙ ap (λ (n : ℕ). record { sets = d ∷ ds; number = 0; place = n }) (place pre (lineOf d) (linesOf ds))
 
 line-some : (d : DataSet) → goodSet d ≡ true → 1 ≤ length (lineOf d)
-unfolding lineOf
+unfolding dataSet
 line-some d h = omega (arith, sized d h .some, length-append (d .address) (40 ∷ (d .value ++ (41 ∷ 13 ∷ 10 ∷ []))))
 
 pub lines-long : (ds : List DataSet) → goodSets ds ≡ true → length ds ≤ length (linesOf ds)
@@ -195,10 +205,19 @@ lines-long [] h = omega arith
 lines-long (d ∷ ds) h =
     omega (arith, lines-long ds (and-right (goodSet d) (goodSets ds) h), length-append (lineOf d) (linesOf ds), line-some d (and-left (goodSet d) (goodSets ds) h))
 
--- the lines of a block read back, all of them, in order, and the reader stays at the last line
-pub sets-read-back : (ds : List DataSet) → goodSets ds ≡ true → readAll (linesOf ds ++ lastLine) ≡ record { sets = ds; number = 0; place = length (linesOf ds) }
-unfolding readAll lastLine
-sets-read-back ds h =
-    let enough : length ds < suc (length (linesOf ds ++ lastLine)) = omega (arith, lines-long ds h, length-append (linesOf ds) lastLine) in
-    lines-read ds [] [] (suc (length (linesOf ds ++ lastLine))) h enough
+-- lines up to what ends them read back, all of them, in order, and the reader stays there
+all-read : (ds : List DataSet) (tail : List ℕ) → Ends tail → goodSets ds ≡ true → readAll (linesOf ds ++ tail) ≡ record { sets = ds; number = 0; place = length (linesOf ds) }
+unfolding readAll
+all-read ds tail e h =
+    let enough : length ds < suc (length (linesOf ds ++ tail)) = omega (arith, lines-long ds h, length-append (linesOf ds) tail) in
+    lines-read ds [] tail (suc (length (linesOf ds ++ tail))) e h enough
     ∙ ap (λ (n : ℕ). record { sets = ds; number = 0; place = n }) (omega arith)
+
+-- the lines of a block, which a last line ends
+pub sets-read-back : (ds : List DataSet) → goodSets ds ≡ true → readAll (linesOf ds ++ lastLine) ≡ record { sets = ds; number = 0; place = length (linesOf ds) }
+unfolding lastLine
+sets-read-back ds h = all-read ds lastLine (last-ends []) h
+
+-- the lines of an answer, which the data's own end ends
+pub answer-reads-back : (ds : List DataSet) → goodSets ds ≡ true → readAll (linesOf ds) ≡ record { sets = ds; number = 0; place = length (linesOf ds) }
+answer-reads-back ds h = ap readAll (sym (append-nil (linesOf ds))) ∙ all-read ds [] none-ends h

@@ -1,34 +1,12 @@
--- Document 01, "The head": data sets as lines, and all of them read one after the other.
-use mathlib.Core.Bool.{Bool, true, cond, _&&_}
-use mathlib.Core.List.{List, [], _∷_, _++_}
+-- Document 01, "The head": all data sets of some lines, read one after the other.
+use mathlib.Core.Bool.{cond}
+use mathlib.Core.List.{List, [], _∷_}
 use Prim.Native.Nat.{ℕ, zero, suc, _+_}
-use lib.Dec.{eqb, leb}
+use lib.Dec.{eqb}
 use lib.ListN.{length, take, drop}
-use Rattle.line.specs.Runs.{every}
-use Rattle.reading.specs.Sets.{isAddress, isValue, setRead}
+use Rattle.datasets.specs.Sets.{DataSet}
+use Rattle.reading.specs.Sets.{setRead}
 use Rattle.reading.specs.declared.SetRead.{SetRead}
-
-pub record DataSet : Type 0 where
-  pub address : List ℕ
-  pub value : List ℕ
-
--- address of 1 to 16 letters, digits or '.', value of 0 to 32 printable characters without `()/!`
-unfoldable pub goodSet : DataSet → Bool
-goodSet d =
-    ((leb 1 (length (d .address)) && leb (length (d .address)) 16) && every isAddress (d .address))
-    && (leb (length (d .value)) 32 && every isValue (d .value))
-
--- address(value) CR LF
-unfoldable pub lineOf : DataSet → List ℕ
-lineOf d = d .address ++ (40 ∷ (d .value ++ (41 ∷ 13 ∷ 10 ∷ [])))
-
-unfoldable pub linesOf : List DataSet → List ℕ
-linesOf [] = []
-linesOf (d ∷ ds) = lineOf d ++ linesOf ds
-
-unfoldable pub goodSets : List DataSet → Bool
-goodSets [] = true
-goodSets (d ∷ ds) = goodSet d && goodSets ds
 
 -- ! CR LF
 unfoldable pub lastLine : List ℕ

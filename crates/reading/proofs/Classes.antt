@@ -8,8 +8,7 @@ use borrow.Author.Tests.{leb-true, le-leb, ne-eqb}
 use lib.Dec.{eqb, leb}
 use Rattle.line.specs.Runs.{every}
 use Rattle.line.proofs.Runs.{allBelow, below-all, and-left, and-right, and-both}
-use Rattle.text.specs.Classes.{between, isDigit, isLetter, isPrintable}
-use Rattle.reading.specs.Sets.{isAddress, isValue}
+use Rattle.text.specs.Classes.{between, isDigit, isLetter, isPrintable, isAddress, isValue}
 
 -- the same answer
 agree : Bool → Bool → Bool

@@ -9,8 +9,8 @@ use borrow.Author.Tests.{le-leb, lt-leb, ne-eqb}
 use lib.Dec.{leb, eqb}
 use lib.ListN.{length, drop, getD}
 use lib.Seq.{drop-drop, getD-drop}
-use Rattle.text.specs.Classes.{between, isDigit, isLetter}
-use Rattle.reading.specs.Sets.{isAddress, ofKind, leading, startsWith3, endAt, malformedAt, setAt, isSet, addressLength, valueLength, setHere, setRead}
+use Rattle.text.specs.Classes.{between, isDigit, isLetter, isAddress}
+use Rattle.reading.specs.Sets.{ofKind, leading, startsWith3, endAt, malformedAt, setAt, isSet, addressLength, valueLength, setHere, setRead}
 
 -- `!` is no character of an address
 bang : (k c : ℕ) (s : List ℕ) → c ≡ 33 → leading (ofKind false) k (c ∷ s) ≡ 0

@@ -1,21 +1,13 @@
 -- Document 01, "The head": the data sets of a block, one by one.
 use mathlib.Core.Path.{_≡_}
-use mathlib.Core.Bool.{Bool, true, false, cond, not, _&&_, _||_}
+use mathlib.Core.Bool.{Bool, true, false, cond, _&&_, _||_}
 use mathlib.Core.List.{List, [], _∷_}
 use Prim.Native.Nat.{ℕ, zero, suc, _+_, _-_, _≤_}
 use lib.Dec.{eqb, leb}
 use lib.ListN.{length, take, drop, getD}
 use Rattle.line.specs.Runs.{every}
-use Rattle.text.specs.Classes.{isDigit, isLetter, isPrintable}
+use Rattle.text.specs.Classes.{isAddress, isValue}
 use Rattle.reading.specs.declared.SetRead.{SetRead}
-
--- an address has letters, digits or '.'
-unfoldable pub isAddress : ℕ → Bool
-isAddress c = (isLetter c || isDigit c) || eqb c 46
-
--- a value has printable characters without `()/!`
-unfoldable pub isValue : ℕ → Bool
-isValue c = isPrintable c && (not (eqb c 40 || eqb c 41) && not (eqb c 47 || eqb c 33))
 
 unfoldable pub ofKind : Bool → ℕ → Bool
 ofKind value c = cond value (isValue c) (isAddress c)

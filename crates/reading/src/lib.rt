@@ -3,7 +3,8 @@ ghost use mathlib.Core.Path.{_≡_};
 ghost use mathlib.Core.Bool.{true};
 ghost use Prim.Native.Nat.{_+_, _-_, _≤_};
 ghost use lib.ListN.{length, take, drop, getD};
-ghost use Rattle.reading.specs.Sets.{isAddress, isValue, ofKind, Lesser, Passes, Passed, Leads, startsWith3, endAt, malformedAt, setRead};
+ghost use Rattle.text.specs.Classes.{isAddress, isValue};
+ghost use Rattle.reading.specs.Sets.{ofKind, Lesser, Passes, Passed, Leads, startsWith3, endAt, malformedAt, setRead};
 
 // The answers of document 01.
 pub const END: u8 = 0;

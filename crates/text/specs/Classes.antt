@@ -1,5 +1,5 @@
 -- Document 01's kinds of character, and a text that is exactly another.
-use mathlib.Core.Bool.{Bool, true, false, _&&_, _||_}
+use mathlib.Core.Bool.{Bool, true, false, not, _&&_, _||_}
 use mathlib.Core.List.{List, [], _∷_}
 use Prim.Native.Nat.{ℕ}
 use lib.Dec.{leb, eqb}
@@ -21,6 +21,14 @@ isPrintable c = between 32 126 c
 unfoldable pub isLetter : ℕ → Bool
 unfolding between
 isLetter c = between 65 90 c || between 97 122 c
+
+-- in a data set's address: letters, digits or '.'
+unfoldable pub isAddress : ℕ → Bool
+isAddress c = (isLetter c || isDigit c) || eqb c 46
+
+-- in a data set's value: printable characters without `()/!`
+unfoldable pub isValue : ℕ → Bool
+isValue c = isPrintable c && (not (eqb c 40 || eqb c 41) && not (eqb c 47 || eqb c 33))
 
 -- two texts of one length, whose characters agree place by place
 unfoldable pub matching : (ℕ → ℕ → Bool) → List ℕ → List ℕ → Bool

@@ -7,7 +7,7 @@ use borrow.Author.Tests.{not-false}
 use lib.ListN.{length, take, drop}
 use Rattle.line.specs.Runs.{every}
 use Rattle.text.specs.Classes.{between}
-use Rattle.reading.specs.Sets.{isValue}
+use Rattle.text.specs.Classes.{isValue}
 use Rattle.reading.proofs.Classes.{plain-value, every-weaker}
 use Rattle.reading.proofs.Leading.{eight-more, none-passed}
 use Rattle.reading.proofs.pass_eights.Statement.{statement}

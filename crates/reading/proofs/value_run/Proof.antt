@@ -6,7 +6,8 @@ use borrow.Author.Needs.{needs}
 use lib.ListN.{length, take, drop}
 use Rattle.reading.proofs.Leading.{passed}
 use Rattle.reading.proofs.Classes.{every-weaker}
-use Rattle.reading.specs.Sets.{ofKind, isValue}
+use Rattle.text.specs.Classes.{isValue}
+use Rattle.reading.specs.Sets.{ofKind}
 use Rattle.reading.proofs.value_run.Statement.{statement}
 use Rattle.reading.proofs.value_run.Tie as tie
 
