@@ -1,13 +1,13 @@
 -- Characters of one kind that are also of another, and what that says of a run and of a form's text.
 -- A kind that ends below 128 is compared by a test computed at every character. Assumes nothing.
-use mathlib.Core.Path.{_≡_, refl, sym, ap, _∙_}
+use mathlib.Core.Path.{_≡_, refl}
 use mathlib.Core.Bool.{Bool, true, false, not, _&&_, _||_}
-use mathlib.Core.List.{List, [], _∷_, _++_}
-use Prim.Native.Nat.{ℕ, zero, suc, _+_, _<_, _≤_}
+use mathlib.Core.List.{List, [], _∷_}
+use Prim.Native.Nat.{ℕ, zero, suc, _<_, _≤_}
 use native.Mathlib.Omega.{arith}
 use borrow.Author.Tests.{leb-true, eqb-true}
 use lib.Dec.{eqb, leb}
-use lib.ListN.{length, take, drop}
+use lib.ListN.{take, drop}
 use Rattle.line.specs.Runs.{every}
 use Rattle.line.proofs.Runs.{and-left, and-right, and-both, every-append, allBelow, below-all}
 use Rattle.text.specs.Classes.{between, isDigit, isLetter, isPrintable, isAddress, isValue}

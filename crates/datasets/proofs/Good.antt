@@ -1,12 +1,12 @@
 -- Each line that a meter shows is a good data set, and good data sets hold printable characters, CR and LF alone: no ETX.
 -- Kind by kind of character (`Within`), over each value's form. Assumes nothing.
-use mathlib.Core.Path.{_≡_, refl, sym, ap, _∙_}
-use mathlib.Core.Bool.{Bool, true, false, not, _&&_, _||_}
+use mathlib.Core.Path.{_≡_, refl}
+use mathlib.Core.Bool.{true, _&&_}
 use mathlib.Core.List.{List, [], _∷_, _++_}
-use Prim.Native.Nat.{ℕ, zero, suc, _+_, _-_, _/_, _%_, _^_, _<_, _≤_}
+use Prim.Native.Nat.{ℕ, _≤_}
 use native.Mathlib.Omega.{arith}
 use borrow.Author.Tests.{le-leb}
-use lib.Dec.{eqb, leb}
+use lib.Dec.{leb}
 use lib.ListN.{length, take, drop}
 use Rattle.line.specs.Runs.{every}
 use Rattle.line.proofs.Runs.{and-left, and-right, and-both, every-append}
@@ -20,8 +20,8 @@ use Rattle.values.specs.Registers.{isAccountCharacter}
 use Rattle.values.specs.Texts.{serialText, tableText, dateText, timeText, counterText, dateForm, timeForm, counterForm, tableForm}
 use Rattle.datasets.specs.Sets.{DataSet, dataSet, linesOf, lineOf, timeSet, dateSet, serialSet, accountSet, energySet, tableSet}
 use Rattle.datasets.specs.Good.{goodSet, goodSets}
-use Rattle.datasets.proofs.Lengths.{time-long, date-long, counter-long, table-long, serial-long}
-use Rattle.datasets.proofs.Characters.{Within, every-within, every-take, every-drop, digit-shown, digit-address, account-shown, row-shown, value-line, address-line, layout-within}
+use Rattle.datasets.proofs.Lengths.{time-long, date-long, counter-long, serial-long}
+use Rattle.datasets.proofs.Characters.{every-within, every-take, every-drop, digit-shown, digit-address, account-shown, row-shown, value-line, address-line, layout-within}
 
 -- an address and a value of their kinds and lengths
 good : (s : DataSet) → between 1 16 (length (s .address)) ≡ true → every isAddress (s .address) ≡ true → length (s .value) ≤ 32

@@ -1,7 +1,6 @@
 -- Document 01, "The head": which data sets can be read.
 use mathlib.Core.Bool.{Bool, true, _&&_}
 use mathlib.Core.List.{List, [], _∷_}
-use Prim.Native.Nat.{ℕ}
 use lib.Dec.{leb}
 use lib.ListN.{length}
 use Rattle.line.specs.Runs.{every}

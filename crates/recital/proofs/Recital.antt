@@ -1,0 +1,116 @@
+-- Every block of a well-formed meter, its data block and its answers to R1, reads back to the meter's own registers. Assumes nothing.
+use mathlib.Core.Path.{_≡_, refl, sym, ap, subst, _∙_}
+use mathlib.Core.Bool.{true}
+use mathlib.Core.List.{List, [], _∷_, map}
+use Prim.Native.Nat.{ℕ}
+use native.Mathlib.Omega.{arith}
+use borrow.Author.Tests.{leb-true}
+use lib.Dec.{leb}
+use lib.ListN.{length}
+use Rattle.line.specs.Runs.{every}
+use Rattle.line.proofs.Runs.{and-left, and-right}
+use Rattle.text.specs.Classes.{between}
+use Rattle.values.specs.Registers.{goodTable}
+use Rattle.state.specs.declared.Registers.{Registers}
+use Rattle.state.specs.declared.Meter.{Meter}
+use Rattle.state.specs.WellFormed.{registersGood, wellFormed}
+use Rattle.state.proofs.Facts.{formed}
+use Rattle.datasets.specs.Sets.{DataSet, linesOf, tableSet}
+use Rattle.datasets.proofs.Characters.{Within, within, every-within}
+use Rattle.replies.specs.declared.Ask.{Ask}
+use Rattle.replies.specs.declared.Ask.the-variants as ask
+use Rattle.replies.specs.Shown.{rowOf}
+use Rattle.replies.specs.Shown as shown
+use Rattle.replies.specs.Answers.{askedSets, askedData}
+use Rattle.replies.specs.Block.{factSets, energySets, tableSets, blockSets, blockData}
+use Rattle.replies.proofs.Good.{asked-good, block-good, asked-shown, block-shown}
+use Rattle.blocks.specs.Parts.{isContent}
+use Rattle.readback.specs.Sets.{Found, lastLine, readAll}
+use Rattle.readback.proofs.Blocks.{block-long, part-of-block, part-is-content, block-strips, block-strips-into}
+use Rattle.readback.proofs.Lines.{sets-read-back, answer-reads-back}
+use Rattle.recital.specs.Recital.{Register, row, Recites, tableNumbers, rows, blockSays, answerSays, goodAsk, ReadsBack}
+use Rattle.recital.proofs.Registers.{and-then, and-none, energy-small, energy-reads, serial-reads, account-reads, date-reads, time-reads, counters-small, row-reads}
+
+-- what a meter shows may stand in a block
+content : Within (between 10 126) isContent
+unfolding between isContent
+content = within (between 10 126) isContent refl (λ c h. omega (arith, leb-true c 126 (and-right (leb 10 c) (leb c 126) h)))
+
+-- so a block of it reads back, where it reads to its end as some registers
+reads-back : (c : List ℕ) (xs : List Register) (ds : List DataSet) (at : ℕ) → every (between 10 126) c ≡ true
+    → readAll c ≡ record { sets = ds; number = 0; place = at } → Recites ds xs → ReadsBack c xs
+reads-back c xs ds at shows read h =
+    let k = every-within (between 10 126) isContent content c shows in
+    record {
+      strips = λ out room. block-strips c out k room ∙ ap (λ (n : ℕ). record { number = 1; length = n }) (sym (block-long c));
+      stripped = λ out room. block-strips-into c out k room;
+      parted = part-of-block c k;
+      part = part-is-content c;
+      ended = ap (λ (f : Found). f .number) read;
+      recited = subst (λ (f : Found). Recites (f .sets) xs) (sym read) h;
+    }
+
+-- the rows of tables that are there
+rows-read : (g : Registers) → registersGood g ≡ true → (ns : List ℕ) → every (goodTable 24) ns ≡ true
+    → Recites (map (λ n. tableSet n (rowOf (g .tables) n)) ns) (rows (g .tables) ns)
+unfolding every rows
+rows-read g good [] h = and-none
+rows-read g good (n ∷ ns) h =
+    and-then (row n (rowOf (g .tables) n)) (tableSet n (rowOf (g .tables) n)) (rows (g .tables) ns) (map (λ n. tableSet n (rowOf (g .tables) n)) ns)
+    (row-reads g good n (and-left (goodTable 24 n) (every (goodTable 24) ns) h)) (rows-read g good ns (and-right (goodTable 24 n) (every (goodTable 24) ns) h))
+
+tables-are : (tables : List ℕ) → tableSets tables 24 ≡ map (λ n. tableSet n (rowOf tables n)) tableNumbers
+unfolding tableSets tableNumbers
+tables-are tables = refl
+
+numbers-good : every (goodTable 24) tableNumbers ≡ true
+unfolding every goodTable between tableNumbers
+numbers-good = refl
+
+block-recites : (g : Registers) → registersGood g ≡ true → Recites (blockSets 24 g) (blockSays g)
+unfolding blockSets factSets energySets blockSays shown.energy
+block-recites g good =
+    let small = counters-small g good in
+    let tables = rw (← tables-are (g .tables)) at (rows-read g good tableNumbers numbers-good) in
+    and-then _ _ _ _ (serial-reads g good)
+    (and-then _ _ _ _ (date-reads g good)
+    (and-then _ _ _ _ (time-reads g good)
+    (and-then _ _ _ _ (account-reads g good)
+    (and-then _ _ _ _ (energy-reads 1 (g .counters .t1) (small .first))
+    (and-then _ _ _ _ (energy-reads 2 (g .counters .t2) (small .second))
+    (and-then _ _ _ _ (energy-reads 3 (g .counters .t3) (small .third))
+    (and-then _ _ _ _ (energy-reads 4 (g .counters .t4) (small .fourth))
+    (and-then _ _ _ _ (energy-reads 0 (shown.energy (g .counters) 0) (energy-small (g .counters) small 0)) tables))))))))
+
+answer-recites : (g : Registers) → registersGood g ≡ true → (a : Ask) → goodAsk a ≡ true → Recites (askedSets g a) (answerSays g a)
+unfolding askedSets answerSays goodAsk
+answer-recites g good ask.Clock h = and-then _ _ _ _ (time-reads g good) (and-then _ _ _ _ (date-reads g good) and-none)
+answer-recites g good ask.Serial h = and-then _ _ _ _ (serial-reads g good) and-none
+answer-recites g good ask.Account h = and-then _ _ _ _ (account-reads g good) and-none
+answer-recites g good (ask.Energy n) h =
+    let wh = shown.energy (g .counters) n in
+    and-then _ _ _ _ (energy-reads n wh (energy-small (g .counters) (counters-small g good) n)) and-none
+answer-recites g good (ask.Table t) h = and-then _ _ _ _ (row-reads g good (t .0) h) and-none
+
+module _ (m : Meter) (f : wellFormed m ≡ true) where
+  -- the data block: all 33 data sets in order
+  pub block-reads-back : ReadsBack (blockData 24 (m .registers)) (blockSays (m .registers))
+  unfolding blockData lastLine
+  block-reads-back =
+      let g = m .registers in
+      let good = formed m f .registers in
+      reads-back (blockData 24 g) (blockSays g) (blockSets 24 g) (length (linesOf (blockSets 24 g))) (block-shown 24 g good) (sets-read-back (blockSets 24 g) (block-good 24 g good))
+      (block-recites g good)
+
+  -- and every answer to R1
+  pub answer-block-reads-back : (a : Ask) → goodAsk a ≡ true → ReadsBack (askedData (m .registers) a) (answerSays (m .registers) a)
+  unfolding askedData
+  answer-block-reads-back a h =
+      let g = m .registers in
+      let good = formed m f .registers in
+      reads-back (askedData g a) (answerSays g a) (askedSets g a) (length (linesOf (askedSets g a))) (asked-shown g a good) (answer-reads-back (askedSets g a) (asked-good g a good))
+      (answer-recites g good a h)
+
+pub thirty-three : (g : Registers) → length (blockSays g) ≡ 33
+unfolding blockSays rows tableNumbers
+thirty-three g = refl
