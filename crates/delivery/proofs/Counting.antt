@@ -2,9 +2,9 @@
 -- Assumes nothing.
 use mathlib.Core.Path.{_≡_, refl, sym, ap, ap₂, subst, _∙_}
 use mathlib.Core.Bool.{Bool, true, false, cond}
-use mathlib.Core.Logic.{_⊎_, inl, inr, ⊎-elim}
+use mathlib.Core.Logic.{inl, inr, ⊎-elim}
 use mathlib.Core.List.{List, [], _∷_, _++_}
-use Prim.Native.Nat.{ℕ, zero, suc, _+_, _*_, _≤_, _<_}
+use Prim.Native.Nat.{ℕ, _+_, _≤_, _<_}
 use native.Mathlib.Omega.{arith}
 use lib.Dec.{eqb}
 use lib.ListN.{length, getD, take, drop, replicate, drop-of-length-le}
@@ -14,11 +14,11 @@ use Rattle.meter.specs.Character.{character}
 use Rattle.post.specs.Grammar.{Entry, IsPost}
 use Rattle.post.proofs.Reading.{good-rising, one-reading}
 use Rattle.post.proofs.Answers.{one-longest}
-use Rattle.export.specs.Frames.{framesOf, Done, ExportedAs}
+use Rattle.export.specs.Frames.{framesOf, ExportedAs}
 use Rattle.export.proofs.Answers.{room-enough}
-use Rattle.delivery.specs.Feeding.{Said, nothing, acknowledgement, answered, left, full, isDone, acknowledgements, acknowledgedOnce}
-use Rattle.delivery.specs.Delivery.{Ready, Delivered, DeliveredAs}
-use Rattle.delivery.proofs.Feeding.{Fed}
+use Rattle.dialogue.specs.Feeding.{Said, answered, left, full}
+use Rattle.delivery.specs.Acknowledged.{nothing, acknowledgement, isDone, acknowledgements, acknowledgedOnce}
+use Rattle.delivery.specs.Delivery.{Delivered, DeliveredAs}
 use Rattle.delivery.proofs.Delivery.{entries-fed, delivery, exported-frames}
 
 -- i bytes were fed: so many answers 1, and this state

@@ -1,25 +1,22 @@
 -- The delivery of a post, over all posts and all states: the frames of its entries fed to a meter that is ready, with rooms of 2,048 or more.
 -- Assumes nothing.
 use mathlib.Core.Path.{_≡_, refl, sym, ap, ap₂, subst, _∙_}
-use mathlib.Core.Bool.{Bool, true, false, not, _&&_, _||_}
-use mathlib.Core.List.{List, [], _∷_, _++_, map, List·Memᴰ}
-use Prim.Native.Nat.{ℕ, zero, suc, _*_, _≤_}
+use mathlib.Core.Bool.{true}
+use mathlib.Core.List.{List, [], _∷_, map}
+use Prim.Native.Nat.{ℕ, _*_, _≤_}
 use native.Mathlib.Omega.{arith}
-use borrow.Author.Tests.{leb-true, eqb-true, not-true}
-use lib.Dec.{eqb, leb}
-use lib.ListN.{length, take, drop, replicate, length-append, length-map}
+use borrow.Author.Tests.{leb-true}
+use lib.Dec.{leb}
+use lib.ListN.{length, take, drop, length-append, length-map}
 use lib.Seq.{take-append-seam}
 use Rattle.line.specs.Characters.{sent}
 use Rattle.line.specs.Runs.{every}
-use Rattle.line.proofs.Runs.{and-left, and-right}
+use Rattle.line.proofs.Runs.{and-left}
 use Rattle.text.specs.Classes.{between}
 use Rattle.text.specs.Writing.{holding}
 use Rattle.values.specs.Registers.{goodTable}
-use Rattle.state.specs.declared.Receiver.{Receiver}
 use Rattle.state.specs.declared.Meter.{Meter}
-use Rattle.state.specs.WellFormed.{markGood, heldGood, receiverGood, wellFormed}
-use Rattle.state.specs.Making.{emptyReceiver}
-use Rattle.state.proofs.Facts.{formed, formed-receiver, held-long, long}
+use Rattle.state.proofs.Facts.{formed, long}
 use Rattle.frames.specs.Frames.{frameOf}
 use Rattle.frames.specs.Commands.{W1, setTable}
 use Rattle.frames.proofs.Table.{length-table-frame}
@@ -27,48 +24,26 @@ use Rattle.post.specs.Grammar.{Entry, rising, IsPost}
 use Rattle.post.proofs.Lines.{row-length}
 use Rattle.post.proofs.Reading.{good-rising, rising-row, rising-rest}
 use Rattle.export.specs.Frames.{entryFrame, framesOf, Done}
-use Rattle.delivery.specs.Feeding.{Said, answered, left, acknowledgedOnce, rowsAfter, deliveredTo}
+use Rattle.dialogue.specs.Feeding.{Said, answered, left}
+use Rattle.dialogue.proofs.Feeding.{Fed, fed-in}
+use Rattle.dialogue.proofs.Held.{Fit, idle, idle-is, fit-is}
+use Rattle.delivery.specs.Acknowledged.{acknowledgedOnce, deliveredTo}
 use Rattle.delivery.specs.Delivery.{Ready, Delivered}
-use Rattle.delivery.proofs.Feeding.{Fed, fed-in}
-use Rattle.delivery.proofs.Held.{Fit, ready}
 use Rattle.delivery.proofs.Frames.{frames-fed}
 use Rattle.delivery.proofs.Rows.{others-kept, named-held}
 
--- a good receiver that holds nothing is the empty one
-zeros : (s : List ℕ) → every (between 0 0) s ≡ true → s ≡ replicate (length s) 0
-unfolding every between
-zeros [] h = refl
-zeros (c ∷ s) h =
-    let e : c ≤ 0 = leb-true c 0 (and-right (leb 0 c) (leb c 0) (and-left (between 0 0 c) (every (between 0 0) s) h)) in
-    ap₂ (λ (x : ℕ) (l : List ℕ). x ∷ l) {y = 0} (omega arith) (zeros s (and-right (between 0 0 c) (every (between 0 0) s) h))
-
-empty-is : (mode : ℕ) (r : Receiver) → receiverGood mode r ≡ true → r .count ≡ 0 → r ≡ emptyReceiver
-unfolding heldGood markGood
-empty-is mode r h none =
-    let f = formed-receiver mode r h in
-    let e : r .held ≡ replicate 63 0 =
-    zeros (r .held)
-    (ap (λ (k : ℕ). every (between 0 0) (drop k (r .held))) (sym none)
-    ∙ and-right (every (between 0 127) (r .held)) (every (between 0 0) (drop (r .count) (r .held)))
-    (and-right (eqb (length (r .held)) 63) (every (between 0 127) (r .held) && every (between 0 0) (drop (r .count) (r .held))) (f .held)))
-    ∙ ap (λ (n : ℕ). replicate n 0) (held-long mode r h) in
-    let k : r .mark ≡ false = not-true (r .mark) (rw none at (f .mark)) in
-    ap₂ (λ (l : List ℕ) (n : ℕ). record { held = l; count = n; mark = r .mark }) e none ∙ ap (λ (b : Bool). record { held = replicate 63 0; count = 0; mark = b }) k
-
 module _ (m : Meter) (r : Ready m) where
-  ready-is : m ≡ ready (m .attempts) (m .registers)
-  ready-is =
-      ap₂ (λ (n : ℕ) (v : Receiver). record { mode = n; attempts = m .attempts; receiver = v; registers = m .registers }) (r .mode)
-      (empty-is (m .mode) (m .receiver) (formed m (r .formed) .receiver) (r .empty))
+  ready-is : m ≡ idle 4 (m .attempts) (m .registers)
+  ready-is = idle-is m (r .formed) (r .empty) ∙ ap (λ (n : ℕ). idle n (m .attempts) (m .registers)) (r .mode)
 
-  fit-is : Fit (m .attempts) (m .registers)
-  fit-is = record { attempts = formed m (r .formed) .attempts; registers = formed m (r .formed) .registers }
+  fit-four : Fit 4 (m .attempts) (m .registers)
+  fit-four = rw (r .mode) at (fit-is m (r .formed))
 
   -- the state after the frames of good entries, as one definition
   pub entries-fed : (es : List Entry) → rising 24 0 es ≡ true → Fed m (framesOf es) (acknowledgedOnce es) (deliveredTo m es)
   entries-fed es h =
       subst (λ (x : Meter). Fed x (framesOf es) (acknowledgedOnce es) (deliveredTo x es)) (sym ready-is)
-      (frames-fed (m .attempts) (m .registers) 0 es fit-is h)
+      (frames-fed (m .attempts) (m .registers) 0 es fit-four h)
 
   entries-delivered : (es : List Entry) → rising 24 0 es ≡ true → Delivered m es (acknowledgedOnce es) (deliveredTo m es)
   unfolding goodTable between

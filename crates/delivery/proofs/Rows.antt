@@ -1,12 +1,11 @@
 -- Rows put into the tables: each named table holds its row, every other is as before, and good tables stay good.
 -- A row is put at its own place, apart from every other table's. Assumes nothing.
-use mathlib.Core.Path.{_≡_, refl, sym, ap, ap₂, _∙_}
-use mathlib.Core.Bool.{Bool, true, false, _&&_}
+use mathlib.Core.Path.{_≡_, refl, ap, _∙_}
+use mathlib.Core.Bool.{Bool, true}
 use mathlib.Core.Logic.{_⊎_, inl, inr, ⊎-elim}
 use mathlib.Core.List.{List, [], _∷_, _++_, append-assoc, List·Memᴰ, List·Memᴰ·head, List·Memᴰ·tail, List·Memᴰ·cases-cons, List·Memᴰ·not-nil}
 use Prim.Native.Nat.{ℕ, zero, suc, _+_, _-_, _*_, _≤_, _<_}
 use native.Mathlib.Omega.{arith}
-use borrow.Author.Tests.{eqb-true, eq-eqb}
 use lib.Dec.{eqb}
 use lib.ListN.{length, take, drop, set}
 use lib.Seq.{drop-set-lt, drop-set-add, take-set-le, length-take-le, take-at, drop-at}
@@ -15,14 +14,13 @@ use Rattle.line.proofs.Runs.{and-left, and-right, and-both}
 use Rattle.text.specs.Classes.{between}
 use Rattle.text.specs.Writing.{stored}
 use Rattle.text.proofs.Writing.{length-stored, stored-is}
-use Rattle.values.specs.Registers.{goodRow}
 use Rattle.state.specs.WellFormed.{tablesGood}
 use Rattle.replies.specs.Shown.{rowOf}
 use Rattle.post.specs.Grammar.{Entry, rising}
 use Rattle.post.proofs.Lines.{row-length}
 use Rattle.post.proofs.Columns.{le-or-lt}
 use Rattle.post.proofs.Reading.{rising-number, rising-rest, rising-table, rising-row}
-use Rattle.delivery.specs.Feeding.{rowsAfter}
+use Rattle.delivery.specs.Acknowledged.{rowsAfter}
 
 every-set : (p : ℕ → Bool) (s : List ℕ) (i x : ℕ) → p x ≡ true → every p s ≡ true → every p (set s i x) ≡ true
 unfolding every

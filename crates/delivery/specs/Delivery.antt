@@ -13,7 +13,8 @@ use Rattle.replies.specs.Shown.{rowOf}
 use Rattle.post.specs.Grammar.{Entry, IsPost}
 use Rattle.post.specs.Place.{Longest}
 use Rattle.export.specs.Frames.{framesOf}
-use Rattle.delivery.specs.Feeding.{Said, answered, left, full, acknowledgements, acknowledgedOnce}
+use Rattle.dialogue.specs.Feeding.{Said, answered, left, full}
+use Rattle.delivery.specs.Acknowledged.{acknowledgements, acknowledgedOnce}
 
 -- well-formed, in programming mode, with an empty receiver
 pub record Ready (m : Meter) : Type 0 where

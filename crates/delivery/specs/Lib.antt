@@ -1,2 +1,2 @@
-pub mod Feeding
+pub mod Acknowledged
 pub mod Delivery

@@ -131,10 +131,10 @@ of-letters P p r w (writeClock c) = w
 of-letters P p r w (writeAccount a) = w
 of-letters P p r w (writeTable n row) = w
 
-letters-two : (c : Command) → length (lettersOf c) ≡ 2
+pub letters-two : (c : Command) → length (lettersOf c) ≡ 2
 letters-two = of-letters (λ (l : List ℕ). length l ≡ 2) refl refl refl
 
-letters-printable : (c : Command) → every isPrintable (lettersOf c) ≡ true
+pub letters-printable : (c : Command) → every isPrintable (lettersOf c) ≡ true
 unfolding every isPrintable between
 letters-printable = of-letters (λ (l : List ℕ). every isPrintable l ≡ true) refl refl refl
 
@@ -170,7 +170,7 @@ bracketed-long : (s : List ℕ) → length (bracketed s) ≡ length s + 2
 unfolding bracketed
 bracketed-long s = omega (arith, length-append s (41 ∷ []))
 
-data-short : (c : Command) → goodFields c ≡ true → length (dataOf c) ≤ 30
+pub data-short : (c : Command) → goodFields c ≡ true → length (dataOf c) ≤ 30
 unfolding dataOf goodFields enterData passwordData askClock askSerial askAccount askEnergy askTable setClock setAccount setTable
 data-short enter h = omega (arith, bracketed-long [])
 data-short (password p) h = omega (arith, bracketed-long p, digits-long 8 p h)

@@ -1,6 +1,6 @@
 -- `delivery::is_done` meets its contract. Assumes nothing.
 use borrow.Author.Tests.{eq-eqb, ne-eqb}
-use Rattle.delivery.specs.Feeding.{isDone}
+use Rattle.delivery.specs.Acknowledged.{isDone}
 use Rattle.delivery.proofs.is_done.Statement.{statement}
 use Rattle.delivery.proofs.is_done.Tie as tie
 

@@ -3,7 +3,7 @@ use mathlib.Core.Path.{_≡_, ap, _∙_}
 use native.Mathlib.Omega.{arith}
 use Prim.Native.Nat.{ℕ, _+_}
 use Rattle.meter.specs.declared.Answer.{Answer}
-use Rattle.delivery.specs.Feeding.{isDone}
+use Rattle.delivery.specs.Acknowledged.{isDone}
 use Rattle.delivery.proofs.Counting.{done-most}
 use borrow.Author.Needs.{needs}
 use Rattle.delivery.proofs.step.Statement.{statement}

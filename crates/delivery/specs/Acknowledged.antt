@@ -1,7 +1,7 @@
--- Demand 3: bytes given to a meter one after the other, with no other event, and what it answers to each.
+-- Demand 3: what a meter answers to the bytes of a post's frames, and the tables that they leave.
 use mathlib.Core.Bool.{cond}
 use mathlib.Core.List.{List, [], _∷_, _++_}
-use Prim.Native.Nat.{ℕ, suc, _+_, _-_, _*_}
+use Prim.Native.Nat.{ℕ, _+_, _-_, _*_}
 use lib.Dec.{eqb}
 use lib.ListN.{replicate}
 use Rattle.state.specs.declared.Meter.{Meter}
@@ -9,35 +9,7 @@ use Rattle.post.specs.Grammar.{Entry}
 use Rattle.text.specs.Writing.{stored}
 use Rattle.changes.specs.Changes.{withRegisters, withTables}
 use Rattle.replies.specs.Fixed.{accepted}
-use Rattle.meter.specs.Outcomes.{Outcome}
-use Rattle.meter.specs.Character.{character}
-
--- an answer without the next state
-pub record Said : Type 0 where
-  pub number : ℕ
-  pub speed : ℕ
-  pub reply : List ℕ
-
-abbrev pub saidIn : Outcome → Said
-saidIn o = record { number = o .number; speed = o .speed; reply = o .reply }
-
--- the rooms of the events after the first
-abbrev pub later : (ℕ → ℕ) → ℕ → ℕ
-later rooms i = rooms (suc i)
-
--- each event has a reply buffer of its own room
-unfoldable pub answered : Meter → (ℕ → ℕ) → List ℕ → List Said
-answered m rooms [] = []
-answered m rooms (b ∷ bs) = saidIn (character m (rooms 0) b) ∷ answered (character m (rooms 0) b .next) (later rooms) bs
-
--- the state after them all
-unfoldable pub left : Meter → (ℕ → ℕ) → List ℕ → Meter
-left m rooms [] = m
-left m rooms (b ∷ bs) = left (character m (rooms 0) b .next) (later rooms) bs
-
--- reply buffers of 2,048 bytes
-abbrev pub full : ℕ → ℕ
-full i = 2048
+use Rattle.dialogue.specs.Feeding.{Said}
 
 -- how many are answered 1
 unfoldable pub isDone : ℕ → ℕ

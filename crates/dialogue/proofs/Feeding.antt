@@ -1,14 +1,12 @@
 -- Feeding: a byte and the rest, one run after another, and rooms that are large enough are all one room. Assumes nothing.
-use mathlib.Core.Path.{_≡_, refl, sym, ap, ap₂, _∙_}
-use mathlib.Core.Bool.{cond}
+use mathlib.Core.Path.{_≡_, refl, ap, ap₂, _∙_}
 use mathlib.Core.List.{List, [], _∷_, _++_}
 use Prim.Native.Nat.{ℕ, suc, _≤_}
 use borrow.Author.Tests.{le-ltb}
-use lib.Dec.{ltb}
 use Rattle.state.specs.declared.Meter.{Meter}
 use Rattle.meter.specs.Outcomes.{Outcome}
 use Rattle.meter.specs.Character.{character}
-use Rattle.delivery.specs.Feeding.{Said, saidIn, later, answered, left, full}
+use Rattle.dialogue.specs.Feeding.{Said, saidIn, later, answered, left, full}
 
 -- what some bytes are answered with, and the state after them
 pub record Fed (m : Meter) (bytes : List ℕ) (said : List Said) (after : Meter) : Type 0 where

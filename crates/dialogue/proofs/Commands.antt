@@ -1,0 +1,155 @@
+-- Each command, with good fields and in a mode that allows it: the meter decides it as the command that it is, and does it. Assumes nothing.
+use mathlib.Core.Path.{_≡_, refl, ap, _∙_}
+use mathlib.Core.Bool.{Bool, true, false, cond, _||_}
+use mathlib.Core.Logic.{⊎-elim}
+use mathlib.Core.List.{List, [], _∷_, _++_, append-assoc}
+use Prim.Native.Nat.{ℕ, suc, _+_, _-_, _*_, _≤_}
+use native.Mathlib.Omega.{arith}
+use borrow.Author.Tests.{eqb-true}
+use lib.Dec.{eqb, lit≤, lit<}
+use lib.ListN.{length, take, drop, replicate, length-append}
+use lib.Seq.{take-at}
+use Rattle.line.specs.Checksum.{bccOf}
+use Rattle.line.specs.Runs.{every}
+use Rattle.line.proofs.Runs.{and-left, and-right, and-both, every-append}
+use Rattle.text.specs.Classes.{between, isPrintable, matching, sameText}
+use Rattle.text.specs.Decimal.{decimal}
+use Rattle.text.specs.Layout.{layoutText}
+use Rattle.values.specs.Registers.{goodPassword, goodAccount, goodRow, goodTable}
+use Rattle.values.specs.Texts.{tableText}
+use Rattle.values.proofs.Rules.{digits-long, account-long, row-long, zone-most}
+use Rattle.datasets.proofs.Characters.{every-within}
+use Rattle.frames.specs.Frames.{frameOf, onWire}
+use Rattle.frames.specs.Commands.{P1, R1, bracketed, setAccount, setTable}
+use Rattle.frames.specs.Session.{passwordData}
+use Rattle.state.specs.declared.Registers.{Registers}
+use Rattle.deciding.specs.Verdict.{framedVerdict, entry, verdict}
+use Rattle.deciding.specs.Asking.{asked}
+use Rattle.deciding.specs.Telling.{told}
+use Rattle.meter.specs.Outcomes.{ack, nak}
+use Rattle.meter.specs.Acting.{acted, tried}
+use Rattle.reading.proofs.Leading.{or-cases}
+use Rattle.readback.specs.Said.{Command, enter, password, readClock, readSerial, readAccount, readTotal, readZone, readTable, writeClock, writeAccount, writeTable, goodFields, lettersOf, dataOf, spoken}
+use Rattle.readback.proofs.Commands.{command-printable, letters-two, letters-printable, data-short}
+use Rattle.changes.specs.Changes.{withAccount, withTables}
+use Rattle.text.specs.Writing.{stored}
+use Rattle.dialogue.specs.Feeding.{saidIn, atLast}
+use Rattle.dialogue.specs.Messages.{allowedAt, decidedAs, triedWith, obeyed}
+use Rattle.dialogue.proofs.Feeding.{Fed}
+use Rattle.dialogue.proofs.Held.{Fit, idle, holding}
+use Rattle.dialogue.proofs.Rules.{besides, inFrame, printable-besides}
+use Rattle.dialogue.proofs.Frames.{heldFrame, verdict-is, frame-fed}
+use Rattle.dialogue.proofs.Meant.{entry-plain, entry-password, asked-clock, asked-serial, asked-account, asked-energy, asked-table, told-clock, told-account, told-table}
+
+-- a frame in a mode that allows it goes by its data
+module _ (mode : ℕ) (d : List ℕ) (printable : every isPrintable d ≡ true) where
+  by-entry : eqb mode 2 ≡ true → verdict mode (heldFrame 80 49 d) false (bccOf (80 ∷ 49 ∷ 2 ∷ (d ++ (3 ∷ [])))) ≡ entry d
+  unfolding framedVerdict isPrintable between
+  by-entry h = verdict-is 80 49 d refl refl printable mode ∙ (rw h)
+
+  by-asked : (eqb mode 3 || eqb mode 4) ≡ true → verdict mode (heldFrame 82 49 d) false (bccOf (82 ∷ 49 ∷ 2 ∷ (d ++ (3 ∷ [])))) ≡ asked d
+  unfolding framedVerdict isPrintable between
+  by-asked h = verdict-is 82 49 d refl refl printable mode ∙ (rw h)
+
+  by-told : eqb mode 4 ≡ true → verdict mode (heldFrame 87 49 d) false (bccOf (87 ∷ 49 ∷ 2 ∷ (d ++ (3 ∷ [])))) ≡ told d
+  unfolding framedVerdict isPrintable between
+  by-told h = verdict-is 87 49 d refl refl printable mode ∙ (rw h)
+
+-- the letters, STX and the data
+abbrev pub bodyOf : Command → List ℕ
+bodyOf c = lettersOf c ++ (2 ∷ dataOf c)
+
+-- the command that the head says is the command that the meter decides
+pub command-decided : (c : Command) (mode : ℕ) → goodFields c ≡ true → allowedAt c mode ≡ true
+    → verdict mode (1 ∷ (bodyOf c ++ (3 ∷ []))) false (bccOf (bodyOf c ++ (3 ∷ []))) ≡ decidedAs c
+unfolding decidedAs lettersOf dataOf allowedAt goodFields sameText matching
+command-decided enter mode h k = by-entry mode (dataOf enter) (command-printable enter h) k ∙ entry-plain
+command-decided (password p) mode h k = by-entry mode (dataOf (password p)) (command-printable (password p) h) k ∙ entry-password p h
+command-decided readClock mode h k = by-asked mode (dataOf readClock) (command-printable readClock h) k ∙ asked-clock
+command-decided readSerial mode h k = by-asked mode (dataOf readSerial) (command-printable readSerial h) k ∙ asked-serial
+command-decided readAccount mode h k = by-asked mode (dataOf readAccount) (command-printable readAccount h) k ∙ asked-account
+command-decided readTotal mode h k = by-asked mode (dataOf readTotal) (command-printable readTotal h) k ∙ asked-energy 0 (lit≤ tt)
+command-decided (readZone n) mode h k = by-asked mode (dataOf (readZone n)) (command-printable (readZone n) h) k ∙ asked-energy n (zone-most n h)
+command-decided (readTable n) mode h k = by-asked mode (dataOf (readTable n)) (command-printable (readTable n) h) k ∙ asked-table n h
+command-decided (writeClock c) mode h k = by-told mode (dataOf (writeClock c)) (command-printable (writeClock c) h) k ∙ told-clock c h
+command-decided (writeAccount a) mode h k = by-told mode (dataOf (writeAccount a)) (command-printable (writeAccount a) h) k ∙ told-account a h
+command-decided (writeTable n row) mode h k =
+    by-told mode (dataOf (writeTable n row)) (command-printable (writeTable n row) h) k
+    ∙ told-table n row (and-left (goodTable 24 n) (goodRow row) h) (and-right (goodTable 24 n) (goodRow row) h)
+
+-- what stood in the brackets, as the meter takes it from what it holds
+given : (x : List ℕ) (n : ℕ) (zs : List ℕ) → length x ≡ n → take n (((x ++ (41 ∷ [])) ++ (3 ∷ [])) ++ zs) ≡ x
+given x n zs long =
+    ap (take n) (append-assoc (x ++ (41 ∷ [])) (3 ∷ []) zs ∙ append-assoc x (41 ∷ []) (3 ∷ zs)) ∙ take-at x (41 ∷ 3 ∷ zs) n long
+
+abbrev spare : List ℕ → List ℕ
+spare body = replicate (62 - length (body ++ (3 ∷ []))) 0
+
+password-given : (p zs : List ℕ) → goodPassword p ≡ true → take 8 (drop 5 (1 ∷ ((bodyOf (password p) ++ (3 ∷ [])) ++ zs))) ≡ p
+unfolding lettersOf dataOf passwordData bracketed
+password-given p zs h = given p 8 zs (digits-long 8 p h)
+
+account-given : (a zs : List ℕ) → goodAccount a ≡ true → take 10 (drop 6 (1 ∷ ((bodyOf (writeAccount a) ++ (3 ∷ [])) ++ zs))) ≡ a
+unfolding lettersOf dataOf setAccount bracketed
+account-given a zs h = given a 10 zs (account-long a h)
+
+row-given : (n : ℕ) (row zs : List ℕ) → goodRow row ≡ true → take 24 (drop 9 (1 ∷ ((bodyOf (writeTable n row) ++ (3 ∷ [])) ++ zs))) ≡ row
+unfolding lettersOf dataOf setTable bracketed tableText layoutText decimal
+row-given n row zs h = given row 24 zs (row-long row h)
+
+module _ (mode a : ℕ) (g : Registers) where
+  -- and it does what the command says
+  pub command-done : (c : Command) → goodFields c ≡ true → acted (holding mode a g 1 (bodyOf c ++ (3 ∷ []))) (decidedAs c) ≡ obeyed (idle mode a g) c
+  unfolding acted decidedAs obeyed goodFields
+  command-done enter h = refl
+  command-done (password p) h =
+      unfold tried triedWith in
+      ap (λ (x : List ℕ). cond (eqb a 3) (nak 11 (idle mode a g)) (cond (sameText x (g .password)) (ack (idle 4 0 g)) (nak 10 (idle mode (a + 1) g))))
+      (password-given p (spare (bodyOf (password p))) h)
+  command-done readClock h = refl
+  command-done readSerial h = refl
+  command-done readAccount h = refl
+  command-done readTotal h = refl
+  command-done (readZone n) h = refl
+  command-done (readTable n) h = refl
+  command-done (writeClock c) h = refl
+  command-done (writeAccount x) h = ap (λ (x : List ℕ). ack (idle mode a (withAccount g x))) (account-given x (spare (bodyOf (writeAccount x))) h)
+  command-done (writeTable n row) h =
+      rw (and-left (goodTable 24 n) (goodRow row) h)
+      (ap (λ (x : List ℕ). ack (idle mode a (withTables g (stored (g .tables) ((n - 1) * 24) x))))
+      (row-given n row (spare (bodyOf (writeTable n row))) (and-right (goodTable 24 n) (goodRow row) h)))
+
+-- a command is allowed in no mode below 2
+pub allowed-low : (c : Command) (mode : ℕ) → allowedAt c mode ≡ true → 2 ≤ mode
+unfolding allowedAt
+allowed-low c mode = pick (sameText (lettersOf c) P1) (sameText (lettersOf c) R1)
+  where
+    is : (n : ℕ) → 2 ≤ n → eqb mode n ≡ true → 2 ≤ mode
+    is n l e = let same : mode ≡ n = eqb-true mode n e in omega arith
+
+    pick : (p r : Bool) → cond p (eqb mode 2) (cond r (eqb mode 3 || eqb mode 4) (eqb mode 4)) ≡ true → 2 ≤ mode
+    pick true r h = is 2 (lit≤ tt) h
+    pick false true h = ⊎-elim (is 3 (lit≤ tt)) (is 4 (lit≤ tt)) (or-cases (eqb mode 3) (eqb mode 4) h)
+    pick false false h = is 4 (lit≤ tt) h
+
+-- its characters are held for themselves
+body-plain : (c : Command) → goodFields c ≡ true → every inFrame (bodyOf c) ≡ true
+unfolding every
+body-plain c h =
+    every-append inFrame (lettersOf c) (2 ∷ dataOf c) (every-within isPrintable inFrame prints (lettersOf c) (letters-printable c))
+    (and-both (inFrame 2) (every inFrame (dataOf c)) (unfold besides in refl) (every-within isPrintable inFrame prints (dataOf c) (command-printable c h)))
+  where
+    prints : (x : ℕ) → isPrintable x ≡ true → inFrame x ≡ true
+    prints x = printable-besides 1 1 x (lit< tt) (lit< tt)
+
+pub body-long : (c : Command) → length (bodyOf c) ≡ length (dataOf c) + 3
+body-long c = omega (arith, letters-two c, length-append (lettersOf c) (2 ∷ dataOf c))
+
+-- given byte by byte, it is taken at its last byte
+pub command-fed : (mode a : ℕ) (g : Registers) (c : Command) → Fit mode a g → goodFields c ≡ true → allowedAt c mode ≡ true
+    → Fed (idle mode a g) (onWire (spoken c)) (atLast (suc (suc (length (bodyOf c)))) mode (saidIn (obeyed (idle mode a g) c))) (obeyed (idle mode a g) c .next)
+unfolding spoken frameOf
+command-fed mode a g c fit h k =
+    let d = command-decided c mode h k in
+    frame-fed mode a g fit (allowed-low c mode k) (bodyOf c) (body-plain c h) (omega (arith, body-long c, data-short c h)) (obeyed (idle mode a g) c)
+    (ap (acted (holding mode a g 1 (bodyOf c ++ (3 ∷ [])))) d ∙ command-done mode a g c h)

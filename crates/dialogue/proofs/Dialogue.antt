@@ -1,0 +1,97 @@
+-- Every message of the head, given byte by byte to a meter that listens for it, is taken as what it is. Assumes nothing.
+use mathlib.Core.Path.{_≡_, refl, sym, subst}
+use mathlib.Core.Bool.{Bool, true, false, cond, _||_}
+use mathlib.Core.List.{List, [], _∷_, _++_}
+use Prim.Native.Nat.{ℕ, suc, _-_}
+use native.Mathlib.Omega.{arith}
+use borrow.Author.Tests.{eqb-true}
+use lib.Dec.{eqb}
+use lib.ListN.{length, replicate, length-append}
+use Rattle.line.specs.Checksum.{bccOf}
+use Rattle.text.specs.Classes.{sameText}
+use Rattle.values.specs.Texts.{serialText}
+use Rattle.values.proofs.Rules.{digits-long, serial-text-long}
+use Rattle.frames.specs.Frames.{closed, frameOf, bareFrame, onWire}
+use Rattle.frames.specs.Session.{signOn, signOnTo, confirmation}
+use Rattle.state.specs.declared.Registers.{Registers}
+use Rattle.state.specs.declared.Meter.{Meter}
+use Rattle.meter.specs.Outcomes.{Outcome}
+use Rattle.readback.specs.Said.{Command, enter, password, readClock, readSerial, readAccount, readTotal, readZone, readTable, writeClock, writeAccount, writeTable, spoken}
+use Rattle.dialogue.specs.Feeding.{saidIn, atLast}
+use Rattle.dialogue.specs.Messages.{Message, call, callTo, confirm, command, leave, textOf, goodMessage, allowedIn, triedWith, obeyed, outcomeOf, Listens, Taken, misheard}
+use Rattle.dialogue.proofs.Feeding.{Fed, fed-in}
+use Rattle.dialogue.proofs.Held.{Fit, idle, idle-is, fit-is}
+use Rattle.dialogue.proofs.Commands.{bodyOf, command-fed}
+use Rattle.dialogue.proofs.Session.{call-fed, call-to-fed, confirm-fed, leave-fed}
+
+-- nothing at each byte but the last, and there what the message comes to
+abbrev pub FedAs : Meter → Message → Type 0
+FedAs m x = Fed m (onWire (textOf x)) (atLast (length (textOf x) - 1) (m .mode) (saidIn (outcomeOf m x))) (outcomeOf m x .next)
+
+long-to : (s : List ℕ) → length s ≡ 10 → length (signOnTo s) - 1 ≡ 15
+unfolding signOnTo
+long-to s h = omega (arith, serial-text-long s h, length-append (serialText s) (33 ∷ 13 ∷ 10 ∷ []))
+
+long-command : (c : Command) → length (spoken c) - 1 ≡ suc (suc (length (bodyOf c)))
+unfolding spoken frameOf closed
+long-command c =
+    let b = bodyOf c in
+    omega (arith, length-append b (3 ∷ []), length-append (b ++ (3 ∷ [])) (bccOf (b ++ (3 ∷ [])) ∷ []))
+
+-- in the one mode that allows it
+at-mode : (mode n a : ℕ) (g : Registers) (x : Message) → eqb mode n ≡ true → FedAs (idle n a g) x → FedAs (idle mode a g) x
+at-mode mode n a g x e f = subst (λ (k : ℕ). FedAs (idle k a g) x) (sym (eqb-true mode n e)) f
+
+now-fit : (mode n a : ℕ) (g : Registers) → eqb mode n ≡ true → Fit mode a g → Fit n a g
+now-fit mode n a g e f = subst (λ (k : ℕ). Fit k a g) (eqb-true mode n e) f
+
+pub message-fed : (mode a : ℕ) (g : Registers) (x : Message) → Fit mode a g → goodMessage x ≡ true → allowedIn x mode ≡ true → FedAs (idle mode a g) x
+unfolding textOf goodMessage allowedIn
+message-fed mode a g call fit h k = at-mode mode 0 a g call k (unfold signOn in call-fed a g (now-fit mode 0 a g k fit))
+message-fed mode a g (callTo s) fit h k =
+    at-mode mode 0 a g (callTo s) k
+    (subst (λ (n : ℕ). Fed (idle 0 a g) (onWire (signOnTo s)) (atLast n 0 (saidIn (outcomeOf (idle 0 a g) (callTo s)))) (outcomeOf (idle 0 a g) (callTo s) .next))
+    (sym (long-to s (digits-long 10 s h))) (call-to-fed a g (now-fit mode 0 a g k fit) s h))
+message-fed mode a g (confirm y) fit h k = at-mode mode 1 a g (confirm y) k (unfold confirmation in confirm-fed a g (now-fit mode 1 a g k fit) y h)
+message-fed mode a g (command c) fit h k =
+    unfold outcomeOf in
+    subst (λ (n : ℕ). Fed (idle mode a g) (onWire (spoken c)) (atLast n mode (saidIn (obeyed (idle mode a g) c))) (obeyed (idle mode a g) c .next))
+    (sym (long-command c)) (command-fed mode a g c fit h k)
+message-fed mode a g leave fit h k = unfold bareFrame closed in leave-fed mode a g fit k
+
+-- what the head says is what the meter takes
+pub message-taken : (m : Meter) (x : Message) → goodMessage x ≡ true → Listens m x → Taken m x
+message-taken m x h l =
+    let f = l .formed in
+    let fed = subst (λ (n : Meter). FedAs n x) (sym (idle-is m f (l .empty))) (message-fed (m .mode) (m .attempts) (m .registers) x (fit-is m f) h (l .allowed)) in
+    record {
+      said = λ rooms room. fed-in m rooms (onWire (textOf x)) _ _ room fed .0;
+      after = λ rooms room. fed-in m rooms (onWire (textOf x)) _ _ room fed .1;
+    }
+
+-- and never as something else
+either : (b : Bool) (x y : Outcome) → misheard (x .number) ≡ false → misheard (y .number) ≡ false → misheard (cond b x y .number) ≡ false
+either true x y h k = h
+either false x y h k = k
+
+command-heard : (m : Meter) (c : Command) → misheard (obeyed m c .number) ≡ false
+unfolding obeyed triedWith misheard
+command-heard m enter = refl
+command-heard m (password p) = either (eqb (m .attempts) 3) _ _ refl (either (sameText p (m .registers .password)) _ _ refl refl)
+command-heard m readClock = refl
+command-heard m readSerial = refl
+command-heard m readAccount = refl
+command-heard m readTotal = refl
+command-heard m (readZone n) = refl
+command-heard m (readTable n) = refl
+command-heard m (writeClock c) = refl
+command-heard m (writeAccount a) = refl
+command-heard m (writeTable n row) = refl
+
+pub never-misheard : (m : Meter) (x : Message) → misheard (outcomeOf m x .number) ≡ false
+unfolding outcomeOf misheard
+never-misheard m call = refl
+never-misheard m (callTo s) = either (sameText s (m .registers .serial) || sameText s (replicate 10 48)) _ _ refl refl
+never-misheard m (confirm y) = either (eqb y 49) _ _ refl refl
+never-misheard m (command c) = command-heard m c
+never-misheard m leave = refl

@@ -1,0 +1,155 @@
+-- The data of each command, as the meter reads them: P1 is an entry, R1 an ask, W1 a change. Assumes nothing.
+use mathlib.Core.Path.{_≡_, refl, sym, ap, _∙_}
+use mathlib.Core.Bool.{true, false, cond, _&&_, and-true}
+use mathlib.Core.List.{List, [], _∷_, _++_}
+use Prim.Native.Nat.{ℕ, zero, suc, _+_, _-_, _/_, _%_, _^_, _≤_, _<_}
+use native.Mathlib.Omega.{arith}
+use borrow.Author.Tests.{le-leb, lt-ltb}
+use lib.Dec.{eqb, leb}
+use lib.ListN.{length, getD, take, length-append}
+use lib.Seq.{take-at, getD-append-seam}
+use Rattle.line.specs.Runs.{every}
+use Rattle.line.proofs.Runs.{and-right}
+use Rattle.text.specs.Classes.{isDigit, matching, sameText}
+use Rattle.text.specs.Decimal.{decimal, valueOf}
+use Rattle.text.specs.Layout.{Piece, digits, fixed, layoutText, pattern, fits, agrees, numbersFit, plain}
+use Rattle.text.proofs.Decimal.{decimal-value, value-lt, digit-is}
+use Rattle.text.proofs.Forms.{text-fits}
+use Rattle.text.proofs.Matching.{matching-length}
+use Rattle.clock.specs.declared.Clock.{Clock}
+use Rattle.clock.specs.Seconds.{realClock}
+use Rattle.values.specs.Registers.{goodDigits, goodPassword, goodAccount, goodRow, goodTable}
+use Rattle.values.specs.Texts.{tableText, clockText}
+use Rattle.values.specs.Reading.{tableRead}
+use Rattle.values.proofs.RoundTrip.{clock-reads-back, table-reads-back}
+use Rattle.values.proofs.Rules.{digits-long}
+use Rattle.frames.specs.Commands.{bracketed, askClock, askSerial, askAccount, askEnergy, askTable, setClock, setAccount, setTable}
+use Rattle.frames.specs.Session.{enterData, passwordData}
+use Rattle.replies.specs.declared.Ask.the-variants as ask
+use Rattle.deciding.specs.declared.Verdict.the-variants.{Refuse, Enter, Password, Read, WriteClock, WriteAccount, WriteTable}
+use Rattle.deciding.specs.Asking.{tableNamed, tableAsked, energyAsked, asked}
+use Rattle.deciding.specs.Telling.{enclosed, inner, clockNamed, clockTold, accountTold, tableMeant, tableTold, told}
+use Rattle.deciding.specs.Verdict.{entry}
+
+-- P1
+
+pub entry-plain : entry enterData ≡ Enter
+unfolding entry enterData bracketed sameText matching
+entry-plain = refl
+
+-- eight digits in brackets
+abbrev passwordForm : List Piece
+passwordForm = fixed (40 ∷ []) ∷ digits 8 ∷ fixed (41 ∷ []) ∷ []
+
+module _ (p : List ℕ) (good : goodPassword p ≡ true) where
+  password-fits : fits (bracketed (35 ∷ 35 ∷ 35 ∷ 35 ∷ 35 ∷ 35 ∷ 35 ∷ 35 ∷ [])) (bracketed p) ≡ true
+  unfolding bracketed goodDigits numbersFit plain pattern layoutText every
+  password-fits =
+      let n = digits-long 8 p good in
+      let all = and-right (eqb (length p) 8) (every isDigit p) good in
+      let same : decimal 8 (valueOf p) ≡ p = ap (λ (k : ℕ). decimal k (valueOf p)) (sym n) ∙ decimal-value p all in
+      let low : valueOf p < 10 ^ 8 = rw n at (value-lt p all) in
+      rw same at (text-fits passwordForm (valueOf p ∷ []) refl (rw (lt-ltb (valueOf p) (10 ^ 8) low)))
+
+  not-plain : sameText (bracketed p) (bracketed []) ≡ false
+  unfolding bracketed sameText
+  not-plain = matching-length eqb (40 ∷ (p ++ (41 ∷ []))) (40 ∷ 41 ∷ []) (λ e. omega (arith, digits-long 8 p good, length-append p (41 ∷ [])))
+
+  pub entry-password : entry (passwordData p) ≡ Password
+  unfolding entry passwordData
+  entry-password = rw (not-plain, password-fits)
+
+-- R1
+
+pub asked-clock : asked askClock ≡ Read ask.Clock
+unfolding asked askClock bracketed sameText matching
+asked-clock = refl
+
+pub asked-serial : asked askSerial ≡ Read ask.Serial
+unfolding asked askClock askSerial bracketed sameText matching
+asked-serial = refl
+
+pub asked-account : asked askAccount ≡ Read ask.Account
+unfolding asked askClock askSerial askAccount bracketed sameText matching
+asked-account = refl
+
+pub asked-energy : (n : ℕ) → n ≤ 4 → asked (askEnergy n) ≡ Read (ask.Energy n)
+unfolding asked energyAsked askClock askSerial askAccount askEnergy bracketed sameText matching
+asked-energy zero h = refl
+asked-energy (suc zero) h = refl
+asked-energy (suc (suc zero)) h = refl
+asked-energy (suc (suc (suc zero))) h = refl
+asked-energy (suc (suc (suc (suc zero)))) h = refl
+asked-energy (suc (suc (suc (suc (suc n))))) h = absurd (omega arith)
+
+-- Z(xx), of two digits
+two-asked : (x y : ℕ) → isDigit x ≡ true → isDigit y ≡ true → asked (90 ∷ 40 ∷ x ∷ y ∷ 41 ∷ []) ≡ tableNamed (tableRead 24 (x ∷ y ∷ []))
+unfolding asked energyAsked tableAsked askClock askSerial askAccount askEnergy bracketed sameText matching fits agrees
+two-asked x y hx hy = rw (hx, hy)
+
+ask-table-is : (n : ℕ) → askTable n ≡ 90 ∷ 40 ∷ (48 + n / 10 % 10) ∷ (48 + n % 10) ∷ 41 ∷ []
+unfolding askTable bracketed tableText layoutText decimal
+ask-table-is n = refl
+
+digits-are : (n : ℕ) → (48 + n / 10 % 10) ∷ (48 + n % 10) ∷ [] ≡ tableText n
+unfolding tableText layoutText decimal
+digits-are n = refl
+
+pub asked-table : (n : ℕ) → goodTable 24 n ≡ true → asked (askTable n) ≡ Read (ask.Table (record { 0 = n }))
+asked-table n good =
+    ap asked (ask-table-is n)
+    ∙ two-asked (48 + n / 10 % 10) (48 + n % 10) (digit-is (n / 10 % 10) (omega arith)) (digit-is (n % 10) (omega arith))
+    ∙ ap (λ (t : List ℕ). tableNamed (tableRead 24 t)) (digits-are n)
+    ∙ ap tableNamed (table-reads-back 24 n (omega arith) good)
+
+-- W1
+
+opened-closed : (d : List ℕ) (c k : ℕ) → leb 3 (length d) ≡ true → getD d 0 0 ≡ c → getD d 1 0 ≡ 40 → getD d (length d - 1) 0 ≡ 41 → enclosed k d ≡ eqb c k
+unfolding enclosed
+opened-closed d c k l f o e = rw (l, f, o, e) (and-true (eqb c k && true) ∙ and-true (eqb c k))
+
+module _ (letter : ℕ) (x : List ℕ) where
+  pub named-long : length (letter ∷ bracketed x) ≡ length x + 3
+  unfolding bracketed
+  named-long = omega (arith, length-append x (41 ∷ []))
+
+  last-bracket : getD (letter ∷ bracketed x) (length (letter ∷ bracketed x) - 1) 0 ≡ 41
+  unfolding bracketed
+  last-bracket =
+      ap (λ (n : ℕ). getD (letter ∷ 40 ∷ (x ++ (41 ∷ []))) n 0) {x = length (letter ∷ bracketed x) - 1} {y = suc (suc (length x))} (omega (arith, named-long))
+      ∙ getD-append-seam x 41 [] 0
+
+  encloses : (k : ℕ) → enclosed k (letter ∷ bracketed x) ≡ eqb letter k
+  encloses k =
+      opened-closed (letter ∷ bracketed x) letter k (le-leb 3 (length (letter ∷ bracketed x)) (omega (arith, named-long))) refl (unfold bracketed in refl) last-bracket
+
+  inner-is : inner (letter ∷ bracketed x) ≡ x
+  unfolding inner bracketed
+  inner-is =
+      ap (λ (n : ℕ). take n (x ++ (41 ∷ []))) {x = length (letter ∷ bracketed x) - 3} {y = length x} (omega (arith, named-long))
+      ∙ take-at x (41 ∷ []) (length x) refl
+
+  told-by : told (letter ∷ bracketed x) ≡ cond (eqb letter 84) (clockTold x) (cond (eqb letter 75) (accountTold x) (cond (eqb letter 90) (tableTold x) (Refuse 9)))
+  unfolding told
+  told-by = rw (encloses 84, encloses 75, encloses 90, inner-is)
+
+pub told-clock : (c : Clock) → realClock c ≡ true → told (setClock c) ≡ WriteClock c
+unfolding setClock clockTold
+told-clock c good = told-by 84 (clockText c) ∙ ap clockNamed (clock-reads-back c good)
+
+pub told-account : (a : List ℕ) → goodAccount a ≡ true → told (setAccount a) ≡ WriteAccount
+unfolding setAccount accountTold
+told-account a good = told-by 75 a ∙ (rw good)
+
+two-told : (x y : ℕ) (row : List ℕ) → goodRow row ≡ true → tableTold (x ∷ y ∷ 59 ∷ row) ≡ tableMeant (tableRead 24 (x ∷ y ∷ []))
+unfolding tableTold
+two-told x y row good = rw good
+
+pub told-table : (n : ℕ) (row : List ℕ) → goodTable 24 n ≡ true → goodRow row ≡ true → told (setTable n row) ≡ WriteTable (record { 0 = n })
+unfolding setTable
+told-table n row good-n good =
+    told-by 90 (tableText n ++ (59 ∷ row))
+    ∙ ap (λ (t : List ℕ). tableTold (t ++ (59 ∷ row))) (sym (digits-are n))
+    ∙ two-told (48 + n / 10 % 10) (48 + n % 10) row good
+    ∙ ap (λ (t : List ℕ). tableMeant (tableRead 24 t)) (digits-are n)
+    ∙ ap tableMeant (table-reads-back 24 n (omega arith) good-n)

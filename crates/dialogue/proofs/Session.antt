@@ -1,0 +1,196 @@
+-- The sign-on, the confirmation and B0, given byte by byte to a meter in their mode. Assumes nothing.
+use mathlib.Core.Path.{_≡_, refl, sym, ap, ap₂, subst, _∙_}
+use mathlib.Core.Bool.{Bool, true, false, cond, _&&_, _||_, and-true}
+use mathlib.Core.Logic.{⊎-elim}
+use mathlib.Core.List.{List, [], _∷_, _++_, append-assoc}
+use Prim.Native.Nat.{ℕ, suc, _≤_}
+use native.Mathlib.Omega.{arith}
+use borrow.Author.Tests.{eqb-true, eq-eqb, leb-true}
+use lib.Dec.{eqb, leb, lit≤, lit<}
+use lib.ListN.{length, take, drop, replicate, length-append, take-append-drop}
+use lib.Seq.{length-take-le}
+use Rattle.line.specs.Characters.{sent}
+use Rattle.line.specs.Checksum.{bccOf}
+use Rattle.line.specs.Runs.{every}
+use Rattle.line.proofs.Runs.{and-left, and-right, every-append}
+use Rattle.text.specs.Classes.{between, isDigit, isPrintable, matching, sameText}
+use Rattle.text.proofs.Matching.{matching-length, matching-append}
+use Rattle.text.proofs.Decimal.{digit-high}
+use Rattle.values.specs.Registers.{goodDigits, goodSerial}
+use Rattle.values.specs.Texts.{serialText}
+use Rattle.values.proofs.Rules.{digits-long, serial-text-long}
+use Rattle.datasets.proofs.Characters.{Within, within, every-within, every-take, every-drop}
+use Rattle.frames.specs.Frames.{bareFrame, onWire}
+use Rattle.frames.specs.Commands.{B0}
+use Rattle.frames.specs.Session.{signOn, signOnTo, confirmation}
+use Rattle.state.specs.declared.Registers.{Registers}
+use Rattle.state.specs.WellFormed.{limit}
+use Rattle.state.proofs.Facts.{formed-registers}
+use Rattle.hearing.specs.declared.Hearing.the-variants.{Line, Confirm}
+use Rattle.deciding.specs.declared.Verdict.the-variants.{Leave}
+use Rattle.deciding.specs.Shape.{startGood, bareShape}
+use Rattle.deciding.specs.Verdict.{bareVerdict, shapeVerdict, verdict}
+use Rattle.replies.specs.Fixed.{identification}
+use Rattle.meter.specs.Outcomes.{Outcome, silent, saying, ack}
+use Rattle.meter.specs.Acting.{acted}
+use Rattle.meter.specs.SignOn.{signsOnBy, wantsBlock, wantsProgram}
+use Rattle.meter.specs.Character.{lineEnded, confirmed, heard, character}
+use Rattle.commands.specs.Building.{goodChoice}
+use Rattle.reading.proofs.Leading.{or-cases}
+use Rattle.dialogue.specs.Feeding.{saidIn, atLast}
+use Rattle.dialogue.specs.Messages.{call, callTo, confirm, leave, outcomeOf}
+use Rattle.dialogue.proofs.Feeding.{Fed, fed-none, fed-next}
+use Rattle.dialogue.proofs.Held.{Fit, idle, holding, heard-as, held-is, holding-formed, begun}
+use Rattle.dialogue.proofs.Rules.{besides, inLine, line-rule, ends-line, anything, confirmation-rule, ends-confirmation}
+use Rattle.dialogue.proofs.Frames.{continued, frame-fed}
+
+-- ---- a line
+
+inLine-small : Within inLine (between 0 127)
+unfolding between besides
+inLine-small = within inLine (between 0 127) refl (λ x h. omega (arith, leb-true x 127 (and-left (leb x 127) _ h)))
+
+-- identified, or nothing said
+abbrev called : ℕ → Registers → Bool → Outcome
+called a g ours = cond ours (saying 1 0 identification (idle 1 a g)) (silent 0 (idle 0 a g))
+
+module _ (a : ℕ) (g : Registers) (fit : Fit 0 a g) (ys : List ℕ) (plain : every inLine ys ≡ true) (long : length ys ≤ 20) where
+  line-ends : (ours : Bool) → signsOnBy (47 ∷ ys) (g .serial) ≡ ours → character (holding 0 a g 47 ys) 2048 (sent 10) ≡ called a g ours
+  unfolding heard lineEnded limit
+  line-ends ours e =
+      let f = holding-formed 0 a g fit 47 inLine line-rule ys (omega arith) (every-within inLine (between 0 127) inLine-small ys plain) in
+      heard-as (holding 0 a g 47 ys) 10 Line f (lit< tt) (ends-line (length ys) _)
+      ∙ ap (λ (t : List ℕ). called a g (signsOnBy t (g .serial))) (held-is 47 ys) ∙ ap (called a g) e
+
+  -- '/', some characters and LF
+  line-fed : (ours : Bool) → signsOnBy (47 ∷ ys) (g .serial) ≡ ours
+      → Fed (idle 0 a g) (onWire ((47 ∷ ys) ++ (10 ∷ []))) (atLast (suc (length ys)) 0 (saidIn (called a g ours))) (called a g ours .next)
+  unfolding limit
+  line-fed ours e =
+      let o = called a g ours in
+      continued (idle 0 a g) (holding 0 a g 47 ys) (o .next) (47 ∷ ys) (10 ∷ []) (suc (length ys)) 0 (saidIn o ∷ [])
+      (begun 0 a g fit 47 inLine line-rule ys plain (omega arith))
+      (fed-next (holding 0 a g 47 ys) (sent 10) o [] [] (o .next) (line-ends ours e) (fed-none (o .next)))
+
+-- two serials look the same just where they are
+same-shown : (s t : List ℕ) → length s ≡ 10 → length t ≡ 10 → sameText (serialText s) (serialText t) ≡ sameText s t
+unfolding serialText sameText matching
+same-shown s t hs ht =
+    let n : length (take 3 s) ≡ length (take 3 t) = length-take-le 3 s (omega arith) ∙ sym (length-take-le 3 t (omega arith)) in
+    matching-append eqb (take 3 s) (take 3 t) (32 ∷ drop 3 s) (32 ∷ drop 3 t) n
+    ∙ sym (matching-append eqb (take 3 s) (take 3 t) (drop 3 s) (drop 3 t) n)
+    ∙ ap₂ (matching eqb) (take-append-drop 3 s) (take-append-drop 3 t)
+
+same-called : (s t : List ℕ) → length s ≡ 10 → length t ≡ 10 → sameText (signOnTo s) (signOnTo t) ≡ sameText s t
+unfolding signOnTo sameText matching
+same-called s t hs ht =
+    let n : length (serialText s) ≡ length (serialText t) = serial-text-long s hs ∙ sym (serial-text-long t ht) in
+    matching-append eqb (serialText s) (serialText t) (33 ∷ 13 ∷ 10 ∷ []) (33 ∷ 13 ∷ 10 ∷ []) n
+    ∙ and-true (matching eqb (serialText s) (serialText t)) ∙ same-shown s t hs ht
+
+not-any : (s : List ℕ) → length s ≡ 10 → sameText (signOnTo s) signOn ≡ false
+unfolding signOnTo signOn sameText
+not-any s h =
+    matching-length eqb (47 ∷ 63 ∷ (serialText s ++ (33 ∷ 13 ∷ 10 ∷ []))) (47 ∷ 63 ∷ 33 ∷ 13 ∷ 10 ∷ [])
+    (λ e. omega (arith, serial-text-long s h, length-append (serialText s) (33 ∷ 13 ∷ 10 ∷ [])))
+
+digit-in-line : Within isDigit inLine
+unfolding isDigit between besides
+digit-in-line = within isDigit inLine refl (λ c h. omega (arith, digit-high c h))
+
+-- what is held of the sign-on to a serial, after its '/'
+abbrev toSerial : List ℕ → List ℕ
+toSerial s = 63 ∷ (serialText s ++ (33 ∷ 13 ∷ []))
+
+to-serial-plain : (s : List ℕ) → goodSerial s ≡ true → every inLine (toSerial s) ≡ true
+unfolding serialText goodDigits every besides
+to-serial-plain s h =
+    let all = every-within isDigit inLine digit-in-line s (and-right (eqb (length s) 10) (every isDigit s) h) in
+    every-append inLine (serialText s) (33 ∷ 13 ∷ [])
+    (every-append inLine (take 3 s) (32 ∷ drop 3 s) (every-take inLine 3 s all) (every-drop inLine 3 s all)) refl
+
+to-serial-is : (s : List ℕ) → (47 ∷ toSerial s) ++ (10 ∷ []) ≡ signOnTo s
+unfolding signOnTo
+to-serial-is s = ap (λ (l : List ℕ). 47 ∷ 63 ∷ l) (append-assoc (serialText s) (33 ∷ 13 ∷ []) (10 ∷ []))
+
+to-serial-long : (s : List ℕ) → length s ≡ 10 → length (toSerial s) ≡ 14
+to-serial-long s h = omega (arith, serial-text-long s h, length-append (serialText s) (33 ∷ 13 ∷ []))
+
+signs-on-by : (s ours : List ℕ) → length s ≡ 10 → length ours ≡ 10 → signsOnBy (47 ∷ toSerial s) ours ≡ (sameText s ours || sameText s (replicate 10 48))
+unfolding signsOnBy
+signs-on-by s ours hs ho = rw (to-serial-is s, not-any s hs, same-called s ours hs ho, same-called s (replicate 10 48) hs refl)
+
+module _ (a : ℕ) (g : Registers) (fit : Fit 0 a g) where
+  pub call-fed : Fed (idle 0 a g) (onWire signOn) (atLast 4 0 (saidIn (outcomeOf (idle 0 a g) call))) (outcomeOf (idle 0 a g) call .next)
+  unfolding signOn signsOnBy sameText matching outcomeOf every besides
+  call-fed = line-fed a g fit (63 ∷ 33 ∷ 13 ∷ []) refl (lit≤ tt) true refl
+
+  pub call-to-fed : (s : List ℕ) → goodSerial s ≡ true
+      → Fed (idle 0 a g) (onWire (signOnTo s)) (atLast 15 0 (saidIn (outcomeOf (idle 0 a g) (callTo s)))) (outcomeOf (idle 0 a g) (callTo s) .next)
+  unfolding outcomeOf
+  call-to-fed s h =
+      let n = digits-long 10 s h in
+      let ours = sameText s (g .serial) || sameText s (replicate 10 48) in
+      let own = digits-long 10 (g .serial) (formed-registers g (fit .registers) .serial) in
+      let k = to-serial-long s n in
+      let o = called a g ours in
+      subst (λ (t : List ℕ). Fed (idle 0 a g) (onWire t) (atLast 15 0 (saidIn o)) (o .next)) (to-serial-is s)
+      (subst (λ (n : ℕ). Fed (idle 0 a g) (onWire ((47 ∷ toSerial s) ++ (10 ∷ []))) (atLast (suc n) 0 (saidIn o)) (o .next)) k
+      (line-fed a g fit (toSerial s) (to-serial-plain s h) (omega (arith, k)) ours (signs-on-by s (g .serial) n own)))
+
+-- ---- a confirmation
+
+-- what is held of it, after its ACK
+abbrev afterAck : ℕ → List ℕ
+afterAck y = 48 ∷ 53 ∷ y ∷ 13 ∷ []
+
+module _ (a : ℕ) (g : Registers) (fit : Fit 1 a g) where
+  confirmation-fed : (y : ℕ) → every anything (afterAck y) ≡ true → every (between 0 127) (afterAck y) ≡ true
+      → confirmed (holding 1 a g 6 (afterAck y)) 10 false ≡ outcomeOf (idle 1 a g) (confirm y)
+      → Fed (idle 1 a g) (onWire (confirmation y)) (atLast 5 1 (saidIn (outcomeOf (idle 1 a g) (confirm y)))) (outcomeOf (idle 1 a g) (confirm y) .next)
+  unfolding heard limit confirmation
+  confirmation-fed y plain small e =
+      let o = outcomeOf (idle 1 a g) (confirm y) in
+      let f = holding-formed 1 a g fit 6 anything confirmation-rule (afterAck y) (lit< tt) small in
+      let ends = heard-as (holding 1 a g 6 (afterAck y)) 10 Confirm f (lit< tt) (ends-confirmation _ 10) ∙ e in
+      continued (idle 1 a g) (holding 1 a g 6 (afterAck y)) (o .next) (6 ∷ afterAck y) (10 ∷ []) 5 1 (saidIn o ∷ [])
+      (begun 1 a g fit 6 anything confirmation-rule (afterAck y) plain (lit< tt))
+      (fed-next (holding 1 a g 6 (afterAck y)) (sent 10) o [] [] (o .next) ends (fed-none (o .next)))
+
+  abbrev Confirmed : ℕ → Type 0
+  Confirmed y = Fed (idle 1 a g) (onWire (confirmation y)) (atLast 5 1 (saidIn (outcomeOf (idle 1 a g) (confirm y)))) (outcomeOf (idle 1 a g) (confirm y) .next)
+
+  -- each of the three that the head says
+  zero-fed : Confirmed 48
+  unfolding confirmed wantsBlock confirmation sameText matching outcomeOf every between
+  zero-fed = confirmation-fed 48 refl refl refl
+
+  one-fed : Confirmed 49
+  unfolding confirmed wantsBlock wantsProgram confirmation sameText matching outcomeOf every between
+  one-fed = confirmation-fed 49 refl refl refl
+
+  seven-fed : Confirmed 55
+  unfolding confirmed wantsBlock confirmation sameText matching outcomeOf every between
+  seven-fed = confirmation-fed 55 refl refl refl
+
+  pub confirm-fed : (y : ℕ) → goodChoice y ≡ true → Confirmed y
+  unfolding goodChoice
+  confirm-fed y h =
+      ⊎-elim (λ e. ⊎-elim (is 48 zero-fed) (is 49 one-fed) (or-cases (eqb y 48) (eqb y 49) e)) (is 55 seven-fed)
+      (or-cases (eqb y 48 || eqb y 49) (eqb y 55) h)
+    where
+      is : (n : ℕ) → Confirmed n → eqb y n ≡ true → Confirmed y
+      is n f e = subst Confirmed (sym (eqb-true y n e)) f
+
+-- ---- B0
+
+leaves : (mode : ℕ) → (leb 2 mode && leb mode 4) ≡ true → verdict mode (1 ∷ 66 ∷ 48 ∷ 3 ∷ []) false (bccOf (66 ∷ 48 ∷ 3 ∷ [])) ≡ Leave
+unfolding verdict shapeVerdict bareVerdict bareShape startGood isPrintable between
+leaves mode h = rw (eq-eqb (bccOf (66 ∷ 48 ∷ 3 ∷ [])) _ refl, h)
+
+pub leave-fed : (mode a : ℕ) (g : Registers) → Fit mode a g → (leb 2 mode && leb mode 4) ≡ true
+    → Fed (idle mode a g) (onWire (bareFrame B0)) (atLast 4 mode (saidIn (outcomeOf (idle mode a g) leave))) (outcomeOf (idle mode a g) leave .next)
+unfolding bareFrame outcomeOf every besides acted
+leave-fed mode a g fit h =
+    frame-fed mode a g fit (leb-true 2 mode (and-left (leb 2 mode) (leb mode 4) h)) (66 ∷ 48 ∷ []) refl (lit≤ tt) (ack (idle 0 a g))
+    (ap (acted (holding mode a g 1 (66 ∷ 48 ∷ 3 ∷ []))) (leaves mode h))
