@@ -5,28 +5,26 @@ use mathlib.Core.List.{List, [], _∷_, _++_}
 use Prim.Native.Nat.{ℕ, _-_, _*_}
 use native.Mathlib.Omega.{arith}
 use lib.ListN.{length, replicate}
+use Rattle.line.proofs.Runs.{and-left, and-both}
+use Rattle.text.specs.Classes.{matching, sameText}
 use Rattle.text.specs.Writing.{stored}
 use Rattle.values.specs.Registers.{goodRow, goodTable}
 use Rattle.frames.specs.Frames.{frameOf, onWire}
 use Rattle.frames.specs.Commands.{W1, setTable}
+use Rattle.frames.proofs.Table.{length-table-frame}
 use Rattle.state.specs.declared.Registers.{Registers}
 use Rattle.state.proofs.Facts.{formed-registers, registers-good}
 use Rattle.changes.specs.Changes.{withTables}
 use Rattle.meter.specs.Outcomes.{speedOf}
 use Rattle.post.specs.Grammar.{Entry, goodEntry, rising}
-use Rattle.post.proofs.Lines.{row-zones}
+use Rattle.post.proofs.Lines.{row-length, row-zones}
 use Rattle.post.proofs.Reading.{rising-rest, rising-row}
-use Rattle.line.proofs.Runs.{and-left}
 use Rattle.export.specs.Frames.{entryFrame, framesOf}
-use Rattle.frames.proofs.Table.{length-table-frame}
 use Rattle.readback.specs.Said.{writeTable, goodFields, lettersOf, dataOf, spoken}
 use Rattle.dialogue.specs.Messages.{command, textOf, goodMessage, allowedAt, allowedIn, obeyed, outcomeOf}
 use Rattle.dialogue.proofs.Feeding.{Fed, fed-none, fed-append}
 use Rattle.dialogue.proofs.Held.{Fit, idle}
 use Rattle.dialogue.proofs.Dialogue.{message-fed}
-use Rattle.post.proofs.Lines.{row-length}
-use Rattle.text.specs.Classes.{matching, sameText}
-use Rattle.line.proofs.Runs.{and-both}
 use Rattle.delivery.specs.Acknowledged.{nothing, acknowledgement, acknowledgedOnce, rowsAfter}
 use Rattle.delivery.proofs.Rows.{tables-stay-good}
 

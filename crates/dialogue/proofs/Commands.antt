@@ -13,6 +13,7 @@ use Rattle.line.specs.Checksum.{bccOf}
 use Rattle.line.specs.Runs.{every}
 use Rattle.line.proofs.Runs.{and-left, and-right, and-both, every-append}
 use Rattle.text.specs.Classes.{between, isPrintable, matching, sameText}
+use Rattle.text.specs.Writing.{stored}
 use Rattle.text.specs.Decimal.{decimal}
 use Rattle.text.specs.Layout.{layoutText}
 use Rattle.values.specs.Registers.{goodPassword, goodAccount, goodRow, goodTable}
@@ -23,6 +24,7 @@ use Rattle.frames.specs.Frames.{frameOf, onWire}
 use Rattle.frames.specs.Commands.{P1, R1, bracketed, setAccount, setTable}
 use Rattle.frames.specs.Session.{passwordData}
 use Rattle.state.specs.declared.Registers.{Registers}
+use Rattle.changes.specs.Changes.{withAccount, withTables}
 use Rattle.deciding.specs.Verdict.{framedVerdict, entry, verdict}
 use Rattle.deciding.specs.Asking.{asked}
 use Rattle.deciding.specs.Telling.{told}
@@ -31,8 +33,6 @@ use Rattle.meter.specs.Acting.{acted, tried}
 use Rattle.reading.proofs.Leading.{or-cases}
 use Rattle.readback.specs.Said.{Command, enter, password, readClock, readSerial, readAccount, readTotal, readZone, readTable, writeClock, writeAccount, writeTable, goodFields, lettersOf, dataOf, spoken}
 use Rattle.readback.proofs.Commands.{command-printable, letters-two, letters-printable, data-short}
-use Rattle.changes.specs.Changes.{withAccount, withTables}
-use Rattle.text.specs.Writing.{stored}
 use Rattle.dialogue.specs.Feeding.{saidIn, atLast}
 use Rattle.dialogue.specs.Messages.{allowedAt, decidedAs, triedWith, obeyed}
 use Rattle.dialogue.proofs.Feeding.{Fed}

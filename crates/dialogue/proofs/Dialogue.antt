@@ -1,14 +1,17 @@
 -- Every message of the head, given byte by byte to a meter that listens for it, is taken as what it is. Assumes nothing.
-use mathlib.Core.Path.{_≡_, refl, sym, subst}
+use mathlib.Core.Path.{_≡_, refl, sym, ap₂, subst, _∙_}
 use mathlib.Core.Bool.{Bool, true, false, cond, _||_}
 use mathlib.Core.List.{List, [], _∷_, _++_}
-use Prim.Native.Nat.{ℕ, suc, _-_}
+use Prim.Native.Nat.{ℕ, suc, _-_, _≤_}
 use native.Mathlib.Omega.{arith}
-use borrow.Author.Tests.{eqb-true}
+use borrow.Author.Tests.{eqb-true, le-ltb}
 use lib.Dec.{eqb}
-use lib.ListN.{length, replicate, length-append}
+use lib.ListN.{length, take, drop, replicate, length-append, length-map}
+use lib.Seq.{take-append-seam}
+use Rattle.line.specs.Characters.{sent}
 use Rattle.line.specs.Checksum.{bccOf}
 use Rattle.text.specs.Classes.{sameText}
+use Rattle.text.specs.Writing.{holding}
 use Rattle.values.specs.Texts.{serialText}
 use Rattle.values.proofs.Rules.{digits-long, serial-text-long}
 use Rattle.frames.specs.Frames.{closed, frameOf, bareFrame, onWire}
@@ -16,6 +19,8 @@ use Rattle.frames.specs.Session.{signOn, signOnTo, confirmation}
 use Rattle.state.specs.declared.Registers.{Registers}
 use Rattle.state.specs.declared.Meter.{Meter}
 use Rattle.meter.specs.Outcomes.{Outcome}
+use Rattle.commands.specs.declared.Built.{Built}
+use Rattle.commands.specs.Building.{builtIn, keptOr, Builds}
 use Rattle.readback.specs.Said.{Command, enter, password, readClock, readSerial, readAccount, readTotal, readZone, readTable, writeClock, writeAccount, writeTable, spoken}
 use Rattle.dialogue.specs.Feeding.{saidIn, atLast}
 use Rattle.dialogue.specs.Messages.{Message, call, callTo, confirm, command, leave, textOf, goodMessage, allowedIn, triedWith, obeyed, outcomeOf, Listens, Taken, misheard}
@@ -60,14 +65,28 @@ message-fed mode a g (command c) fit h k =
 message-fed mode a g leave fit h k = unfold bareFrame closed in leave-fed mode a g fit k
 
 -- what the head says is what the meter takes
-pub message-taken : (m : Meter) (x : Message) → goodMessage x ≡ true → Listens m x → Taken m x
+pub message-taken : (m : Meter) (x : Message) → goodMessage x ≡ true → Listens m x → Taken m x (onWire (textOf x))
 message-taken m x h l =
     let f = l .formed in
     let fed = subst (λ (n : Meter). FedAs n x) (sym (idle-is m f (l .empty))) (message-fed (m .mode) (m .attempts) (m .registers) x (fit-is m f) h (l .allowed)) in
     record {
-      said = λ rooms room. fed-in m rooms (onWire (textOf x)) _ _ room fed .0;
+      said = λ rooms room. rw (length-map (textOf x) sent) (fed-in m rooms (onWire (textOf x)) _ _ room fed .0);
       after = λ rooms room. fed-in m rooms (onWire (textOf x)) _ _ room fed .1;
     }
+
+-- and that is what stands in the buffer of a builder whose promise is kept
+pub built-is-said : (x : Message) (buf : List ℕ) (r : Built) (after : List ℕ) → goodMessage x ≡ true → 64 ≤ length buf
+    → Builds buf (goodMessage x) (onWire (textOf x)) r after → take (r .length) after ≡ onWire (textOf x)
+unfolding builtIn keptOr holding
+built-is-said x buf r after h room b =
+    let bytes = onWire (textOf x) in
+    let k : r ≡ record { number = 1; length = length bytes } = rw (h, le-ltb (length buf) 64 room) at (b .answer) in
+    let w : after ≡ bytes ++ drop (length bytes) buf = rw (h, le-ltb (length buf) 64 room) at (b .held) in
+    ap₂ (λ (n : Built) (l : List ℕ). take (n .length) l) k w ∙ take-append-seam bytes (drop (length bytes) buf)
+
+pub built-taken : (m : Meter) (x : Message) (buf : List ℕ) (r : Built) (after : List ℕ) → Listens m x → goodMessage x ≡ true → 64 ≤ length buf
+    → Builds buf (goodMessage x) (onWire (textOf x)) r after → Taken m x (take (r .length) after)
+built-taken m x buf r after l h room b = subst (Taken m x) (sym (built-is-said x buf r after h room b)) (message-taken m x h l)
 
 -- and never as something else
 either : (b : Bool) (x y : Outcome) → misheard (x .number) ≡ false → misheard (y .number) ≡ false → misheard (cond b x y .number) ≡ false

@@ -8,7 +8,7 @@ use lib.ListN.{length, replicate}
 use Rattle.text.specs.Classes.{sameText}
 use Rattle.text.specs.Writing.{stored}
 use Rattle.values.specs.Registers.{goodSerial}
-use Rattle.frames.specs.Frames.{bareFrame, blockOf, onWire}
+use Rattle.frames.specs.Frames.{bareFrame, blockOf}
 use Rattle.frames.specs.Commands.{B0, P1, R1}
 use Rattle.frames.specs.Session.{signOn, signOnTo, confirmation}
 use Rattle.state.specs.declared.Meter.{Meter}
@@ -116,11 +116,10 @@ pub record Listens (m : Meter) (x : Message) : Type 0 where
   pub empty : m .receiver .count ≡ 0
   pub allowed : allowedIn x (m .mode) ≡ true
 
--- given byte by byte, with room for every reply: nothing at each byte but the last, and there what the message comes to
-pub record Taken (m : Meter) (x : Message) : Type 0 where
-  pub said : (rooms : ℕ → ℕ) → ((i : ℕ) → 2048 ≤ rooms i)
-      → answered m rooms (onWire (textOf x)) ≡ atLast (length (textOf x) - 1) (m .mode) (saidIn (outcomeOf m x))
-  pub after : (rooms : ℕ → ℕ) → ((i : ℕ) → 2048 ≤ rooms i) → left m rooms (onWire (textOf x)) ≡ outcomeOf m x .next
+-- these bytes, given one by one with room for every reply: nothing at each but the last, and there what the message comes to
+pub record Taken (m : Meter) (x : Message) (bytes : List ℕ) : Type 0 where
+  pub said : (rooms : ℕ → ℕ) → ((i : ℕ) → 2048 ≤ rooms i) → answered m rooms bytes ≡ atLast (length bytes - 1) (m .mode) (saidIn (outcomeOf m x))
+  pub after : (rooms : ℕ → ℕ) → ((i : ℕ) → 2048 ≤ rooms i) → left m rooms bytes ≡ outcomeOf m x .next
 
 -- confirmation wrong, parity, BCC, too long, shape, unknown, not allowed, data
 unfoldable pub misheard : ℕ → Bool
