@@ -1,2 +1,3 @@
 pub mod Registers
 pub mod Recital
+pub mod Learnt

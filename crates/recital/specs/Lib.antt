@@ -1,1 +1,2 @@
 pub mod Recital
+pub mod Learnt

@@ -1,0 +1,32 @@
+-- What is asked for is what is read: each reply's block is one that reads back. Assumes nothing.
+use mathlib.Core.Path.{_≡_, refl}
+use mathlib.Core.Bool.{true}
+use Rattle.frames.specs.Frames.{blockOf}
+use Rattle.state.specs.declared.Meter.{Meter}
+use Rattle.state.specs.WellFormed.{wellFormed}
+use Rattle.replies.specs.declared.Ask.{Ask}
+use Rattle.replies.specs.declared.Ask.the-variants as ask
+use Rattle.replies.specs.Answers.{askedData}
+use Rattle.replies.specs.Block.{blockData}
+use Rattle.replies.specs.Shown as shown
+use Rattle.dialogue.specs.Messages.{Message, obeyed, outcomeOf}
+use Rattle.recital.specs.Recital.{answerSays, goodAsk}
+use Rattle.recital.specs.Learnt.{Learns, Answers}
+use Rattle.recital.proofs.Recital.{block-reads-back, answer-block-reads-back}
+
+module _ (m : Meter) (f : wellFormed m ≡ true) where
+  learns : (x : Message) (a : Ask) → goodAsk a ≡ true → outcomeOf m x .reply ≡ blockOf (askedData (m .registers) a) → Learns m x (answerSays (m .registers) a)
+  learns x a h e = record { content = askedData (m .registers) a; reply = e; reads = answer-block-reads-back m f a h }
+
+  pub answers-learnt : Answers m
+  unfolding outcomeOf obeyed answerSays goodAsk shown.energy
+  answers-learnt =
+      record {
+        block = λ y h e. record { content = blockData 24 (m .registers); reply = rw e; reads = block-reads-back m f };
+        clock = learns _ ask.Clock refl refl;
+        own-serial = learns _ ask.Serial refl refl;
+        own-account = learns _ ask.Account refl refl;
+        whole = learns _ (ask.Energy 0) refl refl;
+        zone = λ n h. learns _ (ask.Energy n) refl refl;
+        table = λ n h. learns _ (ask.Table (record { 0 = n })) h refl;
+      }
