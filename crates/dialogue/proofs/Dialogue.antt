@@ -25,7 +25,7 @@ use Rattle.readback.specs.Said.{Command, enter, password, readClock, readSerial
 use Rattle.dialogue.specs.Feeding.{saidIn, atLast}
 use Rattle.dialogue.specs.Messages.{Message, call, callTo, confirm, command, leave, textOf, goodMessage, allowedIn, triedWith, obeyed, outcomeOf, Listens, Taken, misheard}
 use Rattle.dialogue.proofs.Feeding.{Fed, fed-in}
-use Rattle.dialogue.proofs.Held.{Fit, idle, idle-is, fit-is}
+use Rattle.dialogue.proofs.Held.{Fit, idle, idle-formed, idle-is, fit-is}
 use Rattle.dialogue.proofs.Commands.{bodyOf, command-fed}
 use Rattle.dialogue.proofs.Session.{call-fed, call-to-fed, confirm-fed, leave-fed}
 
@@ -63,6 +63,10 @@ message-fed mode a g (command c) fit h k =
     subst (λ (n : ℕ). Fed (idle mode a g) (onWire (spoken c)) (atLast n mode (saidIn (obeyed (idle mode a g) c))) (obeyed (idle mode a g) c .next))
     (sym (long-command c)) (command-fed mode a g c fit h k)
 message-fed mode a g leave fit h k = unfold bareFrame closed in leave-fed mode a g fit k
+
+-- there are meters that listen: good registers and an empty receiver, in any mode that allows the message
+pub idle-listens : (mode a : ℕ) (g : Registers) (x : Message) → Fit mode a g → allowedIn x mode ≡ true → Listens (idle mode a g) x
+idle-listens mode a g x fit k = record { formed = idle-formed mode a g fit; empty = refl; allowed = k }
 
 -- what the head says is what the meter takes
 pub message-taken : (m : Meter) (x : Message) → goodMessage x ≡ true → Listens m x → Taken m x (onWire (textOf x))

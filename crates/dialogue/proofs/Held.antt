@@ -175,7 +175,7 @@ module _ (mode a : ℕ) (g : Registers) (fit : Fit mode a g) where
   formed-with : (r : Receiver) → receiverGood mode r ≡ true → wellFormed (record { mode = mode; attempts = a; receiver = r; registers = g }) ≡ true
   formed-with r e = well-formed _ (record { mode = fit .known; attempts = fit .attempts; receiver = e; registers = fit .registers })
 
-  idle-formed : wellFormed (idle mode a g) ≡ true
+  pub idle-formed : wellFormed (idle mode a g) ≡ true
   unfolding markGood
   idle-formed = formed-with emptyReceiver (receiver-good mode emptyReceiver (record { count = omega arith; first = none-first mode; mark = refl; held = no-held-good }))
 

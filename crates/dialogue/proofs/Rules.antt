@@ -13,7 +13,7 @@ use Rattle.hearing.specs.Hearing.{hearing, listening, confirming, framing}
 use Rattle.meter.specs.Character.{heard}
 use Rattle.dialogue.proofs.Held.{Plain, Rule}
 
--- a character of one kind below 128, apart from a few
+-- a character below 128 that is neither ETX nor one of two others
 unfoldable pub besides : ℕ → ℕ → ℕ → Bool
 besides x y c = leb c 127 && (not (eqb c 3) && (not (eqb c x) && not (eqb c y)))
 
@@ -93,7 +93,7 @@ pub ends-confirmation : (last c : ℕ) → hearing 1 5 last c ≡ Confirm
 unfolding hearing confirming
 ends-confirmation last c = refl
 
--- a frame: SOH opens it in modes 2 to 4; after ETX it is whole, whatever comes
+-- a frame: SOH opens it in modes 2 to 4, and no SOH is held; after ETX it is whole, whatever comes
 abbrev pub inFrame : ℕ → Bool
 inFrame = besides 1 1
 
