@@ -116,8 +116,12 @@ fn main() -> ExitCode {
     let longest = post_of(1..=TABLES);
     // The kind that did the harm: a second command hidden in a row.
     let short = b"131.0.01(1111)\x03\x06\x01W1\x02K(somebody__)\x03\x15)\r\n!\r\n".to_vec();
+    // A wrong zone in the last line; a text that ends within its first line.
+    let mut damaged = longest.clone();
+    damaged[23 * post::LINE + 30] = b'5';
+    let cut = longest[..30].to_vec();
     assert_eq!(longest.len(), post::LONGEST);
-    if !all_equal(&[&longest, &short]) {
+    if !all_equal(&[&longest, &short, &damaged, &cut]) {
         println!("post: the sides differ; nothing is timed");
         return ExitCode::FAILURE;
     }
@@ -153,6 +157,8 @@ fn main() -> ExitCode {
     for (name, (rust, library)) in [
         ("check, longest post", timed(&longest, false)),
         ("check, short non-post", timed(&short, false)),
+        ("check, wrong in line 24", timed(&damaged, false)),
+        ("check, 30 bytes of a line", timed(&cut, false)),
         ("export, longest post", timed(&longest, true)),
     ] {
         println!(
