@@ -1,7 +1,7 @@
 // The export of a post: one frame a line, which sets the line's table.
 ghost use mathlib.Core.Path.{_≡_};
 ghost use Prim.Native.Nat.{_+_, _*_, _<_, _≤_};
-ghost use lib.ListN.{length, drop};
+ghost use lib.ListN.{length, take, drop};
 ghost use Rattle.text.specs.Writing.{stored};
 ghost use Rattle.export.specs.Frames.{ExportedAs};
 ghost use Rattle.export.specs.Changed.{change, changedLine, changedLines};
@@ -53,20 +53,34 @@ pub struct Exported {
     pub place: usize,
 }
 
+// The line at a place, copied: an array of its own is apart from the buffer, so that it is read once for all that is made of it.
+fn line_at(text: &[u8], at: usize) -> [u8; 36]
+    requires { ⌜ at + 36 ≤ length (now text) ⌝ }
+    ensures { λ r. ⌜ r ≡ take 36 (drop at (now (text .entry))) ⌝ }
+{
+    let mut copy = [0u8; 36];
+    let mut i = 0;
+    while i < 36 {
+        copy[i] = text[at + i];
+        i += 1;
+    }
+    copy
+}
+
 // Writes the frame of the line at a place to the same place of the buffer. What changes is lent, so that it is at hand for each line.
 fn write_frame(changes: &[u8; 36], text: &[u8], at: usize, out: &mut [u8])
     requires { ⌜ (now changes ≡ change) × (at + 36 ≤ length (now text)) × (at + 36 ≤ length (now out)) ⌝ }
     ensures { λ _. ⌜ now (out .exit) ≡ stored (now (out .entry)) at (changedLine (drop at (now (text .entry)))) ⌝ }
 {
+    let copy = line_at(text, at);
     let mut j = 0;
     while j < 36 {
-        out[at + j] = line::wire(text[at + j] ^ changes[j]);
+        out[at + j] = line::wire(copy[j] ^ changes[j]);
         j += 1;
     }
     // The BCC of the first 32 columns and the row's last; 44 is what the fixed parts of line and frame differ in.
-    let end = at + 32;
-    let sum = line::bcc(&text[at..end]);
-    out[at + 35] = line::wire((sum ^ text[end]) ^ 44);
+    let sum = line::bcc(&copy[..32]);
+    out[at + 35] = line::wire((sum ^ copy[32]) ^ 44);
 }
 
 // Writes the frames of so many lines.

@@ -1,163 +1,103 @@
--- Where the 36 columns of a line stray: its fixed parts, its digits and its row, put together. Assumes nothing.
+-- Where the 36 columns of a line stray: the smallest of those that do, seen in three windows. Assumes nothing.
 use mathlib.Core.Path.{_≡_, refl, sym, ap, _∙_}
 use mathlib.Core.Logic.{⊎-elim}
-use mathlib.Core.Bool.{Bool, true, false, _&&_}
-use mathlib.Core.List.{List, [], _∷_, _++_}
-use Prim.Native.Nat.{ℕ, _+_, _-_, _*_, _<_, _≤_}
+use mathlib.Core.Bool.{Bool, true, false, cond}
+use mathlib.Core.List.{List}
+use Prim.Native.Nat.{ℕ, _+_, _-_, _<_, _≤_}
 use native.Mathlib.Omega.{arith}
 use borrow.Author.Count.{below-more}
-use borrow.Author.Tests.{lt-leb}
-use lib.Dec.{leb}
-use lib.ListN.{length, getD, take, drop, length-drop}
-use lib.Seq.{getD-take, getD-drop, drop-drop}
-use Rattle.text.specs.Classes.{between, isDigit}
-use Rattle.post.specs.Columns.{lowest, highest, columnFits, columnsFit, SharedPart, RowZones, FirstStray}
-use Rattle.post.proofs.Lines.{between-is, between-low, between-high, row-lowest, row-highest}
+use borrow.Author.Tests.{lt-ltb, le-ltb}
+use lib.Dec.{ltb}
+use lib.ListN.{length}
+use Rattle.post.specs.Columns.{columnFits, columnsFit, straying, smaller, FirstStray}
 use Rattle.post.proofs.Columns.{le-or-lt}
 use Rattle.post.proofs.Places.{columns-each, columns-all}
-
--- the fixed parts of a line
-abbrev pub front : List ℕ
-front = 49 ∷ 51 ∷ 49 ∷ 46 ∷ 48 ∷ 46 ∷ []
-
-abbrev pub back : List ℕ
-back = 41 ∷ 13 ∷ 10 ∷ []
 
 never : (b : Bool) → (b ≡ true → ⊥) → b ≡ false
 never true h = absurd (h refl)
 never false h = refl
 
--- the first k columns fit
-unfoldable pub FitsTo : List ℕ → ℕ → Type 0
-FitsTo s k = (j : ℕ) → j < k → columnFits s j ≡ true
+smaller-left : (a b : ℕ) → smaller a b ≤ a
+unfolding smaller
+smaller-left a b = ⊎-elim (λ h. rw (le-ltb b a h) (omega arith)) (λ h. rw (lt-ltb b a h) (omega arith)) (le-or-lt a b)
+
+smaller-right : (a b : ℕ) → smaller a b ≤ b
+unfolding smaller
+smaller-right a b = ⊎-elim (λ h. rw (le-ltb b a h) h) (λ h. rw (lt-ltb b a h) (omega arith)) (le-or-lt a b)
+
+-- a column that is past its number fits
+below-fits : (fits : Bool) (k column : ℕ) → column ≤ straying fits k → k < column → fits ≡ true
+unfolding straying
+below-fits true k column h i = refl
+below-fits false k column h i = absurd (omega arith)
 
 module _ (s : List ℕ) where
-  pub fits-more : (k : ℕ) → FitsTo s k → columnFits s k ≡ true → FitsTo s (k + 1)
-  unfolding FitsTo
-  fits-more k f e = below-more _ k f e
+  -- a column of the line that strays, or none of the line
+  unfoldable Stray : ℕ → Type 0
+  Stray x = x < 36 → columnFits s x ≡ false
 
-  fixed-fits : (j c : ℕ) → getD lowest j 0 ≡ c → getD highest j 0 ≡ c → getD s j 0 ≡ c → columnFits s j ≡ true
-  unfolding columnFits
-  fixed-fits j c l h e = between-is (getD lowest j 0) (getD highest j 0) (getD s j 0) (omega arith) (omega arith)
+  stray-smaller : (a b : ℕ) → Stray a → Stray b → Stray (smaller a b)
+  unfolding Stray smaller
+  stray-smaller a b p q = ⊎-elim (λ h. rw (le-ltb b a h) p) (λ h. rw (lt-ltb b a h) q) (le-or-lt a b)
 
-  fixed-strays : (j c : ℕ) → getD lowest j 0 ≡ c → getD highest j 0 ≡ c → (getD s j 0 ≡ c → ⊥) → columnFits s j ≡ false
-  unfolding columnFits
-  fixed-strays j c l h n =
-      never (between (getD lowest j 0) (getD highest j 0) (getD s j 0))
-      (λ e. n (omega (arith, between-low (getD lowest j 0) (getD highest j 0) (getD s j 0) e, between-high (getD lowest j 0) (getD highest j 0) (getD s j 0) e)))
+  stray-if : (fits : Bool) (k : ℕ) → fits ≡ columnFits s k → Stray (straying fits k)
+  unfolding Stray straying
+  stray-if true k e = λ h. absurd (omega arith)
+  stray-if false k e = λ h. sym e
 
-  front-low : (j : ℕ) → j < 6 → getD lowest j 0 ≡ getD front j 0
-  unfolding lowest
-  front-low j h = sym (getD-take 6 lowest j 0 h)
+-- no column before this one strays in the first n of each window, and this one does
+pub record Least (s : List ℕ) (n column : ℕ) : Type 0 where
+  pub in-line : column ≤ 36
+  pub one : column < 36 → columnFits s column ≡ false
+  pub first : (i : ℕ) → i < n → column ≤ straying (columnFits s i) i
+  pub second : (i : ℕ) → i < n → column ≤ straying (columnFits s (16 + i)) (16 + i)
+  pub third : (i : ℕ) → i < n → column ≤ straying (columnFits s (20 + i)) (20 + i)
 
-  front-high : (j : ℕ) → j < 6 → getD highest j 0 ≡ getD front j 0
-  unfolding highest
-  front-high j h = sym (getD-take 6 highest j 0 h)
+pub least-none : (s : List ℕ) → Least s 0 36
+least-none s =
+    record { in-line = omega arith; one = λ h. absurd (omega arith); first = λ i h. absurd (omega arith); second = λ i h. absurd (omega arith); third = λ i h. absurd (omega arith) }
 
-  pub front-fits : (n : ℕ) → SharedPart s front n → FitsTo s n
-  unfolding FitsTo
-  front-fits n p j h = fixed-fits j (getD front j 0) (front-low j (omega (arith, p .in-part))) (front-high j (omega (arith, p .in-part))) (p .same j h)
+-- the next column of each window
+module _ (s : List ℕ) (n column : ℕ) (f g h : Bool) (p : f ≡ columnFits s n) (q : g ≡ columnFits s (16 + n)) (r : h ≡ columnFits s (20 + n)) (l : Least s n column) where
+  abbrev now-least : ℕ
+  now-least = smaller (smaller column (straying f n)) (smaller (straying g (16 + n)) (straying h (20 + n)))
 
-  pub front-strays : (n : ℕ) → SharedPart s front n → n < 6 → columnFits s n ≡ false
-  front-strays n p h = fixed-strays n (getD front n 0) (front-low n h) (front-high n h) (p .differs h)
+  to-left : now-least ≤ smaller column (straying f n)
+  to-left = smaller-left (smaller column (straying f n)) (smaller (straying g (16 + n)) (straying h (20 + n)))
 
-  pub tens-column : columnFits s 6 ≡ isDigit (getD s 6 0)
-  unfolding columnFits lowest highest isDigit
-  tens-column = refl
+  to-right : now-least ≤ smaller (straying g (16 + n)) (straying h (20 + n))
+  to-right = smaller-right (smaller column (straying f n)) (smaller (straying g (16 + n)) (straying h (20 + n)))
 
-  pub unit-column : columnFits s 7 ≡ isDigit (getD s 7 0)
-  unfolding columnFits lowest highest isDigit
-  unit-column = refl
+  no-more : now-least ≤ column
+  no-more = omega (arith, to-left, smaller-left column (straying f n))
 
-  pub bracket-fits : getD s 8 0 ≡ 40 → columnFits s 8 ≡ true
-  unfolding lowest highest
-  bracket-fits e = fixed-fits 8 40 refl refl e
+  pub least-more : Least s (n + 1) now-least
+  least-more =
+      record {
+        in-line = omega (arith, no-more, l .in-line);
+        one = unfold Stray in (stray-smaller s _ _ (stray-smaller s _ _ (l .one) (stray-if s f n p)) (stray-smaller s _ _ (stray-if s g (16 + n) q) (stray-if s h (20 + n) r)));
+        first = below-more _ n (λ i k. omega (arith, no-more, l .first i k)) (rw (← p) (omega (arith, to-left, smaller-right column (straying f n))));
+        second = below-more _ n (λ i k. omega (arith, no-more, l .second i k)) (rw (← q) (omega (arith, to-right, smaller-left (straying g (16 + n)) (straying h (20 + n)))));
+        third = below-more _ n (λ i k. omega (arith, no-more, l .third i k)) (rw (← r) (omega (arith, to-right, smaller-right (straying g (16 + n)) (straying h (20 + n)))));
+      }
 
-  pub bracket-strays : (getD s 8 0 ≡ 40 → ⊥) → columnFits s 8 ≡ false
-  unfolding lowest highest
-  bracket-strays n = fixed-strays 8 40 refl refl n
-
-  zone-column : (i : ℕ) → i < 24 → columnFits s (9 + i) ≡ between 49 52 (getD s (9 + i) 0)
-  unfolding columnFits
-  zone-column i h = rw (row-lowest i h, row-highest i h)
-
-  -- a row that stands behind the bracket
-  module _ (row : List ℕ) (n : ℕ) (stands : (i : ℕ) → i < 24 → getD row i 0 ≡ getD s (9 + i) 0) (z : RowZones row n) where
-    pub row-fits : FitsTo s 9 → FitsTo s (9 + n)
-    unfolding FitsTo
-    row-fits f j h =
-        ⊎-elim
-        (λ k.
-        let e : 9 + (j - 9) ≡ j = omega arith in
-        let i : j - 9 < 24 = omega (arith, z .in-row) in
-        ap (columnFits s) (sym e) ∙ zone-column (j - 9) i ∙ ap (between 49 52) (sym (stands (j - 9) i)) ∙ z .zones (j - 9) (omega arith))
-        (λ k. f j k) (le-or-lt 9 j)
-
-    pub row-strays : n < 24 → columnFits s (9 + n) ≡ false
-    row-strays h = zone-column n h ∙ ap (between 49 52) (sym (stands n h)) ∙ z .strays h
-
-  back-low : (j : ℕ) → j < 3 → getD lowest (33 + j) 0 ≡ getD back j 0
-  unfolding lowest
-  back-low j h = sym (getD-drop 33 lowest j 0)
-
-  back-high : (j : ℕ) → j < 3 → getD highest (33 + j) 0 ≡ getD back j 0
-  unfolding highest
-  back-high j h = sym (getD-drop 33 highest j 0)
-
-  pub back-fits : (n : ℕ) → SharedPart (drop 33 s) back n → FitsTo s 33 → FitsTo s (33 + n)
-  unfolding FitsTo
-  back-fits n p f j h =
-      ⊎-elim
-      (λ k.
-      let e : 33 + (j - 33) ≡ j = omega arith in
-      let i : j - 33 < 3 = omega (arith, p .in-part) in
-      ap (columnFits s) (sym e)
-      ∙ fixed-fits (33 + (j - 33)) (getD back (j - 33) 0) (back-low (j - 33) i) (back-high (j - 33) i) (sym (getD-drop 33 s (j - 33) 0) ∙ p .same (j - 33) (omega arith)))
-      (λ k. f j k) (le-or-lt 33 j)
-
-  pub back-strays : (n : ℕ) → SharedPart (drop 33 s) back n → n < 3 → columnFits s (33 + n) ≡ false
-  back-strays n p h =
-      fixed-strays (33 + n) (getD back n 0) (back-low n h) (back-high n h) (λ e. p .differs h (getD-drop 33 s n 0 ∙ e))
-
-  pub stray-is : (k : ℕ) → 36 ≤ length s → k ≤ 36 → FitsTo s k → (k < 36 → columnFits s k ≡ false) → FirstStray s k
-  unfolding FitsTo
-  stray-is k long h f e = record { in-text = omega arith; in-line = h; before = f; stops = λ a b. e a }
-
--- the same, where the line stands at a place of a text
-module _ (text : List ℕ) (at : ℕ) (long : at + 36 ≤ length text) where
-  pub line-here : 36 ≤ length (drop at text)
-  line-here = rw (length-drop at text) (omega arith)
-
-  pub tens-of : (b : Bool) → b ≡ isDigit (getD text (at + 6) 0) → columnFits (drop at text) 6 ≡ b
-  tens-of b e = tens-column (drop at text) ∙ ap isDigit (getD-drop at text 6 0) ∙ sym e
-
-  pub unit-of : (b : Bool) → b ≡ isDigit (getD text (at + 7) 0) → columnFits (drop at text) 7 ≡ b
-  unit-of b e = unit-column (drop at text) ∙ ap isDigit (getD-drop at text 7 0) ∙ sym e
-
-  pub row-stands : (i : ℕ) → i < 24 → getD (take (at + 33 - (at + 9)) (drop (at + 9) text)) i 0 ≡ getD (drop at text) (9 + i) 0
-  row-stands i h =
-      getD-take (at + 33 - (at + 9)) (drop (at + 9) text) i 0 (omega arith)
-      ∙ getD-drop (at + 9) text i 0
-      ∙ ap (λ (k : ℕ). getD text k 0) (omega arith)
-      ∙ sym (getD-drop at text (9 + i) 0)
-
-  pub back-of : (n : ℕ) → SharedPart (drop (at + 33) text) back n → SharedPart (drop 33 (drop at text)) back n
-  back-of n p = rw (drop-drop 33 at text) p
-
-  -- up to each part
-  module _ (n : ℕ) (p : SharedPart (drop at text) front n) (six : 6 ≤ n) where
-    pub to-six : FitsTo (drop at text) 6
-    unfolding FitsTo
-    to-six j h = front-fits (drop at text) n p j (omega arith)
-
-    pub to-seven : (b : Bool) → b ≡ isDigit (getD text (at + 6) 0) → b ≡ true → FitsTo (drop at text) 7
-    to-seven b e t = fits-more (drop at text) 6 to-six (tens-of b e ∙ t)
-
-    pub to-eight : (b d : Bool) → b ≡ isDigit (getD text (at + 6) 0) → b ≡ true → d ≡ isDigit (getD text (at + 7) 0) → d ≡ true → FitsTo (drop at text) 8
-    to-eight b d e t g u = fits-more (drop at text) 7 (to-seven b e t) (unit-of d g ∙ u)
-
-    pub to-nine : (b d : Bool) → b ≡ isDigit (getD text (at + 6) 0) → b ≡ true → d ≡ isDigit (getD text (at + 7) 0) → d ≡ true → getD text (at + 8) 0 ≡ 40 → FitsTo (drop at text) 9
-    to-nine b d e t g u k = fits-more (drop at text) 8 (to-eight b d e t g u) (bracket-fits (drop at text) (getD-drop at text 8 0 ∙ k))
+-- with 16 columns of each window all 36 were seen
+pub least-all : (s : List ℕ) (column : ℕ) → 36 ≤ length s → Least s 16 column → FirstStray s column
+least-all s column long l =
+    record {
+      in-text = omega (arith, l .in-line);
+      in-line = l .in-line;
+      before =
+          λ j h.
+          ⊎-elim
+          (λ a.
+          ⊎-elim
+          (λ b. ap (columnFits s) (omega arith) ∙ below-fits (columnFits s (20 + (j - 20))) (20 + (j - 20)) column (l .third (j - 20) (omega (arith, l .in-line))) (omega arith))
+          (λ b. ap (columnFits s) (omega arith) ∙ below-fits (columnFits s (16 + (j - 16))) (16 + (j - 16)) column (l .second (j - 16) (omega arith)) (omega arith))
+          (le-or-lt 32 j))
+          (λ a. below-fits (columnFits s j) j column (l .first j a) h) (le-or-lt 16 j);
+      stops = λ a b. l .one a;
+    }
 
 -- no column strays just where all 36 fit
 pub whole-fits : (s : List ℕ) (k : ℕ) → FirstStray s k → 36 ≤ k → columnsFit s 36 ≡ true

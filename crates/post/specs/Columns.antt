@@ -1,6 +1,6 @@
 -- How a line is tested: what each of its 36 columns may hold, and which number may come next.
 use mathlib.Core.Path.{_≡_}
-use mathlib.Core.Bool.{Bool, true, false, _&&_}
+use mathlib.Core.Bool.{Bool, true, false, cond, _&&_}
 use mathlib.Core.List.{List, [], _∷_, _++_}
 use Prim.Native.Nat.{ℕ, zero, suc, _+_, _-_, _*_, _<_, _≤_}
 use lib.Dec.{ltb, leb, eqb}
@@ -82,17 +82,12 @@ beginsLast above s = ltb 0 above && (ltb 0 (length s) && eqb (getD s 0 0) 33)
 unfoldable pub isLast : ℕ → List ℕ → Bool
 isLast above s = ltb 0 above && sameText s lastLine
 
--- so many characters of a fixed part stand at the front
-pub record SharedPart (s part : List ℕ) (n : ℕ) : Type 0 where
-  pub in-part : n ≤ length part
-  pub same : (j : ℕ) → j < n → getD s j 0 ≡ getD part j 0
-  pub differs : n < length part → getD s n 0 ≡ getD part n 0 → ⊥
+-- a column that strays, as its number; 36 where it fits
+unfoldable pub straying : Bool → ℕ → ℕ
+straying fits column = cond fits 36 column
 
--- so many zones stand at the front of a row
-pub record RowZones (row : List ℕ) (n : ℕ) : Type 0 where
-  pub in-row : n ≤ 24
-  pub zones : (j : ℕ) → j < n → between 49 52 (getD row j 0) ≡ true
-  pub strays : n < 24 → between 49 52 (getD row n 0) ≡ false
+unfoldable pub smaller : ℕ → ℕ → ℕ
+smaller a b = cond (ltb b a) b a
 
 -- the columns at j of the three windows that hold a line's 36: at 0, 16 and 20
 unfoldable pub three : List ℕ → ℕ → Bool

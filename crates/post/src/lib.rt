@@ -6,7 +6,7 @@ ghost use Prim.Native.Nat.{ℕ, _+_, _*_, _<_, _≤_};
 ghost use lib.ListN.{length, getD, drop};
 ghost use Rattle.post.specs.Grammar.{lastLine, IsPost};
 ghost use Rattle.post.specs.Place.{Longest, CheckedAs};
-ghost use Rattle.post.specs.Columns.{lowest, highest, columnFits, nextNumber, SharedPart, RowZones, FirstStray, LinePlace, LastPlace, beginsLast, isLast, TookLine, LineRises};
+ghost use Rattle.post.specs.Columns.{lowest, highest, columnFits, nextNumber, straying, smaller, FirstStray, LinePlace, LastPlace, beginsLast, isLast, TookLine, LineRises};
 ghost use Rattle.post.specs.Rest.{Rest, Scanned};
 
 // The lowest and the highest character of each column of a line, `131.0.xx(row)` CR LF.
@@ -111,65 +111,47 @@ fn column_fits(low: &[u8; 36], high: &[u8; 36], text: &[u8], at: usize, j: usize
     above <= high[j] - low[j]
 }
 
-// How many of a fixed part's characters stand at a place, up to the first that does not.
-fn shared(text: &[u8], at: usize, part: &[u8]) -> usize
-    requires { ⌜ at + length (now part) ≤ length (now text) ⌝ }
-    ensures { λ r. ⌜ SharedPart (drop at (now (text .entry))) (now (part .entry)) r ⌝ }
+// A column that strays, as its number; 36 where it fits.
+fn straying(fits: bool, column: u8) -> u8
+    ensures { λ r. ⌜ r ≡ straying fits column ⌝ }
 {
-    let mut i = 0;
-    while i < part.len() {
-        if text[at + i] != part[i] {
-            return i;
-        }
-        i += 1;
+    if fits {
+        return 36;
     }
-    i
+    column
 }
 
-// How many of the 24 characters of a row are zones, up to the first that is not. A whole row is seen at once.
-fn row_zones(row: &[u8]) -> usize
-    requires { ⌜ 24 ≡ length (now row) ⌝ }
-    ensures { λ r. ⌜ RowZones (now (row .entry)) r ⌝ }
+fn smaller(a: u8, b: u8) -> u8
+    ensures { λ r. ⌜ r ≡ smaller a b ⌝ }
 {
-    if text::all_between(row, 49, 52) {
-        return 24;
+    if b < a {
+        return b;
     }
-    let mut i = 0;
-    while i < 24 {
-        let zone = (49 <= row[i]) & (row[i] <= 52);
-        if !zone {
-            return i;
-        }
-        i += 1;
-    }
-    i
+    a
 }
 
-// The first column of the 36 from a place on that strays; 36 where they are a line's, but for the value of its number.
+// The first column of the 36 from a place on that strays; 36 where they are a line's, but for the value of its number. All columns
+// are seen at once, in three windows of 16, the last two overlapping, so that none is left over. Each of these two has a copy of the
+// bounds for itself: what only one window reads need not stand in memory.
 fn stray_at(text: &[u8], at: usize) -> usize
     requires { ⌜ at + 36 ≤ length (now text) ⌝ }
     ensures { λ r. ⌜ FirstStray (drop at (now (text .entry))) r ⌝ }
 {
-    let head = shared(text, at, b"131.0.");
-    if head < 6 {
-        return head;
+    let low = LOWEST;
+    let high = HIGHEST;
+    let floor = LOWEST;
+    let ceiling = HIGHEST;
+    let mut column: u8 = 36;
+    let mut j: u8 = 0;
+    while j < 16 {
+        let i = j as usize;
+        let first = straying(column_fits(&low, &high, text, at, i), j);
+        let second = straying(column_fits(&low, &high, text, at, 16 + i), 16 + j);
+        let third = straying(column_fits(&floor, &ceiling, text, at, 20 + i), 20 + j);
+        column = smaller(smaller(column, first), smaller(second, third));
+        j += 1;
     }
-    if !text::is_digit(text[at + 6]) {
-        return 6;
-    }
-    if !text::is_digit(text[at + 7]) {
-        return 7;
-    }
-    if text[at + 8] != 40 {
-        return 8;
-    }
-    let start = at + 9;
-    let end = at + 33;
-    let zones = row_zones(&text[start..end]);
-    if zones < 24 {
-        return 9 + zones;
-    }
-    33 + shared(text, end, b")\r\n")
+    column as usize
 }
 
 // The first column that strays in a text shorter than a line.
@@ -212,17 +194,20 @@ fn scan(text: &[u8], tables: u8) -> Reached
     requires { ⌜ tables < 100 ⌝ }
     ensures { λ r. ⌜ Scanned tables (now (text .entry)) (r .at) (r .above) (r .stray) ⌝ }
 {
-    let mut at = 0;
+    let lines = text.len() / 36;
     let mut above = 0;
-    while 36 <= text.len() - at {
+    let mut l = 0;
+    while l < lines {
+        let at = 36 * l;
         let stray = stray_at(text, at);
         let n = next_number(text, at, stray, above, tables);
         if n == 0 {
             return Reached { at, above, stray };
         }
         above = n;
-        at += 36;
+        l += 1;
     }
+    let at = 36 * lines;
     let stray = first_stray(&text[at..]);
     Reached { at, above, stray }
 }
@@ -315,16 +300,24 @@ fn rest_place(s: &[u8], stray: usize, above: u8, tables: u8) -> usize
     line_place(s, stray, above, tables)
 }
 
-// Takes a line into the flags: three windows of 16 columns, the last two overlapping, so that no column is left over.
-fn take_line(low: &[u8; 36], high: &[u8; 36], text: &[u8], at: usize, fits: &mut [bool; 16])
-    requires { ⌜ (now low ≡ lowest) × (now high ≡ highest) × (at + 36 ≤ length (now text)) × (length (now fits) ≡ 16) ⌝ }
+// Takes a line into the flags, by the same three windows.
+fn take_line(
+    low: &[u8; 36],
+    high: &[u8; 36],
+    floor: &[u8; 36],
+    ceiling: &[u8; 36],
+    text: &[u8],
+    at: usize,
+    fits: &mut [bool; 16],
+)
+    requires { ⌜ (now low ≡ lowest) × (now high ≡ highest) × (now floor ≡ lowest) × (now ceiling ≡ highest) × (at + 36 ≤ length (now text)) × (length (now fits) ≡ 16) ⌝ }
     ensures { λ _. ⌜ TookLine (drop at (now (text .entry))) (now (fits .entry)) (now (fits .exit)) 16 ⌝ }
 {
     let mut j = 0;
     while j < 16 {
         let first = column_fits(low, high, text, at, j);
         let second = column_fits(low, high, text, at, 16 + j);
-        let third = column_fits(low, high, text, at, 20 + j);
+        let third = column_fits(floor, ceiling, text, at, 20 + j);
         fits[j] = fits[j] & ((first & second) & third);
         j += 1;
     }
@@ -364,6 +357,8 @@ fn lines_rise(text: &[u8], lines: usize, tables: u8) -> bool
 {
     let low = LOWEST;
     let high = HIGHEST;
+    let floor = LOWEST;
+    let ceiling = HIGHEST;
     let top = 528 + wide(tables);
     let mut fits = [true; 16];
     let mut above: u16 = 528;
@@ -371,7 +366,7 @@ fn lines_rise(text: &[u8], lines: usize, tables: u8) -> bool
     let mut l = 0;
     while l < lines {
         let at = 36 * l;
-        take_line(&low, &high, text, at, &mut fits);
+        take_line(&low, &high, &floor, &ceiling, text, at, &mut fits);
         let raw = raw_number(text, at);
         rise = rise & ((above < raw) & (raw <= top));
         above = raw;

@@ -5,8 +5,8 @@ use mathlib.Core.List.{List}
 use Prim.Native.Nat.{ℕ, _+_, _-_, _<_, _≤_}
 use native.Mathlib.Omega.{arith}
 use lib.Bits.{bitXor}
-use lib.ListN.{length, getD, take, drop, set, length-set}
-use lib.Seq.{getD-drop}
+use lib.ListN.{length, getD, take, drop, set, length-set, length-drop}
+use lib.Seq.{getD-take, take-take, length-take-le}
 use Rattle.line.specs.Characters.{sent}
 use Rattle.line.specs.Checksum.{bccOf}
 use Rattle.text.specs.Writing.{stored}
@@ -16,35 +16,40 @@ use Rattle.export.proofs.Changed.{changed-next, changed-last}
 use Rattle.export.proofs.write_frame.Statement.{statement}
 use Rattle.export.proofs.write_frame.Tie as tie
 
-turn : (buf out text : List ℕ) (at j x : ℕ) → out ≡ stored buf at (changedTo (drop at text) j) → x ≡ sent (bitXor (getD text (at + j) 0) (getD change j 0))
-    → set out (at + j) x ≡ stored buf at (changedTo (drop at text) (j + 1))
-turn buf out text at j x e w =
-    rw (e, w, ← getD-drop at text j 0) (changed-next buf at (drop at text) j)
+-- a copy of the first 36 characters serves as they do
+module _ (buf out s copy : List ℕ) (at j x : ℕ) (same : copy ≡ take 36 s) (e : out ≡ stored buf at (changedTo s j)) where
+  column : (i : ℕ) → i < 36 → getD copy i 0 ≡ getD s i 0
+  column i h = ap (λ (l : List ℕ). getD l i 0) same ∙ getD-take 36 s i 0 h
 
-last : (buf out text : List ℕ) (at j sum x : ℕ) → j ≡ 36 → out ≡ stored buf at (changedTo (drop at text) j) → sum ≡ bccOf (take (at + 32 - at) (drop at text))
-    → x ≡ sent (bitXor (bitXor sum (getD text (at + 32) 0)) 44) → set out (at + 35) x ≡ stored buf at (changedLine (drop at text))
-unfolding changedLine
-last buf out text at j sum x k e b w =
-    let n : at + 32 - at ≡ 32 = omega arith in
-    let v : x ≡ sent (bitXor (bitXor (bccOf (take 32 (drop at text))) (getD (drop at text) 32 0)) 44) =
-    w ∙ ap₂ (λ (y z : ℕ). sent (bitXor (bitXor y z) 44)) (b ∙ ap (λ (i : ℕ). bccOf (take i (drop at text))) n) (sym (getD-drop at text 32 0)) in
-    rw (e, k, v) (changed-last buf at (drop at text) _)
+  turn : j < 36 → x ≡ sent (bitXor (getD copy j 0) (getD change j 0)) → set out (at + j) x ≡ stored buf at (changedTo s (j + 1))
+  turn h w = rw (e, w, column j h) (changed-next buf at s j)
+
+  last : j ≡ 36 → (sum : ℕ) → sum ≡ bccOf (take 32 copy) → x ≡ sent (bitXor (bitXor sum (getD copy 32 0)) 44) → set out (at + 35) x ≡ stored buf at (changedLine s)
+  unfolding changedLine
+  last k sum b w =
+      let first : take 32 copy ≡ take 32 s = ap (take 32) same ∙ take-take 32 36 s (omega arith) in
+      let v : x ≡ sent (bitXor (bitXor (bccOf (take 32 s)) (getD s 32 0)) 44) =
+      w ∙ ap₂ (λ (y z : ℕ). sent (bitXor (bitXor y z) 44)) (b ∙ ap bccOf first) (column 32 (omega arith)) in
+      rw (e, k, v) (changed-last buf at s _)
+
+long : (text copy : List ℕ) (at : ℕ) → at + 36 ≤ length text → copy ≡ take 36 (drop at text) → 32 ≤ length copy
+long text copy at h e = omega (arith, ap length e, length-take-le 36 (drop at text) (omega (arith, length-drop at text)))
 
 abbrev Inv-loop : tie.InvT-loop
-Inv-loop changes text at out₀ j₀ out j = (j ≤ 36) × (length out ≡ length out₀) × (out ≡ stored out₀ at (changedTo (drop at text) j))
+Inv-loop changes text at out₀ copy j₀ out j = (j ≤ 36) × (length out ≡ length out₀) × (out ≡ stored out₀ at (changedTo (drop at text) j))
 
 abbrev μ-loop : tie.MeasureT-loop
-μ-loop changes text at out₀ j₀ out j = 36 - j
+μ-loop changes text at out₀ copy j₀ out j = 36 - j
+
+line-at-requires : tie.Need-line-at-requires Inv-loop μ-loop
+line-at-requires c κs = c .before .before .pre .1
 
 loop-holds : tie.Need-loop-holds Inv-loop μ-loop
 unfolding stored changedTo
 loop-holds c = (omega arith, refl, refl)
 
-add-wire : tie.Need-add-wire Inv-loop μ-loop
-add-wire c = omega arith
-
-shared-slice-read-wire : tie.Need-shared-slice-read-wire Inv-loop μ-loop
-shared-slice-read-wire c = omega arith
+array-read-wire : tie.Need-array-read-wire Inv-loop μ-loop
+array-read-wire c = omega arith
 
 element-copy-out-wire : tie.Need-element-copy-out-wire Inv-loop μ-loop
 element-copy-out-wire c = omega arith
@@ -66,28 +71,26 @@ loop-less c = omega arith
 
 loop-again : tie.Need-loop-again Inv-loop μ-loop
 loop-again c =
-    let l = (c .before .before .before .before .loop) in
+    let l = (c .before .before .before .loop) in
     let a = (c .before .before .before .before .before .before .before .args) in
-    let w = c .wire .ensures ∙ ap (λ (d : List ℕ). sent (bitXor (getD (a .text .now) (a .at + l .j) 0) (getD d (l .j) 0))) (c .before .before .before .before .before .before .before .pre .0) in
-    (omega arith, simp length-set (l .inv .1), turn (a .out .now) (l .out) (a .text .now) (a .at) (l .j) _ (l .inv .2) w)
+    let copied = c .before .before .before .before .line-at in
+    let w = c .wire .ensures ∙ ap (λ (d : List ℕ). sent (bitXor (getD (copied .result) (l .j) 0) (getD d (l .j) 0))) (c .before .before .before .before .before .before .before .pre .0) in
+    (omega arith, simp length-set (l .inv .1), turn (a .out .now) (l .out) (drop (a .at) (a .text .now)) (copied .result) (a .at) (l .j) _ (copied .ensures) (l .inv .2) (omega arith) w)
 
-add-end : tie.Need-add-end Inv-loop μ-loop
-add-end c = omega arith
+array-share-prefix-copy : tie.Need-array-share-prefix-copy Inv-loop μ-loop
+array-share-prefix-copy c = omega arith
 
-sub-bcc : tie.Need-sub-bcc Inv-loop μ-loop
-sub-bcc c = omega arith
-
-part-bcc-start : tie.Need-part-bcc-start Inv-loop μ-loop
-part-bcc-start c = omega arith
-
-part-bcc-end : tie.Need-part-bcc-end Inv-loop μ-loop
-part-bcc-end c = omega arith
+slice-aggregate-bcc : tie.Need-slice-aggregate-bcc Inv-loop μ-loop
+slice-aggregate-bcc c =
+    let a = (c .before .before .before .before .before .before .args) in
+    let copied = c .before .before .before .line-at in
+    sym (length-take-le 32 (copied .result) (long (a .text .now) (copied .result) (a .at) (c .before .before .before .before .before .before .pre .1) (copied .ensures)))
 
 bcc-requires : tie.Need-bcc-requires Inv-loop μ-loop
 bcc-requires c κs = tt
 
-shared-slice-read-wire-2 : tie.Need-shared-slice-read-wire-2 Inv-loop μ-loop
-shared-slice-read-wire-2 c = omega arith
+array-read-wire-2 : tie.Need-array-read-wire-2 Inv-loop μ-loop
+array-read-wire-2 c = omega arith
 
 wire-requires-2 : tie.Need-wire-requires-2 Inv-loop μ-loop
 wire-requires-2 c κs = tt
@@ -99,13 +102,14 @@ slice-write-out-2 : tie.Need-slice-write-out-2 Inv-loop μ-loop
 slice-write-out-2 c = omega arith
 
 same-length : tie.Need-same-length Inv-loop μ-loop
-same-length c = simp length-set (c .before .before .before .before .before .loop .inv .1)
+same-length c = simp length-set (c .before .before .before .before .loop .inv .1)
 
 returns : tie.Need-returns Inv-loop μ-loop
 returns c =
-    let l = (c .before .before .before .before .before .loop) in
+    let l = (c .before .before .before .before .loop) in
     let a = (c .before .before .before .before .before .before .before .before .args) in
-    last (a .out .now) (l .out) (a .text .now) (a .at) (l .j) (c .before .before .bcc .result) _ (omega arith) (l .inv .2) (c .before .before .bcc .ensures) (c .wire2 .ensures)
+    let copied = c .before .before .before .before .before .line-at in
+    last (a .out .now) (l .out) (drop (a .at) (a .text .now)) (copied .result) (a .at) (l .j) _ (copied .ensures) (l .inv .2) (omega arith) (c .before .bcc .result) (c .before .bcc .ensures) (c .wire2 .ensures)
 
 pub write-frame-spec : {M : Type 1} → statement M
 write-frame-spec =
@@ -113,9 +117,9 @@ write-frame-spec =
     (tie.spec
     Inv-loop
     μ-loop
+    line-at-requires
     loop-holds
-    add-wire
-    shared-slice-read-wire
+    array-read-wire
     element-copy-out-wire
     wire-requires
     add-out
@@ -123,12 +127,10 @@ write-frame-spec =
     add-j
     loop-less
     loop-again
-    add-end
-    sub-bcc
-    part-bcc-start
-    part-bcc-end
+    array-share-prefix-copy
+    slice-aggregate-bcc
     bcc-requires
-    shared-slice-read-wire-2
+    array-read-wire-2
     wire-requires-2
     add-out-2
     slice-write-out-2

@@ -16,10 +16,10 @@ unfolding rawAt
 raw-is text l raw e = e
 
 abbrev Inv-loop : tie.InvT-loop
-Inv-loop text lines tables low high top fits₀ above₀ rise₀ l₀ fits above rise l = (low ≡ lowest) × (high ≡ highest) × (top ≡ 528 + tables) × (l ≤ lines) × (Rose tables text l above rise fits)
+Inv-loop text lines tables low high floor ceiling top fits₀ above₀ rise₀ l₀ fits above rise l = (low ≡ lowest) × (high ≡ highest) × (floor ≡ lowest) × (ceiling ≡ highest) × (top ≡ 528 + tables) × (l ≤ lines) × (Rose tables text l above rise fits)
 
 abbrev μ-loop : tie.MeasureT-loop
-μ-loop text lines tables low high top fits₀ above₀ rise₀ l₀ fits above rise l = lines - l
+μ-loop text lines tables low high floor ceiling top fits₀ above₀ rise₀ l₀ fits above rise l = lines - l
 
 wide-requires : tie.Need-wide-requires Inv-loop μ-loop
 wide-requires c κs = tt
@@ -29,13 +29,15 @@ add-top c = omega (arith, c .wide .ensures .1)
 
 loop-holds : tie.Need-loop-holds Inv-loop μ-loop
 unfolding lowest highest
-loop-holds c = (refl, refl, ap (λ (x : ℕ). 528 + x) (c .wide .ensures .0), omega arith, rose-none _ _ _ refl)
+loop-holds c = (refl, refl, refl, refl, ap (λ (x : ℕ). 528 + x) (c .wide .ensures .0), omega arith, rose-none _ _ _ refl)
 
 mul-at : tie.Need-mul-at Inv-loop μ-loop
 mul-at c = omega arith
 
 take-line-requires : tie.Need-take-line-requires Inv-loop μ-loop
-take-line-requires c κs = (c .before .before .before .before .loop .inv .0, c .before .before .before .before .loop .inv .1, omega arith, c .before .before .before .before .loop .inv .4 .long)
+take-line-requires c κs =
+    let l = c .before .before .before .before .before .before .loop in
+    (l .inv .0, l .inv .1, l .inv .2, l .inv .3, omega arith, l .inv .6 .long)
 
 raw-number-requires : tie.Need-raw-number-requires Inv-loop μ-loop
 raw-number-requires c κs = omega arith
@@ -48,13 +50,15 @@ loop-less c = omega arith
 
 loop-again : tie.Need-loop-again Inv-loop μ-loop
 loop-again c =
-    let l = (c .before .before .before .before .before .before .loop) in
-    let a = (c .before .before .before .before .before .before .before .before .before .args) in (
+    let l = (c .before .before .before .before .before .before .before .before .loop) in
+    let a = (c .before .before .before .before .before .before .before .before .before .before .before .args) in (
       l .inv .0,
       l .inv .1,
       l .inv .2,
+      l .inv .3,
+      l .inv .4,
       omega arith,
-      rose-more (a .tables) (a .text .now) (l .l) (l .above) _ (c .raw-number .result) (l .rise) (l .fits) _ (l .inv .2) (raw-is (a .text .now) (l .l) (c .raw-number .result) (c .raw-number .ensures)) (c .before .take-line .ensures) (l .inv .4),
+      rose-more (a .tables) (a .text .now) (l .l) (l .above) _ (c .raw-number .result) (l .rise) (l .fits) _ (l .inv .4) (raw-is (a .text .now) (l .l) (c .raw-number .result) (c .raw-number .ensures)) (c .before .take-line .ensures) (l .inv .6),
     )
 
 all-set-requires : tie.Need-all-set-requires Inv-loop μ-loop
@@ -66,7 +70,7 @@ returns c =
     let a = (c .before .before .before .before .before .before .args) in
     let e : l .l ≡ a .lines = omega arith in
     λ t k h.
-    rose-end (a .tables) (a .text .now) (l .l) (l .above) (l .rise) (l .fits) (l .inv .4) (c .all-set .ensures (and-left (c .all-set .result) (l .rise) t))
+    rose-end (a .tables) (a .text .now) (l .l) (l .above) (l .rise) (l .fits) (l .inv .6) (c .all-set .ensures (and-left (c .all-set .result) (l .rise) t))
     (and-right (c .all-set .result) (l .rise) t) k (omega arith)
 
 pub lines-rise-spec : {M : Type 1} → statement M

@@ -84,17 +84,17 @@ add-n-3 c =
 returns-2 : tie.Need-returns-2
 returns-2 c =
     let a = (c .before .before .before .before .args) in
-    too-low (a .tables) (a .above) _ (drop (a .at) (a .text .now)) (whole-fits (drop (c .before .before .before .before .args .at) (c .before .before .before .before .args .text .now)) (c .before .before .before .before .args .stray) (c .before .before .before .before .pre .1) (c .before .before .before .if1 .left)) (number-at (a .text .now) (a .at)) (c .if2 .taken)
+    too-low (a .tables) (a .above) _ (drop (a .at) (a .text .now)) (whole-fits (drop (c .before .before .before .before .args .at) (c .before .before .before .before .args .text .now)) (c .before .before .before .before .args .stray) (c .before .before .before .before .pre .1) (c .before .before .before .if1 .left)) (number-at (a .text .now) (a .at)) (omega (arith, c .if2 .taken))
 
 returns-3 : tie.Need-returns-3
 returns-3 c =
     let a = (c .before .before .before .before .before .args) in
-    too-high (a .tables) (a .above) _ (drop (a .at) (a .text .now)) (whole-fits (drop (c .before .before .before .before .before .args .at) (c .before .before .before .before .before .args .text .now)) (c .before .before .before .before .before .args .stray) (c .before .before .before .before .before .pre .1) (c .before .before .before .before .if1 .left)) (number-at (a .text .now) (a .at)) (c .before .if2 .left) (c .if3 .taken)
+    too-high (a .tables) (a .above) _ (drop (a .at) (a .text .now)) (whole-fits (drop (c .before .before .before .before .before .args .at) (c .before .before .before .before .before .args .text .now)) (c .before .before .before .before .before .args .stray) (c .before .before .before .before .before .pre .1) (c .before .before .before .before .if1 .left)) (number-at (a .text .now) (a .at)) (omega (arith, c .before .if2 .left)) (c .if3 .taken)
 
 returns-4 : tie.Need-returns-4
 returns-4 c =
     let a = (c .before .before .before .before .before .args) in
-    found (a .tables) (a .above) _ (drop (a .at) (a .text .now)) (whole-fits (drop (c .before .before .before .before .before .args .at) (c .before .before .before .before .before .args .text .now)) (c .before .before .before .before .before .args .stray) (c .before .before .before .before .before .pre .1) (c .before .before .before .before .if1 .left)) (number-at (a .text .now) (a .at)) (c .before .if2 .left) (c .if3 .left)
+    found (a .tables) (a .above) _ (drop (a .at) (a .text .now)) (whole-fits (drop (c .before .before .before .before .before .args .at) (c .before .before .before .before .before .args .text .now)) (c .before .before .before .before .before .args .stray) (c .before .before .before .before .before .pre .1) (c .before .before .before .before .if1 .left)) (number-at (a .text .now) (a .at)) (omega (arith, c .before .if2 .left)) (c .if3 .left)
 
 pub next-number-spec : {M : Type 1} → statement M
 next-number-spec =

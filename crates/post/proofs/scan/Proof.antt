@@ -1,6 +1,6 @@
 -- `post::scan` meets its contract: what is right below the lines passed is right of the whole. Assumes nothing.
 use mathlib.Core.Path.{_≡_, refl, sym, ap, _∙_}
-use Prim.Native.Nat.{ℕ, _+_, _-_, _<_, _≤_}
+use Prim.Native.Nat.{ℕ, _+_, _-_, _*_, _/_, _<_, _≤_}
 use native.Mathlib.Omega.{arith}
 use lib.ListN.{length, drop, length-drop}
 use Rattle.post.specs.Columns.{nextNumber}
@@ -11,16 +11,16 @@ use Rattle.post.proofs.scan.Statement.{statement}
 use Rattle.post.proofs.scan.Tie as tie
 
 abbrev Inv-loop : tie.InvT-loop
-Inv-loop text tables at₀ above₀ at above = (at ≤ length text) × (Passed tables text at above)
+Inv-loop text tables lines above₀ l₀ above l = (lines ≡ length text / 36) × (l ≤ lines) × (Passed tables text (36 * l) above)
 
 abbrev μ-loop : tie.MeasureT-loop
-μ-loop text tables at₀ above₀ at above = length text - at
+μ-loop text tables lines above₀ l₀ above l = lines - l
 
 loop-holds : tie.Need-loop-holds Inv-loop μ-loop
-loop-holds c = (omega arith, passed-none _ _)
+loop-holds c = (refl, omega arith, passed-none _ _)
 
-sub-loop : tie.Need-sub-loop Inv-loop μ-loop
-sub-loop c = c .loop .inv .0
+mul-at : tie.Need-mul-at Inv-loop μ-loop
+mul-at c = omega (arith, c .before .loop .inv .0)
 
 stray-at-requires : tie.Need-stray-at-requires Inv-loop μ-loop
 stray-at-requires c κs = omega (arith, c .before .loop .inv .0)
@@ -29,43 +29,52 @@ next-number-requires : tie.Need-next-number-requires Inv-loop μ-loop
 next-number-requires c κs = (omega (arith, c .before .before .loop .inv .0), c .stray-at .ensures)
 
 returns : tie.Need-returns Inv-loop μ-loop
-returns c = record { passed = c .before .before .before .before .loop .inv .1; stops = λ h. sym (c .before .next-number .ensures) ∙ c .if1 .taken; strays = c .before .before .stray-at .ensures }
+returns c = record { passed = c .before .before .before .before .loop .inv .2; stops = λ h. sym (c .before .next-number .ensures) ∙ c .if1 .taken; strays = c .before .before .stray-at .ensures }
 
-add-at : tie.Need-add-at Inv-loop μ-loop
-add-at c = omega (arith, c .before .before .before .before .loop .inv .0)
+add-l : tie.Need-add-l Inv-loop μ-loop
+add-l c = omega (arith, c .before .before .before .before .loop .inv .0)
 
 loop-less : tie.Need-loop-less Inv-loop μ-loop
-loop-less c = omega (arith, c .before .before .before .before .loop .inv .0)
+loop-less c = omega arith
 
 loop-again : tie.Need-loop-again Inv-loop μ-loop
 loop-again c =
     let l = (c .before .before .before .before .loop) in
     let a = (c .before .before .before .before .before .before .args) in
     let t = a .text .now in
-    let h : l .at + 36 ≤ length t = omega (arith, l .inv .0) in
-    let st = stands (a .tables) (l .above) _ (drop (l .at) t) (rw (length-drop (l .at) t) (omega arith)) (sym (c .before .next-number .ensures)) (c .if1 .left) in
-    (h, passed-more (a .tables) (l .above) (l .at) _ t (c .before .before .before .before .before .before .pre) h (l .inv .1) st)
+    let h : 36 * l .l + 36 ≤ length t = omega (arith, l .inv .0) in
+    let st = stands (a .tables) (l .above) _ (drop (36 * l .l) t) (rw (length-drop (36 * l .l) t) (omega arith)) (sym (c .before .next-number .ensures)) (c .if1 .left) in
+    let e : 36 * l .l + 36 ≡ 36 * (l .l + 1) = omega arith in
+    (l .inv .0, omega arith, rw e at (passed-more (a .tables) (l .above) (36 * l .l) _ t (c .before .before .before .before .before .before .pre) h (l .inv .2) st))
+
+mul-at-2 : tie.Need-mul-at-2 Inv-loop μ-loop
+mul-at-2 c = omega (arith, c .before .loop .inv .0)
 
 sub-first-stray : tie.Need-sub-first-stray Inv-loop μ-loop
-sub-first-stray c = c .before .loop .inv .0
+sub-first-stray c = omega (arith, c .before .loop .inv .0)
 
 part-first-stray-start : tie.Need-part-first-stray-start Inv-loop μ-loop
-part-first-stray-start c = c .before .loop .inv .0
+part-first-stray-start c = omega (arith, c .before .loop .inv .0)
 
 part-first-stray-end : tie.Need-part-first-stray-end Inv-loop μ-loop
-part-first-stray-end c = omega arith
+part-first-stray-end c = omega (arith, c .before .loop .inv .0)
 
 first-stray-requires : tie.Need-first-stray-requires Inv-loop μ-loop
-first-stray-requires c κs = rw (part-is (c .before .before .before .before .args .text .now) (c .before .before .loop .at), length-drop (c .before .before .loop .at) (c .before .before .before .before .args .text .now)) (omega arith)
+first-stray-requires c κs =
+    let l = (c .before .before .loop) in
+    let t = c .before .before .before .before .args .text .now in
+    rw (part-is t _, length-drop _ t) (omega (arith, l .inv .0))
 
 returns-2 : tie.Need-returns-2 Inv-loop μ-loop
 returns-2 c =
     let l = (c .before .before .before .loop) in
     let t = c .before .before .before .before .before .args .text .now in
+    let n = length t / 36 in
+    let e : l .l ≡ n = omega (arith, l .inv .0) in
     record {
-      passed = l .inv .1;
-      stops = λ h. absurd (omega (arith, length-drop (l .at) t, c .before .before .loop-test .left));
-      strays = rw (part-is t (l .at)) at (c .first-stray .ensures);
+      passed = rw e at (l .inv .2);
+      stops = λ h. absurd (omega (arith, length-drop (36 * n) t));
+      strays = rw (part-is t (36 * n)) at (c .first-stray .ensures);
     }
 
 pub scan-spec : {M : Type 1} → statement M
@@ -75,13 +84,14 @@ scan-spec =
     Inv-loop
     μ-loop
     loop-holds
-    sub-loop
+    mul-at
     stray-at-requires
     next-number-requires
     returns
-    add-at
+    add-l
     loop-less
     loop-again
+    mul-at-2
     sub-first-stray
     part-first-stray-start
     part-first-stray-end

@@ -12,13 +12,13 @@ use Rattle.post.proofs.take_line.Statement.{statement}
 use Rattle.post.proofs.take_line.Tie as tie
 
 abbrev Inv-loop : tie.InvT-loop
-Inv-loop low high text at fits₀ j₀ fits j = (j ≤ 16) × (length fits ≡ 16) × (TookLine (drop at text) fits₀ fits j)
+Inv-loop low high floor ceiling text at fits₀ j₀ fits j = (j ≤ 16) × (length fits ≡ 16) × (TookLine (drop at text) fits₀ fits j)
 
 abbrev μ-loop : tie.MeasureT-loop
-μ-loop low high text at fits₀ j₀ fits j = 16 - j
+μ-loop low high floor ceiling text at fits₀ j₀ fits j = 16 - j
 
 loop-holds : tie.Need-loop-holds Inv-loop μ-loop
-loop-holds c = (omega arith, c .before .pre .3, took-none _ _)
+loop-holds c = (omega arith, c .before .pre .5, took-none _ _)
 
 column-fits-requires : tie.Need-column-fits-requires Inv-loop μ-loop
 column-fits-requires c κs = (c .before .before .before .pre .0, c .before .before .before .pre .1, omega arith, omega arith)
@@ -33,7 +33,7 @@ add-column-fits-2 : tie.Need-add-column-fits-2 Inv-loop μ-loop
 add-column-fits-2 c = omega arith
 
 column-fits-requires-3 : tie.Need-column-fits-requires-3 Inv-loop μ-loop
-column-fits-requires-3 c κs = (c .before .before .before .before .before .pre .0, c .before .before .before .before .before .pre .1, omega arith, omega arith)
+column-fits-requires-3 c κs = (c .before .before .before .before .before .pre .2, c .before .before .before .before .before .pre .3, omega arith, omega arith)
 
 element-copy-out-fits : tie.Need-element-copy-out-fits Inv-loop μ-loop
 element-copy-out-fits c = omega arith

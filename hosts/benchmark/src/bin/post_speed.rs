@@ -7,7 +7,7 @@ mod forum;
 use model::post::{self, Table, TABLES};
 use std::hint::black_box;
 use std::process::ExitCode;
-use std::time::Instant;
+use std::time::{Duration, Instant};
 
 /// The hand-written side, called as `forum` calls the library.
 mod fast {
@@ -26,9 +26,16 @@ mod fast {
     }
 }
 
-/// Calls in a batch, and batches on each side; the median batch counts.
-const CALLS: u32 = 20_000;
-const BATCHES: usize = 41;
+/// Calls in a batch, and batches on each side; the median batch counts. A batch lasts a tenth of
+/// a millisecond or two, so that few are cut in two by another process's turn.
+const CALLS: u32 = 1_000;
+const BATCHES: usize = 801;
+
+/// Where the timed text and the frames lie, for both sides: at the same places of a page in every
+/// run, no address of the one like one of the other in its last twelve bits.
+#[repr(align(4096))]
+struct Page([u8; 4096]);
+const HALF: usize = 2048;
 
 /// A post of these tables, each row its own.
 fn post_of(numbers: impl Iterator<Item = u8>) -> Vec<u8> {
@@ -42,24 +49,21 @@ fn post_of(numbers: impl Iterator<Item = u8>) -> Vec<u8> {
     post::text_of(&tables)
 }
 
-/// The median time of a call on either side, in nanoseconds. The sides take turns, so that
-/// whatever else the machine does meets both.
-fn medians(mut rust: impl FnMut(), mut library: impl FnMut()) -> (f64, f64) {
-    let batch = |call: &mut dyn FnMut()| {
-        let start = Instant::now();
-        call();
-        start.elapsed().as_nanos() as f64 / f64::from(CALLS)
-    };
+/// The median time of a call on either side, in nanoseconds, on one text and one buffer. The sides
+/// take turns, so that whatever else the machine does meets both.
+fn medians(out: &mut [u8], rust: impl Fn(&mut [u8]), library: impl Fn(&mut [u8])) -> (f64, f64) {
     let mut times = (Vec::new(), Vec::new());
     for _ in 0..BATCHES {
-        times.0.push(batch(&mut || (0..CALLS).for_each(|_| rust())));
-        times
-            .1
-            .push(batch(&mut || (0..CALLS).for_each(|_| library())));
+        let start = Instant::now();
+        (0..CALLS).for_each(|_| rust(out));
+        let between = Instant::now();
+        (0..CALLS).for_each(|_| library(out));
+        times.0.push(between - start);
+        times.1.push(between.elapsed());
     }
-    let median = |mut times: Vec<f64>| {
-        times.sort_by(f64::total_cmp);
-        times[times.len() / 2]
+    let median = |mut times: Vec<Duration>| {
+        times.sort();
+        times[times.len() / 2].as_nanos() as f64 / f64::from(CALLS)
     };
     (median(times.0), median(times.1))
 }
@@ -112,41 +116,50 @@ fn main() -> ExitCode {
     let longest = post_of(1..=TABLES);
     // The kind that did the harm: a second command hidden in a row.
     let short = b"131.0.01(1111)\x03\x06\x01W1\x02K(somebody__)\x03\x15)\r\n!\r\n".to_vec();
+    // A wrong zone in the last line; a text that ends within its first line.
+    let mut damaged = longest.clone();
+    damaged[23 * post::LINE + 30] = b'5';
+    let cut = longest[..30].to_vec();
     assert_eq!(longest.len(), post::LONGEST);
-    if !all_equal(&[&longest, &short]) {
+    if !all_equal(&[&longest, &short, &damaged, &cut]) {
         println!("post: the sides differ; nothing is timed");
         return ExitCode::FAILURE;
     }
 
-    let check = |text: &[u8]| {
-        medians(
-            || {
+    let mut page = Box::new(Page([0; 4096]));
+    let (first, out) = page.0.split_at_mut(HALF);
+    let mut timed = |text: &[u8], exported: bool| {
+        first[..text.len()].copy_from_slice(text);
+        let text = &first[..text.len()];
+        let out = &mut out[..text.len()];
+        if exported {
+            let rust = |out: &mut [u8]| {
+                black_box(fast::export(black_box(text), black_box(out)));
+            };
+            let library = |out: &mut [u8]| {
+                black_box(forum::export(black_box(text), black_box(out)));
+            };
+            medians(out, rust, library)
+        } else {
+            let rust = |_: &mut [u8]| {
                 black_box(fast::check(black_box(text)));
-            },
-            || {
+            };
+            let library = |_: &mut [u8]| {
                 black_box(forum::check(black_box(text)));
-            },
-        )
-    };
-    let export = |text: &[u8]| {
-        let (mut one, mut other) = (vec![0; text.len()], vec![0; text.len()]);
-        medians(
-            || {
-                black_box(fast::export(black_box(text), black_box(&mut one)));
-            },
-            || {
-                black_box(forum::export(black_box(text), black_box(&mut other)));
-            },
-        )
+            };
+            medians(out, rust, library)
+        }
     };
     println!(
         "{:<28}{:>10}{:>12}{:>8}",
         "name", "rust_ns", "rattle_ns", "ratio"
     );
     for (name, (rust, library)) in [
-        ("check, longest post", check(&longest)),
-        ("check, short non-post", check(&short)),
-        ("export, longest post", export(&longest)),
+        ("check, longest post", timed(&longest, false)),
+        ("check, short non-post", timed(&short, false)),
+        ("check, wrong in line 24", timed(&damaged, false)),
+        ("check, 30 bytes of a line", timed(&cut, false)),
+        ("export, longest post", timed(&longest, true)),
     ] {
         println!(
             "{name:<28}{rust:>10.1}{library:>12.1}{:>8.2}",
