@@ -2,7 +2,7 @@
 // A struct that holds a slice is walked by hand, so the functions over it only pass values on.
 ghost use mathlib.Core.Path.{_≡_};
 ghost use Rattle.reading.specs.Sets.{setRead};
-ghost use Rattle.reader.specs.Walking.{yields, moved};
+ghost use Rattle.reader.specs.Walking.{yields, moved, setAfter};
 use reading::SetRead;
 
 pub struct Reader<'a> {
@@ -34,4 +34,29 @@ pub fn read_at(data: &[u8], at: usize) -> SetRead
 {
     let mut reader = Reader { data, at };
     reader.next()
+}
+
+// An answer, and the place that it was read at: its address starts there, its value after the address and '('.
+pub struct Placed {
+    pub start: usize,
+    pub set: SetRead,
+}
+
+// What a reader answers after so many sets; an end or a malformed set before it is the answer.
+pub fn set_after(data: &[u8], n: usize) -> Placed
+    ensures { λ r. ⌜ r ≡ setAfter (now («data» .entry)) n ⌝ }
+{
+    let mut at = 0;
+    let mut left = n;
+    while 0 < left {
+        let set = read_at(data, at);
+        let number = set.number;
+        if number != reading::DONE {
+            return Placed { start: at, set };
+        }
+        at = set.next;
+        left -= 1;
+    }
+    let set = read_at(data, at);
+    Placed { start: at, set }
 }
