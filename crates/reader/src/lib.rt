@@ -49,12 +49,15 @@ pub fn set_after(data: &[u8], n: usize) -> Placed
     let mut at = 0;
     let mut left = n;
     while 0 < left {
-        let set = read_at(data, at);
-        let number = set.number;
+        let answer = read_at(data, at);
+        let number = answer.number;
         if number != reading::DONE {
-            return Placed { start: at, set };
+            return Placed {
+                start: at,
+                set: answer,
+            };
         }
-        at = set.next;
+        at = answer.next;
         left -= 1;
     }
     let set = read_at(data, at);
