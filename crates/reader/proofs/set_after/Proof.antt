@@ -16,12 +16,6 @@ Inv-loop «data» n at₀ left₀ at left = placeAfter «data» left at ≡ plac
 abbrev μ-loop : tie.MeasureT-loop
 μ-loop «data» n at₀ left₀ at left = left
 
-loop-holds : tie.Need-loop-holds Inv-loop μ-loop
-loop-holds c = refl
-
-read-at-requires : tie.Need-read-at-requires Inv-loop μ-loop
-read-at-requires c κs = tt
-
 returns : tie.Need-returns Inv-loop μ-loop
 returns c =
     let s = c .before .before .before .before .before .args .«data» .now in
@@ -31,21 +25,12 @@ returns c =
     let p = sym (place-stays s left at (λ k. c .if1 .taken (ap (λ (t : SetRead). t .number) e ∙ k))) ∙ c .before .before .before .loop .inv in
     reached s (c .before .before .before .before .before .args .n) at (c .before .read-at .result) p e
 
-sub-left : tie.Need-sub-left Inv-loop μ-loop
-sub-left c = omega arith
-
-loop-less : tie.Need-loop-less Inv-loop μ-loop
-loop-less c = omega arith
-
 loop-again : tie.Need-loop-again Inv-loop μ-loop
 loop-again c =
     let s = c .before .before .before .before .before .args .«data» .now in
     let at = c .before .before .before .loop .at in
     let left = c .before .before .before .loop .left in
     rw (c .before .read-at .ensures) (sym (place-turn s left at (c .before .before .loop-test .taken)) ∙ c .before .before .before .loop .inv)
-
-read-at-requires-2 : tie.Need-read-at-requires-2 Inv-loop μ-loop
-read-at-requires-2 c κs = tt
 
 returns-2 : tie.Need-returns-2 Inv-loop μ-loop
 unfolding placeAfter
@@ -57,16 +42,4 @@ returns-2 c =
     reached s (c .before .before .before .before .args .n) at (c .read-at2 .result) p (c .read-at2 .ensures)
 
 pub set-after-spec : {M : Type 1} → statement M
-set-after-spec =
-    tie.close
-    (tie.spec
-    Inv-loop
-    μ-loop
-    loop-holds
-    read-at-requires
-    returns
-    sub-left
-    loop-less
-    loop-again
-    read-at-requires-2
-    returns-2)
+set-after-spec = tie.close (tie.spec Inv-loop μ-loop (λ c. refl) (λ c κs. tt) returns (λ c. omega arith) (λ c. omega arith) loop-again (λ c κs. tt) returns-2)
