@@ -113,6 +113,10 @@ uint8_t dirgemist_head_part(const uint8_t *stripped, size_t stripped_length, siz
  * But for DIRGEMIST_HEAD_DONE both lengths are 0. A reader starts at 0 and goes on at *next. */
 uint8_t dirgemist_head_next(const uint8_t *sets, size_t sets_length, size_t at, size_t *address_length, size_t *value_length, size_t *next, size_t *place);
 
+/* Reads the data set behind the first count sets of the sets_length bytes at sets: with 0 the first. *start is the place where it was read, and
+ * the rest is what dirgemist_head_next returns and writes for that place. Where an end or a malformed set comes before, it is that one. */
+uint8_t dirgemist_head_set_after(const uint8_t *sets, size_t sets_length, size_t count, size_t *start, size_t *address_length, size_t *value_length, size_t *next, size_t *place);
+
 /* ---- Values, as they stand between the brackets of a data set.
  *
  * Each returns DIRGEMIST_HEAD_DONE with the value, or DIRGEMIST_HEAD_MALFORMED with zeros for it where the length bytes at value are not

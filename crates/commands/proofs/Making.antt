@@ -1,6 +1,6 @@
 -- The three ways out of a builder, and what the pieces of a command leave in the buffer, once over their lengths.
 -- Assumes nothing.
-use mathlib.Core.Path.{_≡_, sym, ap, _∙_}
+use mathlib.Core.Path.{_≡_, sym, ap, subst, _∙_}
 use mathlib.Core.Bool.{Bool, true, false}
 use mathlib.Core.List.{List, _++_, append-assoc}
 use Prim.Native.Nat.{ℕ, _+_, _<_, _≤_}
@@ -28,6 +28,10 @@ module _ (buf : List ℕ) (ok : Bool) (command : List ℕ) (r : Built) where
   pub built : (after : List ℕ) → 64 ≤ length buf → ok ≡ true → Made buf command r after → Builds buf ok command r after
   unfolding builtIn keptOr
   built after h f m = record { answer = rw (le-ltb (length buf) 64 h, f) (m .answer); held = rw (le-ltb (length buf) 64 h, f) (m .held) }
+
+-- the field's test is what the rule says of it
+pub judged : (buf : List ℕ) (ok good : Bool) (command : List ℕ) (r : Built) (after : List ℕ) → good ≡ ok → Builds buf good command r after → Builds buf ok command r after
+judged buf ok good command r after e = subst (λ (b : Bool). Builds buf b command r after) e
 
 -- a message put in from the front, with parity
 pub said : (buf m : List ℕ) (n : ℕ) → length m ≤ length buf → n ≡ length m

@@ -1,6 +1,6 @@
 -- Document 01, "The head": a command is built in a buffer of at least 64 bytes, or nothing is written.
 use mathlib.Core.Path.{_≡_}
-use mathlib.Core.Bool.{Bool, cond, _||_}
+use mathlib.Core.Bool.{Bool, true, cond, _||_}
 use mathlib.Core.List.{List}
 use Prim.Native.Nat.{ℕ, _+_, _≤_}
 use lib.Dec.{eqb, ltb}
@@ -32,6 +32,11 @@ pub record Room (buf start content : List ℕ) : Type 0 where
   pub room : 64 ≤ length buf
   pub begun : 1 ≤ length start
   pub small : length start + length content ≤ 40
+
+-- a field within its rule is of a command's size
+pub record Small (ok : Bool) (start content : List ℕ) : Type 0 where
+  pub begun : 1 ≤ length start
+  pub small : ok ≡ true → length start + length content ≤ 40
 
 -- the command stands at the front, and its length is told
 pub record Made (buf command : List ℕ) (r : Built) (after : List ℕ) : Type 0 where

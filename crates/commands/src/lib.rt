@@ -10,7 +10,7 @@ ghost use Rattle.values.specs.Texts.{serialText, tableText, clockText};
 ghost use Rattle.frames.specs.Frames.{sealed, frameOf, bareFrame, onWire};
 ghost use Rattle.frames.specs.Commands.{B0, P1, R1, W1, askClock, askSerial, askAccount, askEnergy, askTable, setClock, setAccount, setTable};
 ghost use Rattle.frames.specs.Session.{signOn, signOnTo, confirmation, enterData, passwordData};
-ghost use Rattle.commands.specs.Building.{goodChoice, Builds, Room, Made};
+ghost use Rattle.commands.specs.Building.{goodChoice, Builds, Room, Small, Made};
 use clock::Clock;
 use values::TableNo;
 use values::ZoneNo;
@@ -78,6 +78,20 @@ fn frame(buf: &mut [u8], start: &[u8], content: &[u8]) -> Built
     }
 }
 
+// The same where the buffer has room and the field lies within its rule; else refused, and nothing is written.
+fn build(buf: &mut [u8], good: bool, start: &[u8], content: &[u8]) -> Built
+    requires { ⌜ Small good (now start) (now content) ⌝ }
+    ensures { λ r. ⌜ Builds (now (buf .entry)) good (onWire (sealed (now (start .entry) ++ (now (content .entry) ++ (41 ∷ []))))) r (now (buf .exit)) ⌝ }
+{
+    if buf.len() < ROOM {
+        return short();
+    }
+    if !good {
+        return refused();
+    }
+    frame(buf, start, content)
+}
+
 // The sign-on `/?!`.
 pub fn sign_on(buf: &mut [u8]) -> Built
     ensures { λ r. ⌜ Builds (now (buf .entry)) true (onWire signOn) r (now (buf .exit)) ⌝ }
@@ -129,63 +143,43 @@ pub fn confirm(buf: &mut [u8], choice: u8) -> Built
 pub fn enter(buf: &mut [u8]) -> Built
     ensures { λ r. ⌜ Builds (now (buf .entry)) true (onWire (frameOf P1 enterData)) r (now (buf .exit)) ⌝ }
 {
-    if buf.len() < ROOM {
-        return short();
-    }
-    frame(buf, b"\x01P1\x02(", b"")
+    build(buf, true, b"\x01P1\x02(", b"")
 }
 
 // P1 with a password of eight digits.
 pub fn password(buf: &mut [u8], password: &[u8]) -> Built
     ensures { λ r. ⌜ Builds (now (buf .entry)) (goodPassword (now (password .entry))) (onWire (frameOf P1 (passwordData (now (password .entry))))) r (now (buf .exit)) ⌝ }
 {
-    if buf.len() < ROOM {
-        return short();
-    }
-    if !values::is_digits(password, 8) {
-        return refused();
-    }
-    frame(buf, b"\x01P1\x02(", password)
+    let good = values::is_digits(password, 8);
+    build(buf, good, b"\x01P1\x02(", password)
 }
 
 // R1 for the clock.
 pub fn read_clock(buf: &mut [u8]) -> Built
     ensures { λ r. ⌜ Builds (now (buf .entry)) true (onWire (frameOf R1 askClock)) r (now (buf .exit)) ⌝ }
 {
-    if buf.len() < ROOM {
-        return short();
-    }
-    frame(buf, b"\x01R1\x02T(", b"")
+    build(buf, true, b"\x01R1\x02T(", b"")
 }
 
 // R1 for the serial.
 pub fn read_serial(buf: &mut [u8]) -> Built
     ensures { λ r. ⌜ Builds (now (buf .entry)) true (onWire (frameOf R1 askSerial)) r (now (buf .exit)) ⌝ }
 {
-    if buf.len() < ROOM {
-        return short();
-    }
-    frame(buf, b"\x01R1\x02L(", b"")
+    build(buf, true, b"\x01R1\x02L(", b"")
 }
 
 // R1 for the account.
 pub fn read_account(buf: &mut [u8]) -> Built
     ensures { λ r. ⌜ Builds (now (buf .entry)) true (onWire (frameOf R1 askAccount)) r (now (buf .exit)) ⌝ }
 {
-    if buf.len() < ROOM {
-        return short();
-    }
-    frame(buf, b"\x01R1\x02K(", b"")
+    build(buf, true, b"\x01R1\x02K(", b"")
 }
 
 // R1 for the total.
 pub fn read_total(buf: &mut [u8]) -> Built
     ensures { λ r. ⌜ Builds (now (buf .entry)) true (onWire (frameOf R1 (askEnergy 0))) r (now (buf .exit)) ⌝ }
 {
-    if buf.len() < ROOM {
-        return short();
-    }
-    frame(buf, b"\x01R1\x02E0(", b"")
+    build(buf, true, b"\x01R1\x02E0(", b"")
 }
 
 // R1 for a zone's energy.
@@ -206,14 +200,9 @@ pub fn read_zone(buf: &mut [u8], zone: ZoneNo) -> Built
 pub fn read_table(buf: &mut [u8], table: TableNo) -> Built
     ensures { λ r. ⌜ Builds (now (buf .entry)) (goodTable 24 (table .0)) (onWire (frameOf R1 (askTable (table .0)))) r (now (buf .exit)) ⌝ }
 {
-    if buf.len() < ROOM {
-        return short();
-    }
-    if !values::is_table(table, values::TABLES) {
-        return refused();
-    }
+    let good = values::is_table(table, values::TABLES);
     let n = table.0;
-    frame(buf, b"\x01R1\x02Z(", &[48 + n / 10 % 10, 48 + n % 10])
+    build(buf, good, b"\x01R1\x02Z(", &[48 + n / 10 % 10, 48 + n % 10])
 }
 
 // The clock as it is written.
@@ -229,26 +218,16 @@ fn shown_clock(c: Clock) -> [u8; 19]
 pub fn write_clock(buf: &mut [u8], c: Clock) -> Built
     ensures { λ r. ⌜ Builds (now (buf .entry)) (realClock c) (onWire (frameOf W1 (setClock c))) r (now (buf .exit)) ⌝ }
 {
-    if buf.len() < ROOM {
-        return short();
-    }
-    if !clock::is_clock(c) {
-        return refused();
-    }
-    frame(buf, b"\x01W1\x02T(", &shown_clock(c))
+    let good = clock::is_clock(c);
+    build(buf, good, b"\x01W1\x02T(", &shown_clock(c))
 }
 
 // W1 for the account.
 pub fn write_account(buf: &mut [u8], account: &[u8]) -> Built
     ensures { λ r. ⌜ Builds (now (buf .entry)) (goodAccount (now (account .entry))) (onWire (frameOf W1 (setAccount (now (account .entry))))) r (now (buf .exit)) ⌝ }
 {
-    if buf.len() < ROOM {
-        return short();
-    }
-    if !values::is_account(account) {
-        return refused();
-    }
-    frame(buf, b"\x01W1\x02K(", account)
+    let good = values::is_account(account);
+    build(buf, good, b"\x01W1\x02K(", account)
 }
 
 // A table's number and its row, as they are written.

@@ -1,5 +1,6 @@
 // Values read back, for C: 1, or 25 with zeros; a buffer under a value's size is kept, with 26.
 ghost use mathlib.Core.Path.{_≡_};
+ghost use lib.ListN.{length};
 ghost use Rattle.values.specs.Reading.{dateRead, timeRead, counterRead};
 ghost use Rattle.values.specs.Serials.{serialRead, accountRead, rowRead};
 ghost use Rattle.headlink.specs.Telling.{valueNumber, Tells};
@@ -16,18 +17,25 @@ fn number(ok: bool) -> u8
     }
 }
 
+// A value's characters at the front of a lent buffer, or the buffer kept where it is shorter than they are.
+fn tell(out: &mut [u8], ok: bool, characters: &[u8]) -> u8
+    ensures { λ r. ⌜ Tells (now (out .entry)) (length (now (characters .entry))) ok (now (characters .entry)) r (now (out .exit)) ⌝ }
+{
+    if out.len() < characters.len() {
+        return SHORT;
+    }
+    text::put(out, 0, characters);
+    number(ok)
+}
+
 // A serial's ten digits.
 #[no_mangle]
 pub extern "C" fn dirgemist_head_value_serial(value: &[u8], out: &mut [u8]) -> u8
     ensures { λ r. ⌜ Tells (now (out .entry)) 10 (serialRead (now (value .entry)) .ok) (serialRead (now (value .entry)) .serial) r (now (out .exit)) ⌝ }
 {
-    if out.len() < 10 {
-        return SHORT;
-    }
     let v = values::characters::read_serial(value);
     let characters = v.serial;
-    text::put(out, 0, &characters);
-    number(v.ok)
+    tell(out, v.ok, &characters)
 }
 
 // An account's ten characters.
@@ -35,13 +43,9 @@ pub extern "C" fn dirgemist_head_value_serial(value: &[u8], out: &mut [u8]) -> u
 pub extern "C" fn dirgemist_head_value_account(value: &[u8], out: &mut [u8]) -> u8
     ensures { λ r. ⌜ Tells (now (out .entry)) 10 (accountRead (now (value .entry)) .ok) (accountRead (now (value .entry)) .account) r (now (out .exit)) ⌝ }
 {
-    if out.len() < 10 {
-        return SHORT;
-    }
     let v = values::characters::read_account(value);
     let characters = v.account;
-    text::put(out, 0, &characters);
-    number(v.ok)
+    tell(out, v.ok, &characters)
 }
 
 // A row's 24 characters.
@@ -49,13 +53,9 @@ pub extern "C" fn dirgemist_head_value_account(value: &[u8], out: &mut [u8]) -> 
 pub extern "C" fn dirgemist_head_value_row(value: &[u8], out: &mut [u8]) -> u8
     ensures { λ r. ⌜ Tells (now (out .entry)) 24 (rowRead (now (value .entry)) .ok) (rowRead (now (value .entry)) .row) r (now (out .exit)) ⌝ }
 {
-    if out.len() < 24 {
-        return SHORT;
-    }
     let v = values::characters::read_row(value);
     let characters = v.row;
-    text::put(out, 0, &characters);
-    number(v.ok)
+    tell(out, v.ok, &characters)
 }
 
 // A date.

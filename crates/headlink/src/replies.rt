@@ -3,6 +3,7 @@ ghost use mathlib.Core.Path.{_≡_};
 ghost use Rattle.blocks.specs.Stripping.{Strips};
 ghost use Rattle.blocks.specs.Parts.{partOf};
 ghost use Rattle.reading.specs.Sets.{setRead};
+ghost use Rattle.reader.specs.Walking.{setAfter};
 
 // Strips a reply's parity into a second buffer.
 #[no_mangle]
@@ -38,6 +39,29 @@ pub extern "C" fn dirgemist_head_next(
     ensures { λ r. ⌜ record { number = r; «address_length» = now (address .exit); «value_length» = now (value .exit); next = now (next .exit); place = now (place .exit) } ≡ setRead (now (sets .entry)) at ⌝ }
 {
     let s = reading::next_set(sets, at);
+    *address = s.address_length;
+    *value = s.value_length;
+    *next = s.next;
+    *place = s.place;
+    s.number
+}
+
+// What a reader answers after so many sets: where it was read, and the same of it.
+#[no_mangle]
+pub extern "C" fn dirgemist_head_set_after(
+    sets: &[u8],
+    count: usize,
+    start: &mut usize,
+    address: &mut usize,
+    value: &mut usize,
+    next: &mut usize,
+    place: &mut usize,
+) -> u8
+    ensures { λ r. ⌜ record { start = now (start .exit); set = record { number = r; «address_length» = now (address .exit); «value_length» = now (value .exit); next = now (next .exit); place = now (place .exit) } } ≡ setAfter (now (sets .entry)) count ⌝ }
+{
+    let p = reader::set_after(sets, count);
+    let s = p.set;
+    *start = p.start;
     *address = s.address_length;
     *value = s.value_length;
     *next = s.next;

@@ -77,6 +77,16 @@ extern "C" {
         next: *mut usize,
         place: *mut usize,
     ) -> u8;
+    fn dirgemist_head_set_after(
+        sets: *const u8,
+        sets_len: usize,
+        count: usize,
+        start: *mut usize,
+        address_length: *mut usize,
+        value_length: *mut usize,
+        next: *mut usize,
+        place: *mut usize,
+    ) -> u8;
     fn dirgemist_head_value_serial(
         value: *const u8,
         len: usize,
@@ -170,15 +180,17 @@ pub fn part(stripped: &[u8]) -> (u8, usize, usize) {
     (answer, start, length)
 }
 
+const UNREAD: Step = Step {
+    answer: UNWRITTEN_BYTE,
+    address_length: UNWRITTEN,
+    value_length: UNWRITTEN,
+    next: UNWRITTEN,
+    place: UNWRITTEN,
+};
+
 /// Reads the data set at a place.
 pub fn next(sets: &[u8], at: usize) -> Step {
-    let mut step = Step {
-        answer: UNWRITTEN_BYTE,
-        address_length: UNWRITTEN,
-        value_length: UNWRITTEN,
-        next: UNWRITTEN,
-        place: UNWRITTEN,
-    };
+    let mut step = UNREAD;
     // SAFETY: as in `build`.
     step.answer = unsafe {
         dirgemist_head_next(
@@ -192,6 +204,25 @@ pub fn next(sets: &[u8], at: usize) -> Step {
         )
     };
     step
+}
+
+/// Reads the data set after so many: where it starts, and what was read there.
+pub fn set_after(sets: &[u8], count: usize) -> (usize, Step) {
+    let (mut start, mut step) = (UNWRITTEN, UNREAD);
+    // SAFETY: as in `build`.
+    step.answer = unsafe {
+        dirgemist_head_set_after(
+            sets.as_ptr(),
+            sets.len(),
+            count,
+            &mut start,
+            &mut step.address_length,
+            &mut step.value_length,
+            &mut step.next,
+            &mut step.place,
+        )
+    };
+    (start, step)
 }
 
 /// Reads a value: answer, and its numbers or characters.

@@ -22,21 +22,6 @@ loop-holds : tie.Need-loop-holds Inv-loop μ-loop
 unfolding stored
 loop-holds c = (omega arith, refl, refl)
 
-shared-slice-read-character : tie.Need-shared-slice-read-character Inv-loop μ-loop
-shared-slice-read-character c = omega arith
-
-character-requires : tie.Need-character-requires Inv-loop μ-loop
-character-requires c κs = tt
-
-slice-write-out : tie.Need-slice-write-out Inv-loop μ-loop
-slice-write-out c = omega arith
-
-add-i : tie.Need-add-i Inv-loop μ-loop
-add-i c = omega arith
-
-loop-less : tie.Need-loop-less Inv-loop μ-loop
-loop-less c = omega arith
-
 loop-again : tie.Need-loop-again Inv-loop μ-loop
 unfolding seven
 loop-again c =
@@ -48,9 +33,6 @@ loop-again c =
       rw (c .character .ensures, e) (mapped-next seven (a .out .now) (a .s .now) (at-loop .loop .i) refl (c .before .before .loop-test .taken)),
     )
 
-same-length : tie.Need-same-length Inv-loop μ-loop
-same-length c = omega arith
-
 returns : tie.Need-returns Inv-loop μ-loop
 returns c =
     let a = c .before .before .before .before .args in
@@ -61,17 +43,4 @@ returns c =
     ∙ stored-holding (a .out .now) (map seven (a .s .now)) room
 
 pub copy-seven-spec : {M : Type 1} → statement M
-copy-seven-spec =
-    tie.close
-    (tie.spec
-    Inv-loop
-    μ-loop
-    loop-holds
-    shared-slice-read-character
-    character-requires
-    slice-write-out
-    add-i
-    loop-less
-    loop-again
-    same-length
-    returns)
+copy-seven-spec = tie.close (tie.spec Inv-loop μ-loop loop-holds (λ c. omega arith) (λ c κs. tt) (λ c. omega arith) (λ c. omega arith) (λ c. omega arith) loop-again (λ c. omega arith) returns)

@@ -12,67 +12,17 @@ returns : tie.Need-returns
 returns c =
     too-few _ (c .if1 .taken)
 
-sub-etx : tie.Need-sub-etx
-sub-etx c = search needs
-
-sub-last : tie.Need-sub-last
-sub-last c = search needs
-
-shared-slice-read-framed : tie.Need-shared-slice-read-framed
-shared-slice-read-framed c = search needs
-
-shared-slice-read-framed-2 : tie.Need-shared-slice-read-framed-2
-shared-slice-read-framed-2 c = search needs
-
-sub-look : tie.Need-sub-look
-sub-look c = search needs
-
-part-look-start : tie.Need-part-look-start
-part-look-start c = search needs
-
-part-look-end : tie.Need-part-look-end
-part-look-end c = search needs
-
-look-requires : tie.Need-look-requires
-look-requires c κs = search needs
-
-shared-slice-read-block : tie.Need-shared-slice-read-block
-shared-slice-read-block c = search needs
-
 returns-2 : tie.Need-returns-2
 returns-2 c =
     no-block _ (block-seen (c .before .before .before .before .before .before .before .before .before .args .s .now) (c .before .before .before .before .before .before .before .if1 .left) (c .before .before .before .look .result) (c .before .before .before .look .ensures) ∙ not-true _ (c .if2 .taken))
 
-shared-slice-read-if3 : tie.Need-shared-slice-read-if3
-shared-slice-read-if3 c = search needs
-
 returns-3 : tie.Need-returns-3
 returns-3 c =
     let s = c .before .before .before .before .before .before .before .before .before .before .before .before .args .s .now in let block : isBlock s ≡ true = block-seen s (c .before .before .before .before .before .before .before .before .before .before .if1 .left) (c .before .before .before .before .before .before .look .result) (c .before .before .before .before .before .before .look .ensures) ∙ not-false _ (c .before .before .before .if2 .left) in wrong-bcc s block (bcc-seen s (c .before .before .before .before .before .before .before .before .before .before .if1 .left) (c .before .before .before .before .before .before .look .result) (c .before .before .before .before .before .before .look .ensures) block ∙ ne-eqb _ _ (c .if3 .taken))
-
-sub-t19 : tie.Need-sub-t19
-sub-t19 c = search needs
 
 returns-4 : tie.Need-returns-4
 returns-4 c =
     let s = c .before .before .before .before .before .before .before .before .before .before .before .before .args .s .now in let block : isBlock s ≡ true = block-seen s (c .before .before .before .before .before .before .before .before .before .before .if1 .left) (c .before .before .before .before .before .before .look .result) (c .before .before .before .before .before .before .look .ensures) ∙ not-false _ (c .before .before .before .if2 .left) in has-part s (c .before .before .before .before .before .before .before .before .before .before .if1 .left) block (bcc-seen s (c .before .before .before .before .before .before .before .before .before .before .if1 .left) (c .before .before .before .before .before .before .look .result) (c .before .before .before .before .before .before .look .ensures) block ∙ eq-eqb _ _ (c .if3 .left))
 
 pub find-spec : {M : Type 1} → statement M
-find-spec =
-    tie.close
-    (tie.spec
-    returns
-    sub-etx
-    sub-last
-    shared-slice-read-framed
-    shared-slice-read-framed-2
-    sub-look
-    part-look-start
-    part-look-end
-    look-requires
-    shared-slice-read-block
-    returns-2
-    shared-slice-read-if3
-    returns-3
-    sub-t19
-    returns-4)
+find-spec = tie.close (tie.spec returns (λ c. search needs) (λ c. search needs) (λ c. search needs) (λ c. search needs) (λ c. search needs) (λ c. search needs) (λ c. search needs) (λ c κs. search needs) (λ c. search needs) returns-2 (λ c. search needs) returns-3 (λ c. search needs) returns-4)

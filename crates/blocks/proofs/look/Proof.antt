@@ -25,21 +25,6 @@ loop-holds : tie.Need-loop-holds Inv-loop μ-loop
 unfolding bccOf seven
 loop-holds c = (omega arith, refl, refl)
 
-shared-slice-read-plain : tie.Need-shared-slice-read-plain Inv-loop μ-loop
-shared-slice-read-plain c = omega arith
-
-shared-slice-read-plain-2 : tie.Need-shared-slice-read-plain-2 Inv-loop μ-loop
-shared-slice-read-plain-2 c = omega arith
-
-shared-slice-read-sum : tie.Need-shared-slice-read-sum Inv-loop μ-loop
-shared-slice-read-sum c = omega arith
-
-add-i : tie.Need-add-i Inv-loop μ-loop
-add-i c = omega arith
-
-loop-less : tie.Need-loop-less Inv-loop μ-loop
-loop-less c = omega arith
-
 loop-again : tie.Need-loop-again Inv-loop μ-loop
 unfolding isContent
 loop-again c =
@@ -61,16 +46,4 @@ returns c =
     (bcc-end s (at-loop .i) (at-loop .sum) _ (c .loop-test .left) (at-loop .inv .2))
 
 pub look-spec : {M : Type 1} → statement M
-look-spec =
-    tie.close
-    (tie.spec
-    Inv-loop
-    μ-loop
-    loop-holds
-    shared-slice-read-plain
-    shared-slice-read-plain-2
-    shared-slice-read-sum
-    add-i
-    loop-less
-    loop-again
-    returns)
+look-spec = tie.close (tie.spec Inv-loop μ-loop loop-holds (λ c. omega arith) (λ c. omega arith) (λ c. omega arith) (λ c. omega arith) (λ c. omega arith) loop-again returns)

@@ -5,12 +5,9 @@ use Rattle.blocks.specs.declared.PartAt.{PartAt}
 use Rattle.blocks.proofs.part_check.Statement.{statement}
 use Rattle.blocks.proofs.part_check.Tie as tie
 
-find-requires : tie.Need-find-requires
-find-requires c κs = search needs
-
 returns : tie.Need-returns
 returns c =
     ap (λ (q : PartAt). q .number) (c .find .ensures .is)
 
 pub part-check-spec : {M : Type 1} → statement M
-part-check-spec = tie.close (tie.spec find-requires returns)
+part-check-spec = tie.close (tie.spec (λ c κs. search needs) returns)

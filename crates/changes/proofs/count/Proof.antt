@@ -5,43 +5,21 @@ use borrow.Author.Needs.{needs}
 use Rattle.changes.proofs.count.Statement.{statement}
 use Rattle.changes.proofs.count.Tie as tie
 
-grow-requires : tie.Need-grow-requires
-grow-requires c κs = search needs
-
 returns : tie.Need-returns
 unfolding counted
 returns c = rw (eq-eqb _ _ (c .before .if1 .taken), c .grow .ensures)
-
-grow-requires-2 : tie.Need-grow-requires-2
-grow-requires-2 c κs = search needs
 
 returns-2 : tie.Need-returns-2
 unfolding counted
 returns-2 c = rw (ne-eqb _ _ (c .before .before .if1 .left), eq-eqb _ _ (c .before .if2 .taken), c .grow2 .ensures)
 
-grow-requires-3 : tie.Need-grow-requires-3
-grow-requires-3 c κs = search needs
-
 returns-3 : tie.Need-returns-3
 unfolding counted
 returns-3 c = rw (ne-eqb _ _ (c .before .before .before .if1 .left), ne-eqb _ _ (c .before .before .if2 .left), eq-eqb _ _ (c .before .if3 .taken), c .grow3 .ensures)
-
-grow-requires-4 : tie.Need-grow-requires-4
-grow-requires-4 c κs = search needs
 
 returns-4 : tie.Need-returns-4
 unfolding counted
 returns-4 c = rw (ne-eqb _ _ (c .before .before .before .if1 .left), ne-eqb _ _ (c .before .before .if2 .left), ne-eqb _ _ (c .before .if3 .left), c .grow4 .ensures)
 
 pub count-spec : {M : Type 1} → statement M
-count-spec =
-    tie.close
-    (tie.spec
-    grow-requires
-    returns
-    grow-requires-2
-    returns-2
-    grow-requires-3
-    returns-3
-    grow-requires-4
-    returns-4)
+count-spec = tie.close (tie.spec (λ c κs. search needs) returns (λ c κs. search needs) returns-2 (λ c κs. search needs) returns-3 (λ c κs. search needs) returns-4)

@@ -3,11 +3,8 @@ use borrow.Author.Needs.{needs}
 use Rattle.changes.proofs.in_mode.Statement.{statement}
 use Rattle.changes.proofs.in_mode.Tie as tie
 
-empty-requires : tie.Need-empty-requires
-empty-requires c κs = search needs
-
 returns : tie.Need-returns
 returns c = rw (c .empty .ensures)
 
 pub in-mode-spec : {M : Type 1} → statement M
-in-mode-spec = tie.close (tie.spec empty-requires returns)
+in-mode-spec = tie.close (tie.spec (λ c κs. search needs) returns)

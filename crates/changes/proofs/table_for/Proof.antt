@@ -5,22 +5,13 @@ use borrow.Author.Needs.{needs}
 use Rattle.changes.proofs.table_for.Statement.{statement}
 use Rattle.changes.proofs.table_for.Tie as tie
 
-cast-month : tie.Need-cast-month
-cast-month c = search needs
-
-day-of-week-requires : tie.Need-day-of-week-requires
-day-of-week-requires c κs = search needs
-
 returns : tie.Need-returns
 unfolding tableFor
 returns c = rw (← c .before .day-of-week .ensures, lt-ltb _ _ (c .if1 .taken))
-
-add-result : tie.Need-add-result
-add-result c = search needs
 
 returns-2 : tie.Need-returns-2
 unfolding tableFor
 returns-2 c = rw (← c .before .day-of-week .ensures, le-ltb _ _ (c .if1 .left))
 
 pub table-for-spec : {M : Type 1} → statement M
-table-for-spec = tie.close (tie.spec cast-month day-of-week-requires returns add-result returns-2)
+table-for-spec = tie.close (tie.spec (λ c. search needs) (λ c κs. search needs) returns (λ c. search needs) returns-2)

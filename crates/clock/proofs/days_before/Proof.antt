@@ -7,15 +7,6 @@ use borrow.Author.Needs.{needs}
 use Rattle.clock.proofs.days_before.Statement.{statement}
 use Rattle.clock.proofs.days_before.Tie as tie
 
-less-one-requires : tie.Need-less-one-requires
-less-one-requires c κs = search needs
-
-mul-result : tie.Need-mul-result
-mul-result c = search needs
-
-array-read-result : tie.Need-array-read-result
-array-read-result c = search needs
-
 returns : tie.Need-returns
 unfolding daysBefore
 returns c = ap (λ (k : ℕ). getD daysBefore k 0) (c .before .less-one .ensures .0)
@@ -25,5 +16,4 @@ unfolding daysBefore
 returns-2 c = sym (ap (λ (k : ℕ). getD daysBefore k 0) (sym (c .before .less-one .ensures .0)) ∙ List·getD-eq-default daysBefore 0 (c .if1 .left))
 
 pub days-before-spec : {M : Type 1} → statement M
-days-before-spec =
-    tie.close (tie.spec less-one-requires mul-result array-read-result returns returns-2)
+days-before-spec = tie.close (tie.spec (λ c κs. search needs) (λ c. search needs) (λ c. search needs) returns returns-2)

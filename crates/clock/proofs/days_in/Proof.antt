@@ -5,9 +5,6 @@ use borrow.Author.Needs.{needs}
 use Rattle.clock.proofs.days_in.Statement.{statement}
 use Rattle.clock.proofs.days_in.Tie as tie
 
-is-leap-requires : tie.Need-is-leap-requires
-is-leap-requires c κs = search needs
-
 returns : tie.Need-returns
 unfolding daysIn thirty
 returns c = rw (eq-eqb _ _ (c .before .before .if1 .taken), ← c .before .is-leap .ensures, c .if2 .taken)
@@ -25,4 +22,4 @@ unfolding daysIn thirty
 returns-4 c = rw (ne-eqb _ _ (c .before .if1 .left), c .if3 .left)
 
 pub days-in-spec : {M : Type 1} → statement M
-days-in-spec = tie.close (tie.spec is-leap-requires returns returns-2 returns-3 returns-4)
+days-in-spec = tie.close (tie.spec (λ c κs. search needs) returns returns-2 returns-3 returns-4)

@@ -4,12 +4,9 @@ use borrow.Author.Needs.{needs}
 use Rattle.clock.proofs.is_date.Statement.{statement}
 use Rattle.clock.proofs.is_date.Tie as tie
 
-days-in-requires : tie.Need-days-in-requires
-days-in-requires c κs = search needs
-
 returns : tie.Need-returns
 unfolding realDate
 returns c = rw (c .days-in .ensures)
 
 pub is-date-spec : {M : Type 1} → statement M
-is-date-spec = tie.close (tie.spec days-in-requires returns)
+is-date-spec = tie.close (tie.spec (λ c κs. search needs) returns)

@@ -4,9 +4,6 @@ use borrow.Author.Needs.{needs}
 use Rattle.clock.proofs.leap_day.Statement.{statement}
 use Rattle.clock.proofs.leap_day.Tie as tie
 
-is-leap-requires : tie.Need-is-leap-requires
-is-leap-requires c κs = search needs
-
 returns : tie.Need-returns
 returns c = (rw (← c .before .is-leap .ensures, c .if1 .taken), omega arith)
 
@@ -14,4 +11,4 @@ returns-2 : tie.Need-returns-2
 returns-2 c = (rw (← c .before .is-leap .ensures, c .if1 .left), omega arith)
 
 pub leap-day-spec : {M : Type 1} → statement M
-leap-day-spec = tie.close (tie.spec is-leap-requires returns returns-2)
+leap-day-spec = tie.close (tie.spec (λ c κs. search needs) returns returns-2)

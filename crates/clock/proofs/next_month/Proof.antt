@@ -5,15 +5,9 @@ use borrow.Author.Needs.{needs}
 use Rattle.clock.proofs.next_month.Statement.{statement}
 use Rattle.clock.proofs.next_month.Tie as tie
 
-add-t4 : tie.Need-add-t4
-add-t4 c = search needs
-
 returns : tie.Need-returns
 unfolding nextMonth
 returns c = rw (lt-ltb _ _ (c .if1 .taken))
-
-add-t5 : tie.Need-add-t5
-add-t5 c = search needs
 
 returns-2 : tie.Need-returns-2
 unfolding nextMonth
@@ -24,4 +18,4 @@ unfolding nextMonth
 returns-3 c = rw (le-ltb _ _ (c .before .if1 .left), le-ltb _ _ (c .if2 .left))
 
 pub next-month-spec : {M : Type 1} → statement M
-next-month-spec = tie.close (tie.spec add-t4 returns add-t5 returns-2 returns-3)
+next-month-spec = tie.close (tie.spec (λ c. search needs) returns (λ c. search needs) returns-2 returns-3)

@@ -7,35 +7,14 @@ use Rattle.commands.proofs.Making.{too-short, built, field-refused}
 use Rattle.commands.proofs.confirm.Statement.{statement}
 use Rattle.commands.proofs.confirm.Tie as tie
 
-short-requires : tie.Need-short-requires
-short-requires c κs = search needs
-
 returns : tie.Need-returns
 returns c =
     too-short _ _ _ _ (c .before .if1 .taken) (c .short .ensures)
-
-refused-requires : tie.Need-refused-requires
-refused-requires c κs = search needs
 
 returns-2 : tie.Need-returns-2
 unfolding goodChoice
 returns-2 c =
     field-refused _ _ _ _ (c .before .before .if1 .left) (not-true _ (c .before .if2 .taken)) (c .refused .ensures)
-
-slice-aggregate-line-of : tie.Need-slice-aggregate-line-of
-slice-aggregate-line-of c = search needs
-
-slice-aggregate-line-of-2 : tie.Need-slice-aggregate-line-of-2
-slice-aggregate-line-of-2 c = search needs
-
-slice-aggregate-line-of-3 : tie.Need-slice-aggregate-line-of-3
-slice-aggregate-line-of-3 c = search needs
-
-line-of-requires : tie.Need-line-of-requires
-line-of-requires c κs = search needs
-
-same-length : tie.Need-same-length
-same-length c = search needs
 
 returns-3 : tie.Need-returns-3
 unfolding confirmation goodChoice
@@ -43,16 +22,4 @@ returns-3 c =
     built _ _ _ _ _ (c .before .before .before .before .before .before .before .before .if1 .left) (not-false _ (c .before .before .before .before .before .before .before .if2 .left)) (c .before .before .line-of .ensures)
 
 pub confirm-spec : {M : Type 1} → statement M
-confirm-spec =
-    tie.close
-    (tie.spec
-    short-requires
-    returns
-    refused-requires
-    returns-2
-    slice-aggregate-line-of
-    slice-aggregate-line-of-2
-    slice-aggregate-line-of-3
-    line-of-requires
-    same-length
-    returns-3)
+confirm-spec = tie.close (tie.spec (λ c κs. search needs) returns (λ c κs. search needs) returns-2 (λ c. search needs) (λ c. search needs) (λ c. search needs) (λ c κs. search needs) (λ c. search needs) returns-3)

@@ -1,45 +1,14 @@
--- `commands::enter` meets its contract: too short a buffer, or the command as it was made. Assumes nothing.
-use mathlib.Core.Path.{refl}
+-- `commands::enter` meets its contract: what is built is P1 with empty brackets. Assumes nothing.
 use borrow.Author.Needs.{needs}
 use Rattle.frames.specs.Commands.{bracketed}
 use Rattle.frames.specs.Session.{enterData}
 use Rattle.frames.specs.Frames.{frameOf, sealed}
-use Rattle.commands.proofs.Making.{too-short, built}
 use Rattle.commands.proofs.enter.Statement.{statement}
 use Rattle.commands.proofs.enter.Tie as tie
 
-short-requires : tie.Need-short-requires
-short-requires c κs = search needs
-
 returns : tie.Need-returns
-returns c =
-    too-short _ _ _ _ (c .before .if1 .taken) (c .short .ensures)
-
-slice-aggregate-frame : tie.Need-slice-aggregate-frame
-slice-aggregate-frame c = search needs
-
-slice-aggregate-frame-2 : tie.Need-slice-aggregate-frame-2
-slice-aggregate-frame-2 c = search needs
-
-frame-requires : tie.Need-frame-requires
-frame-requires c κs = search needs
-
-same-length : tie.Need-same-length
-same-length c = search needs
-
-returns-2 : tie.Need-returns-2
 unfolding frameOf sealed enterData bracketed
-returns-2 c =
-    built _ _ _ _ _ (c .before .before .before .before .before .before .if1 .left) refl (c .before .before .frame .ensures)
+returns c = c .before .before .build .ensures
 
 pub enter-spec : {M : Type 1} → statement M
-enter-spec =
-    tie.close
-    (tie.spec
-    short-requires
-    returns
-    slice-aggregate-frame
-    slice-aggregate-frame-2
-    frame-requires
-    same-length
-    returns-2)
+enter-spec = tie.close (tie.spec (λ c. search needs) (λ c. search needs) (λ c κs. search needs) (λ c. search needs) returns)

@@ -12,40 +12,9 @@ use Rattle.text.proofs.Writing.{filled}
 use Rattle.commands.proofs.shown_table.Statement.{statement}
 use Rattle.commands.proofs.shown_table.Tie as tie
 
-slice-aggregate-put-table : tie.Need-slice-aggregate-put-table
-slice-aggregate-put-table c = search needs
-
-put-table-requires : tie.Need-put-table-requires
-put-table-requires c κs = search needs
-
-slice-aggregate-put : tie.Need-slice-aggregate-put
-slice-aggregate-put c = search needs
-
-slice-aggregate-put-2 : tie.Need-slice-aggregate-put-2
-slice-aggregate-put-2 c = search needs
-
-put-requires : tie.Need-put-requires
-put-requires c κs = search needs
-
-slice-aggregate-put-3 : tie.Need-slice-aggregate-put-3
-slice-aggregate-put-3 c = search needs
-
-put-requires-2 : tie.Need-put-requires-2
-put-requires-2 c κs = search needs
-
 returns : tie.Need-returns
 returns c =
     let t = tableText (c .before .before .before .before .before .before .before .before .before .before .before .args .t .0) in let semicolon : List ℕ = 59 ∷ [] in let k = three _ t semicolon (c .before .before .before .before .before .before .before .before .before .before .before .args .row .now) _ _ _ _ _ _ (rw (table-text-long (c .before .before .before .before .before .before .before .before .before .before .before .args .t .0)) (c .before .before .before .before .before .before .before .before .put-table .ensures .0)) (c .before .before .before .before .before .before .before .before .put-table .ensures .1) (c .before .before .before .before .put .ensures .0) (c .before .before .before .before .put .ensures .1) (c .before .put2 .ensures .0) (c .before .put2 .ensures .1) in k .held ∙ filled _ _ (omega (arith, length-append t (59 ∷ c .before .before .before .before .before .before .before .before .before .before .before .args .row .now), table-text-long (c .before .before .before .before .before .before .before .before .before .before .before .args .t .0), c .before .before .before .before .before .before .before .before .before .before .before .pre))
 
 pub shown-table-spec : {M : Type 1} → statement M
-shown-table-spec =
-    tie.close
-    (tie.spec
-    slice-aggregate-put-table
-    put-table-requires
-    slice-aggregate-put
-    slice-aggregate-put-2
-    put-requires
-    slice-aggregate-put-3
-    put-requires-2
-    returns)
+shown-table-spec = tie.close (tie.spec (λ c. search needs) (λ c κs. search needs) (λ c. search needs) (λ c. search needs) (λ c κs. search needs) (λ c. search needs) (λ c κs. search needs) returns)

@@ -9,24 +9,9 @@ use Rattle.frames.specs.Frames.{bareFrame, sealed}
 use Rattle.commands.proofs.sign_off.Statement.{statement}
 use Rattle.commands.proofs.sign_off.Tie as tie
 
-short-requires : tie.Need-short-requires
-short-requires c κs = search needs
-
 returns : tie.Need-returns
 returns c =
     too-short _ _ _ _ (c .before .if1 .taken) (c .short .ensures)
-
-slice-aggregate-put : tie.Need-slice-aggregate-put
-slice-aggregate-put c = search needs
-
-put-requires : tie.Need-put-requires
-put-requires c κs = search needs
-
-seal-requires : tie.Need-seal-requires
-seal-requires c κs = search needs
-
-same-length : tie.Need-same-length
-same-length c = search needs
 
 returns-2 : tie.Need-returns-2
 unfolding bareFrame sealed
@@ -34,13 +19,4 @@ returns-2 c =
     let begun : List ℕ = 1 ∷ 66 ∷ 48 ∷ [] in built _ _ _ _ _ (c .before .before .before .before .before .before .before .before .before .if1 .left) refl (frame-made (c .before .before .before .before .before .before .before .before .before .before .before .args .buf .now) begun _ _ _ _ (c .before .before .before .before .before .before .put .ensures .1) (c .before .before .before .before .before .before .put .ensures .0) (omega arith) (omega arith) (c .before .before .seal .ensures .0) (c .before .before .seal .ensures .1))
 
 pub sign-off-spec : {M : Type 1} → statement M
-sign-off-spec =
-    tie.close
-    (tie.spec
-    short-requires
-    returns
-    slice-aggregate-put
-    put-requires
-    seal-requires
-    same-length
-    returns-2)
+sign-off-spec = tie.close (tie.spec (λ c κs. search needs) returns (λ c. search needs) (λ c κs. search needs) (λ c κs. search needs) (λ c. search needs) returns-2)

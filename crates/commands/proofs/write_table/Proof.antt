@@ -10,41 +10,17 @@ use Rattle.commands.proofs.Making.{too-short, built, field-refused}
 use Rattle.commands.proofs.write_table.Statement.{statement}
 use Rattle.commands.proofs.write_table.Tie as tie
 
-short-requires : tie.Need-short-requires
-short-requires c κs = search needs
-
 returns : tie.Need-returns
 returns c =
     too-short _ _ _ _ (c .before .if1 .taken) (c .short .ensures)
-
-is-table-requires : tie.Need-is-table-requires
-is-table-requires c κs = search needs
-
-is-row-requires : tie.Need-is-row-requires
-is-row-requires c κs = search needs
-
-refused-requires : tie.Need-refused-requires
-refused-requires c κs = search needs
 
 returns-2 : tie.Need-returns-2
 returns-2 c =
     field-refused _ _ _ _ (c .before .before .before .before .if1 .left) (rw (← c .before .before .before .is-table .ensures, ← c .before .before .is-row .ensures) (not-true _ (c .before .if2 .taken))) (c .refused .ensures)
 
-slice-aggregate-frame : tie.Need-slice-aggregate-frame
-slice-aggregate-frame c = search needs
-
 shown-table-requires : tie.Need-shown-table-requires
 shown-table-requires c κs =
     row-long _ (sym (c .before .before .before .is-row .ensures) ∙ and-right (c .before .before .before .before .is-table .result) (c .before .before .before .is-row .result) (not-false _ (c .before .before .if2 .left)))
-
-slice-aggregate-frame-2 : tie.Need-slice-aggregate-frame-2
-slice-aggregate-frame-2 c = search needs
-
-frame-requires : tie.Need-frame-requires
-frame-requires c κs = search needs
-
-same-length : tie.Need-same-length
-same-length c = search needs
 
 returns-3 : tie.Need-returns-3
 unfolding frameOf sealed setTable bracketed
@@ -52,18 +28,4 @@ returns-3 c =
     rw (← c .before .before .before .before .shown-table .ensures) (built _ _ _ _ _ (c .before .before .before .before .before .before .before .before .before .before .if1 .left) (rw (← c .before .before .before .before .before .before .before .before .before .is-table .ensures, ← c .before .before .before .before .before .before .before .before .is-row .ensures) (not-false _ (c .before .before .before .before .before .before .before .if2 .left))) (c .before .before .frame .ensures))
 
 pub write-table-spec : {M : Type 1} → statement M
-write-table-spec =
-    tie.close
-    (tie.spec
-    short-requires
-    returns
-    is-table-requires
-    is-row-requires
-    refused-requires
-    returns-2
-    slice-aggregate-frame
-    shown-table-requires
-    slice-aggregate-frame-2
-    frame-requires
-    same-length
-    returns-3)
+write-table-spec = tie.close (tie.spec (λ c κs. search needs) returns (λ c κs. search needs) (λ c κs. search needs) (λ c κs. search needs) returns-2 (λ c. search needs) shown-table-requires (λ c. search needs) (λ c κs. search needs) (λ c. search needs) returns-3)

@@ -9,15 +9,6 @@ returns : tie.Need-returns
 unfolding verdict
 returns c = rw (c .if1 .taken)
 
-rest-requires : tie.Need-rest-requires
-rest-requires c κs = search needs
-
-bcc-requires : tie.Need-bcc-requires
-bcc-requires c κs = search needs
-
-by-shape-requires : tie.Need-by-shape-requires
-by-shape-requires c κs = search needs
-
 returns-2 : tie.Need-returns-2
 unfolding verdict
 returns-2 c = rw (c .before .before .before .before .if1 .left, ← c .before .before .before .rest .ensures, ← c .before .before .bcc .ensures, eq-eqb _ _ (c .before .if2 .taken), c .by-shape .ensures)
@@ -27,5 +18,4 @@ unfolding verdict
 returns-3 c = rw (c .before .before .before .if1 .left, ← c .before .before .rest .ensures, ← c .before .bcc .ensures, ne-eqb _ _ (c .if2 .left))
 
 pub decide-spec : {M : Type 1} → statement M
-decide-spec =
-    tie.close (tie.spec returns rest-requires bcc-requires by-shape-requires returns-2 returns-3)
+decide-spec = tie.close (tie.spec returns (λ c κs. search needs) (λ c κs. search needs) (λ c κs. search needs) returns-2 returns-3)

@@ -5,21 +5,9 @@ use borrow.Author.Needs.{needs}
 use Rattle.deciding.proofs.enters.Statement.{statement}
 use Rattle.deciding.proofs.enters.Tie as tie
 
-slice-aggregate-same : tie.Need-slice-aggregate-same
-slice-aggregate-same c = search needs
-
-same-requires : tie.Need-same-requires
-same-requires c κs = search needs
-
 returns : tie.Need-returns
 unfolding entry bracketed
 returns c = rw (← c .before .same .ensures, c .if1 .taken)
-
-slice-aggregate-has-form : tie.Need-slice-aggregate-has-form
-slice-aggregate-has-form c = search needs
-
-has-form-requires : tie.Need-has-form-requires
-has-form-requires c κs = search needs
 
 returns-2 : tie.Need-returns-2
 unfolding entry bracketed
@@ -30,13 +18,4 @@ unfolding entry bracketed
 returns-3 c = rw (← c .before .before .before .before .same .ensures, c .before .before .before .if1 .left, ← c .before .has-form .ensures, c .if2 .left)
 
 pub enters-spec : {M : Type 1} → statement M
-enters-spec =
-    tie.close
-    (tie.spec
-    slice-aggregate-same
-    same-requires
-    returns
-    slice-aggregate-has-form
-    has-form-requires
-    returns-2
-    returns-3)
+enters-spec = tie.close (tie.spec (λ c. search needs) (λ c κs. search needs) returns (λ c. search needs) (λ c κs. search needs) returns-2 returns-3)

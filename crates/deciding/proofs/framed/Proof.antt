@@ -5,9 +5,6 @@ use borrow.Author.Needs.{needs}
 use Rattle.deciding.proofs.framed.Statement.{statement}
 use Rattle.deciding.proofs.framed.Tie as tie
 
-enters-requires : tie.Need-enters-requires
-enters-requires c κs = search needs
-
 returns : tie.Need-returns
 unfolding framedVerdict
 returns c = rw (c .before .before .if1 .taken, eq-eqb _ _ (c .before .if2 .taken), c .enters .ensures)
@@ -16,9 +13,6 @@ returns-2 : tie.Need-returns-2
 unfolding framedVerdict
 returns-2 c = rw (c .before .if1 .taken, ne-eqb _ _ (c .if2 .left))
 
-asks-requires : tie.Need-asks-requires
-asks-requires c κs = search needs
-
 returns-3 : tie.Need-returns-3
 unfolding framedVerdict
 returns-3 c = rw (c .before .before .before .if1 .left, c .before .before .if3 .taken, c .before .if4 .taken, c .asks .ensures)
@@ -26,9 +20,6 @@ returns-3 c = rw (c .before .before .before .if1 .left, c .before .before .if3 .
 returns-4 : tie.Need-returns-4
 unfolding framedVerdict
 returns-4 c = rw (c .before .before .if1 .left, c .before .if3 .taken, c .if4 .left)
-
-tells-requires : tie.Need-tells-requires
-tells-requires c κs = search needs
 
 returns-5 : tie.Need-returns-5
 unfolding framedVerdict
@@ -43,16 +34,4 @@ unfolding framedVerdict
 returns-7 c = rw (c .before .before .if1 .left, c .before .if3 .left, c .if5 .left)
 
 pub framed-spec : {M : Type 1} → statement M
-framed-spec =
-    tie.close
-    (tie.spec
-    enters-requires
-    returns
-    returns-2
-    asks-requires
-    returns-3
-    returns-4
-    tells-requires
-    returns-5
-    returns-6
-    returns-7)
+framed-spec = tie.close (tie.spec (λ c κs. search needs) returns returns-2 (λ c κs. search needs) returns-3 returns-4 (λ c κs. search needs) returns-5 returns-6 returns-7)

@@ -5,21 +5,6 @@ use borrow.Author.Needs.{needs}
 use Rattle.frames.proofs.seal.Statement.{statement}
 use Rattle.frames.proofs.seal.Tie as tie
 
-close-requires : tie.Need-close-requires
-close-requires c κs = search needs
-
-add-send : tie.Need-add-send
-add-send c = search needs
-
-send-requires : tie.Need-send-requires
-send-requires c κs = search needs
-
-add-result : tie.Need-add-result
-add-result c = search needs
-
-same-length : tie.Need-same-length
-same-length c = search needs
-
 returns : tie.Need-returns
 returns c =
     let start = c .before .before .before .before .before .before .before .before .before in
@@ -27,5 +12,4 @@ returns c =
     (refl, (rw shut at (c .before .before .send .ensures)) ∙ sending (start .args .buf .now) (start .args .n) (start .pre .0) (start .pre .1))
 
 pub seal-spec : {M : Type 1} → statement M
-seal-spec =
-    tie.close (tie.spec close-requires add-send send-requires add-result same-length returns)
+seal-spec = tie.close (tie.spec (λ c κs. search needs) (λ c. search needs) (λ c κs. search needs) (λ c. search needs) (λ c. search needs) returns)

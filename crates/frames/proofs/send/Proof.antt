@@ -5,27 +5,11 @@ use borrow.Author.Needs.{needs}
 use Rattle.frames.proofs.send.Statement.{statement}
 use Rattle.frames.proofs.send.Tie as tie
 
-slice-relend-prefix-put-parity : tie.Need-slice-relend-prefix-put-parity
-slice-relend-prefix-put-parity c = search needs
-
 slice-aggregate-put-parity : tie.Need-slice-aggregate-put-parity
 slice-aggregate-put-parity c = sym (length-take-le (c .before .before .args .n) (c .before .before .args .buf .now) (c .before .before .pre))
-
-put-parity-requires : tie.Need-put-parity-requires
-put-parity-requires c κs = search needs
-
-same-length : tie.Need-same-length
-same-length c = search needs
 
 returns : tie.Need-returns
 returns c = rw (c .before .before .put-parity .ensures)
 
 pub send-spec : {M : Type 1} → statement M
-send-spec =
-    tie.close
-    (tie.spec
-    slice-relend-prefix-put-parity
-    slice-aggregate-put-parity
-    put-parity-requires
-    same-length
-    returns)
+send-spec = tie.close (tie.spec (λ c. search needs) slice-aggregate-put-parity (λ c κs. search needs) (λ c. search needs) returns)

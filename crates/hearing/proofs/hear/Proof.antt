@@ -5,28 +5,17 @@ use borrow.Author.Needs.{needs}
 use Rattle.hearing.proofs.hear.Statement.{statement}
 use Rattle.hearing.proofs.hear.Tie as tie
 
-listen-requires : tie.Need-listen-requires
-listen-requires c κs = search needs
-
 returns : tie.Need-returns
 unfolding hearing
 returns c = rw (eq-eqb _ _ (c .before .if1 .taken), c .listen .ensures)
 
-confirm-requires : tie.Need-confirm-requires
-confirm-requires c κs = search needs
-
 returns-2 : tie.Need-returns-2
 unfolding hearing
 returns-2 c = rw (ne-eqb _ _ (c .before .before .if1 .left), eq-eqb _ _ (c .before .if2 .taken), c .confirm .ensures)
-
-frame-requires : tie.Need-frame-requires
-frame-requires c κs = search needs
 
 returns-3 : tie.Need-returns-3
 unfolding hearing
 returns-3 c = rw (ne-eqb _ _ (c .before .before .if1 .left), ne-eqb _ _ (c .before .if2 .left), c .frame .ensures)
 
 pub hear-spec : {M : Type 1} → statement M
-hear-spec =
-    tie.close
-    (tie.spec listen-requires returns confirm-requires returns-2 frame-requires returns-3)
+hear-spec = tie.close (tie.spec (λ c κs. search needs) returns (λ c κs. search needs) returns-2 (λ c κs. search needs) returns-3)

@@ -22,15 +22,6 @@ loop-holds : tie.Need-loop-holds Inv-loop μ-loop
 unfolding seven
 loop-holds c = (omega arith, refl)
 
-shared-slice-read-sum : tie.Need-shared-slice-read-sum Inv-loop μ-loop
-shared-slice-read-sum c = omega arith
-
-add-i : tie.Need-add-i Inv-loop μ-loop
-add-i c = omega arith
-
-loop-less : tie.Need-loop-less Inv-loop μ-loop
-loop-less c = omega arith
-
 loop-again : tie.Need-loop-again Inv-loop μ-loop
 loop-again c =
     let at-loop = c .before .before in
@@ -42,6 +33,4 @@ returns c =
     bcc-end (c .before .before .args .s .now) (c .before .loop .i) (c .before .loop .sum) _ (c .loop-test .left) (c .before .loop .inv .1)
 
 pub bcc-spec : {M : Type 1} → statement M
-bcc-spec =
-    tie.close
-    (tie.spec Inv-loop μ-loop loop-holds shared-slice-read-sum add-i loop-less loop-again returns)
+bcc-spec = tie.close (tie.spec Inv-loop μ-loop loop-holds (λ c. omega arith) (λ c. omega arith) (λ c. omega arith) loop-again returns)

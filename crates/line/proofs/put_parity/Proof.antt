@@ -19,18 +19,6 @@ abbrev μ-loop : tie.MeasureT-loop
 loop-holds : tie.Need-loop-holds Inv-loop μ-loop
 loop-holds c = (omega arith, refl, changed-none sent _)
 
-slice-read-wire : tie.Need-slice-read-wire Inv-loop μ-loop
-slice-read-wire c = omega arith
-
-wire-requires : tie.Need-wire-requires Inv-loop μ-loop
-wire-requires c κs = tt
-
-slice-write-s : tie.Need-slice-write-s Inv-loop μ-loop
-slice-write-s c = omega arith
-
-add-i : tie.Need-add-i Inv-loop μ-loop
-add-i c = omega arith
-
 loop-less : tie.Need-loop-less Inv-loop μ-loop
 loop-less c = simp length-set (omega arith)
 
@@ -56,17 +44,4 @@ returns c =
     c .before .loop .inv .2 ∙ changed-all sent (c .before .loop .i) s₀ h
 
 pub put-parity-spec : {M : Type 1} → statement M
-put-parity-spec =
-    tie.close
-    (tie.spec
-    Inv-loop
-    μ-loop
-    loop-holds
-    slice-read-wire
-    wire-requires
-    slice-write-s
-    add-i
-    loop-less
-    loop-again
-    same-length
-    returns)
+put-parity-spec = tie.close (tie.spec Inv-loop μ-loop loop-holds (λ c. omega arith) (λ c κs. tt) (λ c. omega arith) (λ c. omega arith) loop-less loop-again same-length returns)

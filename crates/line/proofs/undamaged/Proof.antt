@@ -23,21 +23,12 @@ abbrev μ-loop : tie.MeasureT-loop
 loop-holds : tie.Need-loop-holds Inv-loop μ-loop
 loop-holds c = (omega arith, refl)
 
-shared-slice-read-counts : tie.Need-shared-slice-read-counts Inv-loop μ-loop
-shared-slice-read-counts c = omega arith
-
 cast-counts : tie.Need-cast-counts Inv-loop μ-loop
 cast-counts c =
     let at-loop = c .before .before in
     let byte = getD (at-loop .before .args .s .now) (at-loop .loop .i) 0 in
     let small : byte < 256 = omega (arith, c .shared-slice-known .given (at-loop .loop .i)) in
     record { fits = omega (arith, ones-le 8 byte small) }
-
-add-i : tie.Need-add-i Inv-loop μ-loop
-add-i c = omega arith
-
-loop-less : tie.Need-loop-less Inv-loop μ-loop
-loop-less c = omega arith
 
 loop-again : tie.Need-loop-again Inv-loop μ-loop
 loop-again c =
@@ -56,15 +47,4 @@ returns c =
     every-end undamagedAt s (c .before .loop .i) (eqb (c .before .loop .counts % 2) 0) _ (c .loop-test .left) (c .before .loop .inv .1)
 
 pub undamaged-spec : {M : Type 1} → statement M
-undamaged-spec =
-    tie.close
-    (tie.spec
-    Inv-loop
-    μ-loop
-    loop-holds
-    shared-slice-read-counts
-    cast-counts
-    add-i
-    loop-less
-    loop-again
-    returns)
+undamaged-spec = tie.close (tie.spec Inv-loop μ-loop loop-holds (λ c. omega arith) cast-counts (λ c. omega arith) (λ c. omega arith) loop-again returns)

@@ -3,8 +3,5 @@ use mathlib.Core.Path.{refl}
 use Rattle.reading.proofs.ended.Statement.{statement}
 use Rattle.reading.proofs.ended.Tie as tie
 
-returns : tie.Need-returns
-returns c = refl
-
 pub ended-spec : {M : Type 1} → statement M
-ended-spec = tie.close (tie.spec returns)
+ended-spec = tie.close (tie.spec (λ c. refl))

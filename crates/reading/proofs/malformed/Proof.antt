@@ -3,8 +3,5 @@ use mathlib.Core.Path.{refl}
 use Rattle.reading.proofs.malformed.Statement.{statement}
 use Rattle.reading.proofs.malformed.Tie as tie
 
-returns : tie.Need-returns
-returns c = refl
-
 pub malformed-spec : {M : Type 1} → statement M
-malformed-spec = tie.close (tie.spec returns)
+malformed-spec = tie.close (tie.spec (λ c. refl))

@@ -12,9 +12,6 @@ use Rattle.reading.specs.Sets.{ofKind}
 use Rattle.reading.proofs.next_set.Statement.{statement}
 use Rattle.reading.proofs.next_set.Tie as tie
 
-ended-requires : tie.Need-ended-requires
-ended-requires c κs = search needs
-
 returns : tie.Need-returns
 returns c =
     c .ended .ensures ∙ past-end _ _ (c .before .if1 .taken)
@@ -23,18 +20,9 @@ run-requires : tie.Need-run-requires
 run-requires c κs =
     let s = c .before .before .args .«data» .now in let at = c .before .before .args .at in record { from = omega arith; there = omega (arith, c .if1 .left); few = omega arith; lead = passed (ofKind false) s at at 17 (omega arith) (omega (arith, c .if1 .left)) (omega arith) (none-passed (ofKind false) s at) }
 
-three-requires : tie.Need-three-requires
-three-requires c κs = search needs
-
-ended-requires-2 : tie.Need-ended-requires-2
-ended-requires-2 c κs = search needs
-
 returns-2 : tie.Need-returns-2
 returns-2 c =
     c .ended2 .ensures ∙ line-end _ _ (c .before .before .before .before .before .if1 .left) (sym (c .before .before .three .ensures) ∙ c .before .if3 .taken)
-
-malformed-requires : tie.Need-malformed-requires
-malformed-requires c κs = search needs
 
 returns-3 : tie.Need-returns-3
 returns-3 c =
@@ -44,42 +32,21 @@ add-open : tie.Need-add-open
 add-open c =
     record { fits = omega (arith, c .before .run .ensures .there, length-drop (c .before .before .before .before .args .at) (c .before .before .before .before .args .«data» .now)) }
 
-malformed-requires-2 : tie.Need-malformed-requires-2
-malformed-requires-2 c κs = search needs
-
 returns-4 : tie.Need-returns-4
 returns-4 c =
     let s = c .before .before .before .before .before .before .args .«data» .now in let at = c .before .before .before .before .before .before .args .at in let a = c .before .before .before .run .result in let one : 1 ≤ a = omega (arith, c .before .before .if2 .left) in c .malformed2 .ensures ∙ no-address s at (c .before .before .before .before .if1 .left) a (c .before .before .before .run .ensures .is) (no-end 17 (drop at s) (λ z. c .before .before .if2 .left (c .before .before .before .run .ensures .is ∙ z))) (rw (le-leb 1 a one, lt-leb a 16 (c .before .if4 .taken)))
-
-malformed-requires-3 : tie.Need-malformed-requires-3
-malformed-requires-3 c κs = search needs
 
 returns-5 : tie.Need-returns-5
 returns-5 c =
     let s = c .before .before .before .before .before .before .before .args .«data» .now in let at = c .before .before .before .before .before .before .before .args .at in let a = c .before .before .before .before .run .result in let one : 1 ≤ a = omega (arith, c .before .before .before .if2 .left) in c .malformed3 .ensures ∙ no-address s at (c .before .before .before .before .before .if1 .left) a (c .before .before .before .before .run .ensures .is) (no-end 17 (drop at s) (λ z. c .before .before .before .if2 .left (c .before .before .before .before .run .ensures .is ∙ z))) (rw (le-leb 1 a one, le-leb a 16 (c .before .before .if4 .left), List·getD-eq-default s 0 (c .before .if5 .taken)))
 
-shared-slice-read-if6 : tie.Need-shared-slice-read-if6
-shared-slice-read-if6 c = search needs
-
-malformed-requires-4 : tie.Need-malformed-requires-4
-malformed-requires-4 c κs = search needs
-
 returns-6 : tie.Need-returns-6
 returns-6 c =
     let s = c .before .before .before .before .before .before .before .before .before .args .«data» .now in let at = c .before .before .before .before .before .before .before .before .before .args .at in let a = c .before .before .before .before .before .before .run .result in let one : 1 ≤ a = omega (arith, c .before .before .before .before .before .if2 .left) in c .malformed4 .ensures ∙ no-address s at (c .before .before .before .before .before .before .before .if1 .left) a (c .before .before .before .before .before .before .run .ensures .is) (no-end 17 (drop at s) (λ z. c .before .before .before .before .before .if2 .left (c .before .before .before .before .before .before .run .ensures .is ∙ z))) (rw (le-leb 1 a one, le-leb a 16 (c .before .before .before .before .if4 .left), ne-eqb _ _ (c .before .if6 .taken)))
 
-add-first : tie.Need-add-first
-add-first c = search needs
-
-value-run-requires : tie.Need-value-run-requires
-value-run-requires c κs = search needs
-
 add-close : tie.Need-add-close
 add-close c =
     record { fits = omega (arith, c .value-run .ensures .there, length-drop (c .before .before .before .before .before .before .before .before .before .args .at + c .before .before .before .before .before .before .run .result + 1) (c .before .before .before .before .before .before .before .before .before .args .«data» .now)) }
-
-malformed-requires-5 : tie.Need-malformed-requires-5
-malformed-requires-5 c κs = search needs
 
 returns-7 : tie.Need-returns-7
 returns-7 c =
@@ -89,47 +56,13 @@ three-requires-2 : tie.Need-three-requires-2
 three-requires-2 c κs =
     omega (arith, c .before .value-run .ensures .there, length-drop (c .before .before .before .before .before .before .before .before .before .before .args .at + c .before .before .before .before .before .before .before .run .result + 1) (c .before .before .before .before .before .before .before .before .before .before .args .«data» .now))
 
-malformed-requires-6 : tie.Need-malformed-requires-6
-malformed-requires-6 c κs = search needs
-
 returns-8 : tie.Need-returns-8
 returns-8 c =
     let s = c .before .before .before .before .before .before .before .before .before .before .before .before .before .args .«data» .now in let at = c .before .before .before .before .before .before .before .before .before .before .before .before .before .args .at in let a = c .before .before .before .before .before .before .before .before .before .before .run .result in let one : 1 ≤ a = omega (arith, c .before .before .before .before .before .before .before .before .before .if2 .left) in c .malformed6 .ensures ∙ by-value s at (c .before .before .before .before .before .before .before .before .before .before .before .if1 .left) a (c .before .before .before .before .before .before .before .before .before .before .run .ensures .is) (no-end 17 (drop at s) (λ z. c .before .before .before .before .before .before .before .before .before .if2 .left (c .before .before .before .before .before .before .before .before .before .before .run .ensures .is ∙ z))) (rw (le-leb 1 a one, le-leb a 16 (c .before .before .before .before .before .before .before .before .if4 .left), eq-eqb _ _ (c .before .before .before .before .before .if6 .left))) (c .before .before .before .before .value-run .result) false (c .before .before .before .before .value-run .ensures .is) (rw (le-leb (c .before .before .before .before .value-run .result) 32 (c .before .before .before .if7 .left), ← c .before .before .three2 .ensures) (not-true _ (c .before .if8 .taken)))
-
-add-t8 : tie.Need-add-t8
-add-t8 c = search needs
 
 returns-9 : tie.Need-returns-9
 returns-9 c =
     let s = c .before .before .before .before .before .before .before .before .before .before .before .before .args .«data» .now in let at = c .before .before .before .before .before .before .before .before .before .before .before .before .args .at in let a = c .before .before .before .before .before .before .before .before .before .run .result in let one : 1 ≤ a = omega (arith, c .before .before .before .before .before .before .before .before .if2 .left) in by-value s at (c .before .before .before .before .before .before .before .before .before .before .if1 .left) a (c .before .before .before .before .before .before .before .before .before .run .ensures .is) (no-end 17 (drop at s) (λ z. c .before .before .before .before .before .before .before .before .if2 .left (c .before .before .before .before .before .before .before .before .before .run .ensures .is ∙ z))) (rw (le-leb 1 a one, le-leb a 16 (c .before .before .before .before .before .before .before .if4 .left), eq-eqb _ _ (c .before .before .before .before .if6 .left))) (c .before .before .before .value-run .result) true (c .before .before .before .value-run .ensures .is) (rw (le-leb (c .before .before .before .value-run .result) 32 (c .before .before .if7 .left), ← c .before .three2 .ensures) (not-false _ (c .if8 .left)))
 
 pub next-set-spec : {M : Type 1} → statement M
-next-set-spec =
-    tie.close
-    (tie.spec
-    ended-requires
-    returns
-    run-requires
-    three-requires
-    ended-requires-2
-    returns-2
-    malformed-requires
-    returns-3
-    add-open
-    malformed-requires-2
-    returns-4
-    malformed-requires-3
-    returns-5
-    shared-slice-read-if6
-    malformed-requires-4
-    returns-6
-    add-first
-    value-run-requires
-    add-close
-    malformed-requires-5
-    returns-7
-    three-requires-2
-    malformed-requires-6
-    returns-8
-    add-t8
-    returns-9)
+next-set-spec = tie.close (tie.spec (λ c κs. search needs) returns run-requires (λ c κs. search needs) (λ c κs. search needs) returns-2 (λ c κs. search needs) returns-3 add-open (λ c κs. search needs) returns-4 (λ c κs. search needs) returns-5 (λ c. search needs) (λ c κs. search needs) returns-6 (λ c. search needs) (λ c κs. search needs) add-close (λ c κs. search needs) returns-7 three-requires-2 (λ c κs. search needs) returns-8 (λ c. search needs) returns-9)

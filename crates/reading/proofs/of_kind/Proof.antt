@@ -4,16 +4,10 @@ use Rattle.reading.specs.Sets.{ofKind}
 use Rattle.reading.proofs.of_kind.Statement.{statement}
 use Rattle.reading.proofs.of_kind.Tie as tie
 
-is-value-requires : tie.Need-is-value-requires
-is-value-requires c κs = search needs
-
 returns : tie.Need-returns
 unfolding ofKind
 returns c =
     rw (c .before .if1 .taken) (c .is-value .ensures)
-
-is-address-requires : tie.Need-is-address-requires
-is-address-requires c κs = search needs
 
 returns-2 : tie.Need-returns-2
 unfolding ofKind
@@ -21,4 +15,4 @@ returns-2 c =
     rw (c .before .if1 .left) (c .is-address .ensures)
 
 pub of-kind-spec : {M : Type 1} → statement M
-of-kind-spec = tie.close (tie.spec is-value-requires returns is-address-requires returns-2)
+of-kind-spec = tie.close (tie.spec (λ c κs. search needs) returns (λ c κs. search needs) returns-2)

@@ -24,31 +24,10 @@ loop-holds c =
     let a = c .before .args in
     (omega arith, c .before .pre .0, c .before .pre .1, none-passed isValue (a .s .now) (a .at))
 
-add-loop : tie.Need-add-loop Inv-loop μ-loop
-add-loop c = omega arith
-
-add-j : tie.Need-add-j Inv-loop μ-loop
-add-j c = omega arith
-
-sub-all-between : tie.Need-sub-all-between Inv-loop μ-loop
-sub-all-between c = omega arith
-
-part-all-between-start : tie.Need-part-all-between-start Inv-loop μ-loop
-part-all-between-start c = omega arith
-
-part-all-between-end : tie.Need-part-all-between-end Inv-loop μ-loop
-part-all-between-end c = omega arith
-
-all-between-requires : tie.Need-all-between-requires Inv-loop μ-loop
-all-between-requires c κs = tt
-
 returns : tie.Need-returns Inv-loop μ-loop
 returns c =
     let inv = c .before .before .before .before .loop .inv in
     record { from = inv .0; within = inv .1; all = inv .3 }
-
-loop-less : tie.Need-loop-less Inv-loop μ-loop
-loop-less c = omega arith
 
 loop-again : tie.Need-loop-again Inv-loop μ-loop
 loop-again c =
@@ -65,19 +44,4 @@ returns-2 c =
     record { from = inv .0; within = inv .1; all = inv .3 }
 
 pub pass-eights-spec : {M : Type 1} → statement M
-pass-eights-spec =
-    tie.close
-    (tie.spec
-    Inv-loop
-    μ-loop
-    loop-holds
-    add-loop
-    add-j
-    sub-all-between
-    part-all-between-start
-    part-all-between-end
-    all-between-requires
-    returns
-    loop-less
-    loop-again
-    returns-2)
+pass-eights-spec = tie.close (tie.spec Inv-loop μ-loop loop-holds (λ c. omega arith) (λ c. omega arith) (λ c. omega arith) (λ c. omega arith) (λ c. omega arith) (λ c κs. tt) returns (λ c. omega arith) loop-again returns-2)

@@ -17,15 +17,6 @@ Inv-loop s at from value most n end i₀ i =
 abbrev μ-loop : tie.MeasureT-loop
 μ-loop s at from value most n end i₀ i = end - i
 
-sub-lesser : tie.Need-sub-lesser Inv-loop μ-loop
-sub-lesser c = omega arith
-
-lesser-requires : tie.Need-lesser-requires Inv-loop μ-loop
-lesser-requires c κs = tt
-
-add-end : tie.Need-add-end Inv-loop μ-loop
-add-end c = omega arith
-
 loop-holds : tie.Need-loop-holds Inv-loop μ-loop
 loop-holds c =
     let a = c .before .before .args in
@@ -33,15 +24,6 @@ loop-holds c =
     let few : a .from - a .at ≤ c .lesser .result =
     under (length (a .s .now) - a .at) (a .most) (c .lesser .result) (a .from - a .at) (c .lesser .ensures) (omega (arith, pre .there)) (pre .few) in
     (pre .from, omega arith, refl, omega arith, omega arith, pre .lead)
-
-shared-slice-read-of-kind : tie.Need-shared-slice-read-of-kind Inv-loop μ-loop
-shared-slice-read-of-kind c = omega arith
-
-of-kind-requires : tie.Need-of-kind-requires Inv-loop μ-loop
-of-kind-requires c κs = tt
-
-sub-result : tie.Need-sub-result Inv-loop μ-loop
-sub-result c = omega arith
 
 returns : tie.Need-returns Inv-loop μ-loop
 returns c =
@@ -54,12 +36,6 @@ returns c =
       is = leading-stop (ofKind (a .value)) (a .s .now) (a .at) (a .most) i _ (at-loop .loop .inv .0) (at-loop .loop .inv .5) h no-kind;
       there = omega (arith, length-drop (a .at) (a .s .now));
     }
-
-add-i : tie.Need-add-i Inv-loop μ-loop
-add-i c = omega arith
-
-loop-less : tie.Need-loop-less Inv-loop μ-loop
-loop-less c = omega arith
 
 loop-again : tie.Need-loop-again Inv-loop μ-loop
 loop-again c =
@@ -90,20 +66,4 @@ returns-2 c =
     }
 
 pub run-spec : {M : Type 1} → statement M
-run-spec =
-    tie.close
-    (tie.spec
-    Inv-loop
-    μ-loop
-    sub-lesser
-    lesser-requires
-    add-end
-    loop-holds
-    shared-slice-read-of-kind
-    of-kind-requires
-    sub-result
-    returns
-    add-i
-    loop-less
-    loop-again
-    returns-2)
+run-spec = tie.close (tie.spec Inv-loop μ-loop (λ c. omega arith) (λ c κs. tt) (λ c. omega arith) loop-holds (λ c. omega arith) (λ c κs. tt) (λ c. omega arith) returns (λ c. omega arith) (λ c. omega arith) loop-again returns-2)

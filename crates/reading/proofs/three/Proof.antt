@@ -10,28 +10,10 @@ use Rattle.reading.specs.Sets.{startsWith3}
 use Rattle.reading.proofs.three.Statement.{statement}
 use Rattle.reading.proofs.three.Tie as tie
 
-sub-if1 : tie.Need-sub-if1
-sub-if1 c = search needs
-
 returns : tie.Need-returns
 unfolding startsWith3
 returns c =
     let a = c .before .args in let few : length (drop (a .at) (a .s .now)) < 3 = omega (arith, length-drop (a .at) (a .s .now)) in rw (lt-leb 3 (length (drop (a .at) (a .s .now))) few)
-
-add-second : tie.Need-add-second
-add-second c = search needs
-
-add-third : tie.Need-add-third
-add-third c = search needs
-
-shared-slice-read-result : tie.Need-shared-slice-read-result
-shared-slice-read-result c = search needs
-
-shared-slice-read-result-2 : tie.Need-shared-slice-read-result-2
-shared-slice-read-result-2 c = search needs
-
-shared-slice-read-result-3 : tie.Need-shared-slice-read-result-3
-shared-slice-read-result-3 c = search needs
 
 returns-2 : tie.Need-returns-2
 unfolding startsWith3
@@ -39,14 +21,4 @@ returns-2 c =
     let a = c .before .before .before .before .args in let s = a .s .now in let enough : 3 ≤ length (drop (a .at) s) = omega (arith, length-drop (a .at) s) in rw (le-leb 3 (length (drop (a .at) s)) enough, getD-drop (a .at) s 0 0, getD-drop (a .at) s 1 0, getD-drop (a .at) s 2 0, add-zero (a .at))
 
 pub three-spec : {M : Type 1} → statement M
-three-spec =
-    tie.close
-    (tie.spec
-    sub-if1
-    returns
-    add-second
-    add-third
-    shared-slice-read-result
-    shared-slice-read-result-2
-    shared-slice-read-result-3
-    returns-2)
+three-spec = tie.close (tie.spec (λ c. search needs) returns (λ c. search needs) (λ c. search needs) (λ c. search needs) (λ c. search needs) (λ c. search needs) returns-2)

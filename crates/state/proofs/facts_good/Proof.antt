@@ -4,28 +4,9 @@ use borrow.Author.Needs.{needs}
 use Rattle.state.proofs.facts_good.Statement.{statement}
 use Rattle.state.proofs.facts_good.Tie as tie
 
-is-digits-requires : tie.Need-is-digits-requires
-is-digits-requires c κs = search needs
-
-is-account-requires : tie.Need-is-account-requires
-is-account-requires c κs = search needs
-
-is-digits-requires-2 : tie.Need-is-digits-requires-2
-is-digits-requires-2 c κs = search needs
-
-is-clock-requires : tie.Need-is-clock-requires
-is-clock-requires c κs = search needs
-
 returns : tie.Need-returns
 unfolding factsGood
 returns c = rw (c .before .before .before .is-digits .ensures, c .before .before .is-account .ensures, c .before .is-digits2 .ensures, c .is-clock .ensures)
 
 pub facts-good-spec : {M : Type 1} → statement M
-facts-good-spec =
-    tie.close
-    (tie.spec
-    is-digits-requires
-    is-account-requires
-    is-digits-requires-2
-    is-clock-requires
-    returns)
+facts-good-spec = tie.close (tie.spec (λ c κs. search needs) (λ c κs. search needs) (λ c κs. search needs) (λ c κs. search needs) returns)

@@ -4,15 +4,9 @@ use borrow.Author.Needs.{needs}
 use Rattle.state.proofs.is_well_formed.Statement.{statement}
 use Rattle.state.proofs.is_well_formed.Tie as tie
 
-receiver-good-requires : tie.Need-receiver-good-requires
-receiver-good-requires c κs = search needs
-
-registers-good-requires : tie.Need-registers-good-requires
-registers-good-requires c κs = search needs
-
 returns : tie.Need-returns
 unfolding wellFormed
 returns c = rw (c .before .receiver-good .ensures, c .registers-good .ensures)
 
 pub is-well-formed-spec : {M : Type 1} → statement M
-is-well-formed-spec = tie.close (tie.spec receiver-good-requires registers-good-requires returns)
+is-well-formed-spec = tie.close (tie.spec (λ c κs. search needs) (λ c κs. search needs) returns)

@@ -5,21 +5,6 @@ use borrow.Author.Needs.{needs}
 use Rattle.state.proofs.receiver_good.Statement.{statement}
 use Rattle.state.proofs.receiver_good.Tie as tie
 
-limit-of-requires : tie.Need-limit-of-requires
-limit-of-requires c κs = search needs
-
-array-read-first : tie.Need-array-read-first
-array-read-first c = search needs
-
-first-good-requires : tie.Need-first-good-requires
-first-good-requires c κs = search needs
-
-slice-aggregate-held-good : tie.Need-slice-aggregate-held-good
-slice-aggregate-held-good c = search needs
-
-held-good-requires : tie.Need-held-good-requires
-held-good-requires c κs = search needs
-
 returns : tie.Need-returns
 unfolding receiverGood markGood
 returns c = rw (← c .before .before .before .before .before .limit-of .ensures, le-leb _ _ (c .before .before .before .before .if1 .taken), c .before .before .first-good .ensures, c .held-good .ensures)
@@ -29,13 +14,4 @@ unfolding receiverGood markGood
 returns-2 c = rw (← c .before .limit-of .ensures, lt-leb _ _ (c .if1 .left))
 
 pub receiver-good-spec : {M : Type 1} → statement M
-receiver-good-spec =
-    tie.close
-    (tie.spec
-    limit-of-requires
-    array-read-first
-    first-good-requires
-    slice-aggregate-held-good
-    held-good-requires
-    returns
-    returns-2)
+receiver-good-spec = tie.close (tie.spec (λ c κs. search needs) (λ c. search needs) (λ c κs. search needs) (λ c. search needs) (λ c κs. search needs) returns returns-2)

@@ -4,12 +4,9 @@ use borrow.Author.Needs.{needs}
 use Rattle.state.proofs.tables_good.Statement.{statement}
 use Rattle.state.proofs.tables_good.Tie as tie
 
-all-between-requires : tie.Need-all-between-requires
-all-between-requires c κs = search needs
-
 returns : tie.Need-returns
 unfolding tablesGood
 returns c = rw (c .all-between .ensures)
 
 pub tables-good-spec : {M : Type 1} → statement M
-tables-good-spec = tie.close (tie.spec all-between-requires returns)
+tables-good-spec = tie.close (tie.spec (λ c κs. search needs) returns)

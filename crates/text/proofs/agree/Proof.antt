@@ -4,12 +4,9 @@ use borrow.Author.Needs.{needs}
 use Rattle.text.proofs.agree.Statement.{statement}
 use Rattle.text.proofs.agree.Tie as tie
 
-is-digit-requires : tie.Need-is-digit-requires
-is-digit-requires c κs = tt
-
 returns : tie.Need-returns
 unfolding agrees
 returns c = rw (c .is-digit .ensures)
 
 pub agree-spec : {M : Type 1} → statement M
-agree-spec = tie.close (tie.spec is-digit-requires returns)
+agree-spec = tie.close (tie.spec (λ c κs. tt) returns)

@@ -26,21 +26,6 @@ loop-holds : tie.Need-loop-holds Inv-loop μ-loop
 unfolding fits
 loop-holds c = (omega arith, omega arith, refl)
 
-shared-slice-read-agree : tie.Need-shared-slice-read-agree Inv-loop μ-loop
-shared-slice-read-agree c = omega arith
-
-shared-slice-read-agree-2 : tie.Need-shared-slice-read-agree-2 Inv-loop μ-loop
-shared-slice-read-agree-2 c = omega arith
-
-agree-requires : tie.Need-agree-requires Inv-loop μ-loop
-agree-requires c κs = tt
-
-add-i : tie.Need-add-i Inv-loop μ-loop
-add-i c = omega arith
-
-loop-less : tie.Need-loop-less Inv-loop μ-loop
-loop-less c = omega arith
-
 loop-again : tie.Need-loop-again Inv-loop μ-loop
 loop-again c =
     let at-loop = c .before .before .before .before in
@@ -56,17 +41,4 @@ returns-2 c =
     matching-end agrees (a .p .now) (a .s .now) (c .before .loop .i) (c .before .loop .ok) _ (c .loop-test .left) (omega arith) (c .before .loop .inv .2)
 
 pub has-form-spec : {M : Type 1} → statement M
-has-form-spec =
-    tie.close
-    (tie.spec
-    Inv-loop
-    μ-loop
-    returns
-    loop-holds
-    shared-slice-read-agree
-    shared-slice-read-agree-2
-    agree-requires
-    add-i
-    loop-less
-    loop-again
-    returns-2)
+has-form-spec = tie.close (tie.spec Inv-loop μ-loop returns loop-holds (λ c. omega arith) (λ c. omega arith) (λ c κs. tt) (λ c. omega arith) (λ c. omega arith) loop-again returns-2)

@@ -24,15 +24,6 @@ shared-slice-read-is-account-character :
     tie.Need-shared-slice-read-is-account-character Inv-loop μ-loop
 shared-slice-read-is-account-character c = omega arith
 
-is-account-character-requires : tie.Need-is-account-character-requires Inv-loop μ-loop
-is-account-character-requires c κs = tt
-
-add-i : tie.Need-add-i Inv-loop μ-loop
-add-i c = omega arith
-
-loop-less : tie.Need-loop-less Inv-loop μ-loop
-loop-less c = omega arith
-
 loop-again : tie.Need-loop-again Inv-loop μ-loop
 loop-again c =
     let at-loop = c .before .before .before in
@@ -48,15 +39,4 @@ returns c =
     ap (λ (b : Bool). eqb (length (a .s .now)) 10 && b) e
 
 pub is-account-spec : {M : Type 1} → statement M
-is-account-spec =
-    tie.close
-    (tie.spec
-    Inv-loop
-    μ-loop
-    loop-holds
-    shared-slice-read-is-account-character
-    is-account-character-requires
-    add-i
-    loop-less
-    loop-again
-    returns)
+is-account-spec = tie.close (tie.spec Inv-loop μ-loop loop-holds shared-slice-read-is-account-character (λ c κs. tt) (λ c. omega arith) (λ c. omega arith) loop-again returns)

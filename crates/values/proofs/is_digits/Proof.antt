@@ -5,12 +5,9 @@ use borrow.Author.Needs.{needs}
 use Rattle.values.proofs.is_digits.Statement.{statement}
 use Rattle.values.proofs.is_digits.Tie as tie
 
-all-between-requires : tie.Need-all-between-requires
-all-between-requires c κs = search needs
-
 returns : tie.Need-returns
 unfolding goodDigits between isDigit isLetter
 returns c = rw (c .all-between .ensures)
 
 pub is-digits-spec : {M : Type 1} → statement M
-is-digits-spec = tie.close (tie.spec all-between-requires returns)
+is-digits-spec = tie.close (tie.spec (λ c κs. search needs) returns)

@@ -15,6 +15,7 @@ trait Head {
     fn strip(&self, reply: &[u8], out: &mut [u8]) -> (u8, usize);
     fn part(&self, stripped: &[u8]) -> (u8, usize, usize);
     fn next(&self, sets: &[u8], at: usize) -> Step;
+    fn set_after(&self, sets: &[u8], count: usize) -> (usize, Step);
     fn value(&self, kind: Kind, value: &[u8]) -> (u8, Vec<u32>);
 }
 
@@ -33,6 +34,9 @@ impl Head for Proved {
     fn next(&self, sets: &[u8], at: usize) -> Step {
         head_link::next(sets, at)
     }
+    fn set_after(&self, sets: &[u8], count: usize) -> (usize, Step) {
+        head_link::set_after(sets, count)
+    }
     fn value(&self, kind: Kind, value: &[u8]) -> (u8, Vec<u32>) {
         head_link::value(kind, value)
     }
@@ -44,6 +48,18 @@ fn ruled_part(stripped: &[u8]) -> (u8, usize, usize) {
         Ok(part) => (answer::DONE, part.start, part.len()),
         Err(refusal) => (refusal, 0, 0),
     }
+}
+
+/// Where the model's reader stands after so many sets, and what it answers there.
+fn ruled_set_after(sets: &[u8], count: usize) -> (usize, Step) {
+    let mut at = 0;
+    for _ in 0..count {
+        match model::next(sets, at) {
+            step if step.answer == answer::DONE => at = step.next,
+            stays => return (at, stays),
+        }
+    }
+    (at, model::next(sets, at))
 }
 
 // Chance, the same for the same seed.
@@ -293,14 +309,28 @@ impl<'h> Trial<'h> {
         Ok(ruled)
     }
 
-    /// Reads sets from a place on until the reader stays.
-    fn walk(&mut self, sets: &[u8], mut at: usize) -> Outcome {
+    fn set_after(&mut self, sets: &[u8], count: usize) -> Outcome {
+        self.cases += 1;
+        let told = self.head.set_after(sets, count);
+        let ruled = ruled_set_after(sets, count);
+        if told != ruled {
+            let input = format!("{} after {count} sets", hex(sets));
+            return Err(difference("set_after", input, &told, &ruled));
+        }
+        Ok(())
+    }
+
+    /// Reads sets until the reader stays, each from the place before and each by its number.
+    fn walk(&mut self, sets: &[u8]) -> Outcome {
+        let (mut at, mut count) = (0, 0);
         loop {
             let step = self.next(sets, at)?;
+            self.set_after(sets, count)?;
             if step.answer != answer::DONE {
-                return Ok(());
+                self.set_after(sets, count + 1)?;
+                return self.set_after(sets, usize::MAX);
             }
-            at = step.next;
+            (at, count) = (step.next, count + 1);
         }
     }
 
@@ -633,7 +663,7 @@ fn data_sets(t: &mut Trial) -> Outcome {
         }
     }
     every_text(b"A()!\r\n", 6, |text| {
-        t.walk(text, 0)?;
+        t.walk(text)?;
         t.next(text, 1).map(drop)
     })?;
     for address_length in 0..=20 {
@@ -642,7 +672,7 @@ fn data_sets(t: &mut Trial) -> Outcome {
             text.push(b'(');
             text.extend(t.chance.text(VALUE, value_length));
             text.extend(b")\r\n");
-            t.walk(&text, 0)?;
+            t.walk(&text)?;
             for length in 0..text.len() {
                 t.next(&text[..length], 0)?;
             }
@@ -662,7 +692,7 @@ fn data_sets(t: &mut Trial) -> Outcome {
         for _ in 0..t.chance.between(1, 2) {
             t.chance.hurt(&mut data);
         }
-        t.walk(&data, 0)?;
+        t.walk(&data)?;
     }
     for _ in 0..60_000 {
         let length = t.chance.below(60);
@@ -687,7 +717,7 @@ fn hurt_lines(t: &mut Trial, line: &[u8]) -> Outcome {
         number += 1;
         let text = [before, hurt, after].concat();
         t.next(&text, before.len())?;
-        t.walk(&text, 0)
+        t.walk(&text)
     };
     for place in 0..line.len() {
         let mut changed = line.to_vec();
@@ -868,12 +898,13 @@ enum Fault {
     LeavesTheEnd,
     PlaceNotGiven,
     TakesValueOf33,
+    CountsFromOne,
     TakesAnyLeapDay,
     KeepsARefusedCounter,
     ZeroCharacters,
 }
 
-const FAULTS: [(Fault, Section); 20] = [
+const FAULTS: [(Fault, Section); 21] = [
     (Fault::WritesBeforeItChecks, commands),
     (Fault::FieldBeforeRoom, commands),
     (Fault::BuildsInRoom63, commands),
@@ -891,6 +922,7 @@ const FAULTS: [(Fault, Section); 20] = [
     (Fault::LeavesTheEnd, data_sets),
     (Fault::PlaceNotGiven, data_sets),
     (Fault::TakesValueOf33, data_sets),
+    (Fault::CountsFromOne, data_sets),
     (Fault::TakesAnyLeapDay, values),
     (Fault::KeepsARefusedCounter, values),
     (Fault::ZeroCharacters, values),
@@ -998,6 +1030,13 @@ impl Head for Wrong {
                 }
             }
             _ => told,
+        }
+    }
+
+    fn set_after(&self, sets: &[u8], count: usize) -> (usize, Step) {
+        match self.0 {
+            Fault::CountsFromOne => ruled_set_after(sets, count.saturating_sub(1)),
+            _ => ruled_set_after(sets, count),
         }
     }
 

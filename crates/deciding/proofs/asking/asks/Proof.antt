@@ -5,55 +5,21 @@ use borrow.Author.Needs.{needs}
 use Rattle.deciding.proofs.asking.asks.Statement.{statement}
 use Rattle.deciding.proofs.asking.asks.Tie as tie
 
-slice-aggregate-same : tie.Need-slice-aggregate-same
-slice-aggregate-same c = search needs
-
-same-requires : tie.Need-same-requires
-same-requires c κs = search needs
-
 returns : tie.Need-returns
 unfolding asked askClock askSerial askAccount bracketed
 returns c = rw (← c .before .same .ensures, c .if1 .taken)
-
-slice-aggregate-same-2 : tie.Need-slice-aggregate-same-2
-slice-aggregate-same-2 c = search needs
-
-same-requires-2 : tie.Need-same-requires-2
-same-requires-2 c κs = search needs
 
 returns-2 : tie.Need-returns-2
 unfolding asked askClock askSerial askAccount bracketed
 returns-2 c = rw (← c .before .before .before .before .same .ensures, c .before .before .before .if1 .left, ← c .before .same2 .ensures, c .if2 .taken)
 
-slice-aggregate-same-3 : tie.Need-slice-aggregate-same-3
-slice-aggregate-same-3 c = search needs
-
-same-requires-3 : tie.Need-same-requires-3
-same-requires-3 c κs = search needs
-
 returns-3 : tie.Need-returns-3
 unfolding asked askClock askSerial askAccount bracketed
 returns-3 c = rw (← c .before .before .before .before .before .before .before .same .ensures, c .before .before .before .before .before .before .if1 .left, ← c .before .before .before .before .same2 .ensures, c .before .before .before .if2 .left, ← c .before .same3 .ensures, c .if3 .taken)
-
-energy-requires : tie.Need-energy-requires
-energy-requires c κs = search needs
 
 returns-4 : tie.Need-returns-4
 unfolding asked askClock askSerial askAccount bracketed
 returns-4 c = rw (← c .before .before .before .before .before .before .before .before .same .ensures, c .before .before .before .before .before .before .before .if1 .left, ← c .before .before .before .before .before .same2 .ensures, c .before .before .before .before .if2 .left, ← c .before .before .same3 .ensures, c .before .if3 .left, c .energy .ensures)
 
 pub asks-spec : {M : Type 1} → statement M
-asks-spec =
-    tie.close
-    (tie.spec
-    slice-aggregate-same
-    same-requires
-    returns
-    slice-aggregate-same-2
-    same-requires-2
-    returns-2
-    slice-aggregate-same-3
-    same-requires-3
-    returns-3
-    energy-requires
-    returns-4)
+asks-spec = tie.close (tie.spec (λ c. search needs) (λ c κs. search needs) returns (λ c. search needs) (λ c κs. search needs) returns-2 (λ c. search needs) (λ c κs. search needs) returns-3 (λ c κs. search needs) returns-4)

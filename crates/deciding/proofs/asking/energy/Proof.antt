@@ -5,81 +5,29 @@ use borrow.Author.Needs.{needs}
 use Rattle.deciding.proofs.asking.energy.Statement.{statement}
 use Rattle.deciding.proofs.asking.energy.Tie as tie
 
-slice-aggregate-same : tie.Need-slice-aggregate-same
-slice-aggregate-same c = search needs
-
-same-requires : tie.Need-same-requires
-same-requires c κs = search needs
-
 returns : tie.Need-returns
 unfolding energyAsked askEnergy bracketed
 returns c = rw (← c .before .same .ensures, c .if1 .taken)
-
-slice-aggregate-same-2 : tie.Need-slice-aggregate-same-2
-slice-aggregate-same-2 c = search needs
-
-same-requires-2 : tie.Need-same-requires-2
-same-requires-2 c κs = search needs
 
 returns-2 : tie.Need-returns-2
 unfolding energyAsked askEnergy bracketed
 returns-2 c = rw (← c .before .before .before .before .same .ensures, c .before .before .before .if1 .left, ← c .before .same2 .ensures, c .if2 .taken)
 
-slice-aggregate-same-3 : tie.Need-slice-aggregate-same-3
-slice-aggregate-same-3 c = search needs
-
-same-requires-3 : tie.Need-same-requires-3
-same-requires-3 c κs = search needs
-
 returns-3 : tie.Need-returns-3
 unfolding energyAsked askEnergy bracketed
 returns-3 c = rw (← c .before .before .before .before .before .before .before .same .ensures, c .before .before .before .before .before .before .if1 .left, ← c .before .before .before .before .same2 .ensures, c .before .before .before .if2 .left, ← c .before .same3 .ensures, c .if3 .taken)
-
-slice-aggregate-same-4 : tie.Need-slice-aggregate-same-4
-slice-aggregate-same-4 c = search needs
-
-same-requires-4 : tie.Need-same-requires-4
-same-requires-4 c κs = search needs
 
 returns-4 : tie.Need-returns-4
 unfolding energyAsked askEnergy bracketed
 returns-4 c = rw (← c .before .before .before .before .before .before .before .before .before .before .same .ensures, c .before .before .before .before .before .before .before .before .before .if1 .left, ← c .before .before .before .before .before .before .before .same2 .ensures, c .before .before .before .before .before .before .if2 .left, ← c .before .before .before .before .same3 .ensures, c .before .before .before .if3 .left, ← c .before .same4 .ensures, c .if4 .taken)
 
-slice-aggregate-same-5 : tie.Need-slice-aggregate-same-5
-slice-aggregate-same-5 c = search needs
-
-same-requires-5 : tie.Need-same-requires-5
-same-requires-5 c κs = search needs
-
 returns-5 : tie.Need-returns-5
 unfolding energyAsked askEnergy bracketed
 returns-5 c = rw (← c .before .before .before .before .before .before .before .before .before .before .before .before .before .same .ensures, c .before .before .before .before .before .before .before .before .before .before .before .before .if1 .left, ← c .before .before .before .before .before .before .before .before .before .before .same2 .ensures, c .before .before .before .before .before .before .before .before .before .if2 .left, ← c .before .before .before .before .before .before .before .same3 .ensures, c .before .before .before .before .before .before .if3 .left, ← c .before .before .before .before .same4 .ensures, c .before .before .before .if4 .left, ← c .before .same5 .ensures, c .if5 .taken)
-
-table-requires : tie.Need-table-requires
-table-requires c κs = search needs
 
 returns-6 : tie.Need-returns-6
 unfolding energyAsked askEnergy bracketed
 returns-6 c = rw (← c .before .before .before .before .before .before .before .before .before .before .before .before .before .before .same .ensures, c .before .before .before .before .before .before .before .before .before .before .before .before .before .if1 .left, ← c .before .before .before .before .before .before .before .before .before .before .before .same2 .ensures, c .before .before .before .before .before .before .before .before .before .before .if2 .left, ← c .before .before .before .before .before .before .before .before .same3 .ensures, c .before .before .before .before .before .before .before .if3 .left, ← c .before .before .before .before .before .same4 .ensures, c .before .before .before .before .if4 .left, ← c .before .before .same5 .ensures, c .before .if5 .left, c .table .ensures)
 
 pub energy-spec : {M : Type 1} → statement M
-energy-spec =
-    tie.close
-    (tie.spec
-    slice-aggregate-same
-    same-requires
-    returns
-    slice-aggregate-same-2
-    same-requires-2
-    returns-2
-    slice-aggregate-same-3
-    same-requires-3
-    returns-3
-    slice-aggregate-same-4
-    same-requires-4
-    returns-4
-    slice-aggregate-same-5
-    same-requires-5
-    returns-5
-    table-requires
-    returns-6)
+energy-spec = tie.close (tie.spec (λ c. search needs) (λ c κs. search needs) returns (λ c. search needs) (λ c κs. search needs) returns-2 (λ c. search needs) (λ c κs. search needs) returns-3 (λ c. search needs) (λ c κs. search needs) returns-4 (λ c. search needs) (λ c κs. search needs) returns-5 (λ c κs. search needs) returns-6)

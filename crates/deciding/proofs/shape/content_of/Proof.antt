@@ -4,18 +4,9 @@ use borrow.Author.Needs.{needs}
 use Rattle.deciding.proofs.shape.content_of.Statement.{statement}
 use Rattle.deciding.proofs.shape.content_of.Tie as tie
 
-less-requires : tie.Need-less-requires
-less-requires c κs = search needs
-
-rest-requires : tie.Need-rest-requires
-rest-requires c κs = search needs
-
-first-requires : tie.Need-first-requires
-first-requires c κs = search needs
-
 returns : tie.Need-returns
 unfolding content
 returns c = rw (c .first .ensures, c .before .rest .ensures, c .before .before .less .ensures)
 
 pub content-of-spec : {M : Type 1} → statement M
-content-of-spec = tie.close (tie.spec less-requires rest-requires first-requires returns)
+content-of-spec = tie.close (tie.spec (λ c κs. search needs) (λ c κs. search needs) (λ c κs. search needs) returns)

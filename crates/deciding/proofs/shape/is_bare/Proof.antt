@@ -4,15 +4,9 @@ use borrow.Author.Needs.{needs}
 use Rattle.deciding.proofs.shape.is_bare.Statement.{statement}
 use Rattle.deciding.proofs.shape.is_bare.Tie as tie
 
-start-good-requires : tie.Need-start-good-requires
-start-good-requires c κs = search needs
-
-at-requires : tie.Need-at-requires
-at-requires c κs = search needs
-
 returns : tie.Need-returns
 unfolding bareShape
 returns c = rw (c .before .start-good .ensures, c .at .ensures)
 
 pub is-bare-spec : {M : Type 1} → statement M
-is-bare-spec = tie.close (tie.spec start-good-requires at-requires returns)
+is-bare-spec = tie.close (tie.spec (λ c κs. search needs) (λ c κs. search needs) returns)

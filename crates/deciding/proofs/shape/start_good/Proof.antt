@@ -5,18 +5,9 @@ use borrow.Author.Needs.{needs}
 use Rattle.deciding.proofs.shape.start_good.Statement.{statement}
 use Rattle.deciding.proofs.shape.start_good.Tie as tie
 
-at-requires : tie.Need-at-requires
-at-requires c κs = search needs
-
-at-requires-2 : tie.Need-at-requires-2
-at-requires-2 c κs = search needs
-
-at-requires-3 : tie.Need-at-requires-3
-at-requires-3 c κs = search needs
-
 returns : tie.Need-returns
 unfolding startGood isPrintable between
 returns c = rw (c .before .before .at .ensures, c .before .at2 .ensures, c .at3 .ensures)
 
 pub start-good-spec : {M : Type 1} → statement M
-start-good-spec = tie.close (tie.spec at-requires at-requires-2 at-requires-3 returns)
+start-good-spec = tie.close (tie.spec (λ c κs. search needs) (λ c κs. search needs) (λ c κs. search needs) returns)

@@ -4,9 +4,6 @@ use borrow.Author.Needs.{needs}
 use Rattle.deciding.proofs.telling.account.Statement.{statement}
 use Rattle.deciding.proofs.telling.account.Tie as tie
 
-is-account-requires : tie.Need-is-account-requires
-is-account-requires c κs = search needs
-
 returns : tie.Need-returns
 unfolding accountTold
 returns c = rw (← c .before .is-account .ensures, c .if1 .taken)
@@ -16,4 +13,4 @@ unfolding accountTold
 returns-2 c = rw (← c .before .is-account .ensures, c .if1 .left)
 
 pub account-spec : {M : Type 1} → statement M
-account-spec = tie.close (tie.spec is-account-requires returns returns-2)
+account-spec = tie.close (tie.spec (λ c κs. search needs) returns returns-2)

@@ -4,9 +4,6 @@ use borrow.Author.Needs.{needs}
 use Rattle.deciding.proofs.telling.clock.Statement.{statement}
 use Rattle.deciding.proofs.telling.clock.Tie as tie
 
-read-clock-requires : tie.Need-read-clock-requires
-read-clock-requires c κs = search needs
-
 returns : tie.Need-returns
 unfolding clockTold
 returns c = rw (← c .before .before .read-clock .ensures, c .before .if1 .taken)
@@ -16,4 +13,4 @@ unfolding clockTold
 returns-2 c = rw (← c .before .read-clock .ensures, c .if1 .left)
 
 pub clock-spec : {M : Type 1} → statement M
-clock-spec = tie.close (tie.spec read-clock-requires returns returns-2)
+clock-spec = tie.close (tie.spec (λ c κs. search needs) returns returns-2)

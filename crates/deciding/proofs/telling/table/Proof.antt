@@ -4,21 +4,6 @@ use borrow.Author.Needs.{needs}
 use Rattle.deciding.proofs.telling.table.Statement.{statement}
 use Rattle.deciding.proofs.telling.table.Tie as tie
 
-at-requires : tie.Need-at-requires
-at-requires c κs = search needs
-
-rest-requires : tie.Need-rest-requires
-rest-requires c κs = search needs
-
-is-row-requires : tie.Need-is-row-requires
-is-row-requires c κs = search needs
-
-first-requires : tie.Need-first-requires
-first-requires c κs = search needs
-
-read-table-requires : tie.Need-read-table-requires
-read-table-requires c κs = search needs
-
 returns : tie.Need-returns
 unfolding tableTold
 returns c = rw (← c .before .before .before .before .before .before .before .at .ensures, ← c .before .before .before .before .before .before .rest .ensures, ← c .before .before .before .before .before .is-row .ensures, c .before .before .before .before .if1 .taken, ← c .before .before .before .first .ensures, ← c .before .before .read-table .ensures, c .before .if2 .taken)
@@ -32,14 +17,4 @@ unfolding tableTold
 returns-3 c = rw (← c .before .before .before .at .ensures, ← c .before .before .rest .ensures, ← c .before .is-row .ensures, c .if1 .left)
 
 pub table-spec : {M : Type 1} → statement M
-table-spec =
-    tie.close
-    (tie.spec
-    at-requires
-    rest-requires
-    is-row-requires
-    first-requires
-    read-table-requires
-    returns
-    returns-2
-    returns-3)
+table-spec = tie.close (tie.spec (λ c κs. search needs) (λ c κs. search needs) (λ c κs. search needs) (λ c κs. search needs) (λ c κs. search needs) returns returns-2 returns-3)

@@ -1,46 +1,14 @@
--- `headlink::fields::dirgemist_head_value_account` meets its contract: a short buffer is kept, another tells the value. Assumes nothing.
-use mathlib.Core.Path.{_≡_, ap, _∙_}
-use native.Mathlib.Omega.{arith}
+-- `headlink::fields::dirgemist_head_value_account` meets its contract: what is told is what was read, and as long. Assumes nothing.
 use borrow.Author.Needs.{needs}
-use lib.ListN.{length}
-use Rattle.headlink.proofs.Telling.{kept, told}
+use Rattle.headlink.proofs.Telling.{sized}
 use Rattle.values.proofs.Serials.{account-read-long}
-use Rattle.values.specs.declared.characters.AccountRead.{AccountRead}
 use Rattle.headlink.proofs.fields.dirgemist_head_value_account.Statement.{statement}
 use Rattle.headlink.proofs.fields.dirgemist_head_value_account.Tie as tie
 
 returns : tie.Need-returns
 returns c =
-    kept _ _ _ _ (c .if1 .taken)
-
-read-account-requires : tie.Need-read-account-requires
-read-account-requires c κs = search needs
-
-slice-aggregate-put : tie.Need-slice-aggregate-put
-slice-aggregate-put c = search needs
-
-put-requires : tie.Need-put-requires
-put-requires c κs =
-    let e : length (c .before .before .before .read-account .result .account) ≡ 10 = ap (λ (r : AccountRead). length (r .account)) (c .before .before .before .read-account .ensures) ∙ account-read-long (c .before .before .before .before .before .before .before .args .value .now) in omega (arith, c .before .before .before .before .if1 .left)
-
-number-requires : tie.Need-number-requires
-number-requires c κs = search needs
-
-same-length : tie.Need-same-length
-same-length c = search needs
-
-returns-2 : tie.Need-returns-2
-returns-2 c =
-    rw (← c .before .before .before .before .before .before .before .read-account .ensures) (told _ 10 _ _ _ _ (c .before .before .before .before .before .before .before .before .if1 .left) (ap (λ (r : AccountRead). length (r .account)) (c .before .before .before .before .before .before .before .read-account .ensures) ∙ account-read-long (c .before .before .before .before .before .before .before .before .before .before .before .args .value .now)) (c .number .ensures) (c .before .before .before .put .ensures .1))
+    let read = c .before .before .before .before .before .before .read-account in
+    sized _ _ _ _ _ _ (account-read-long (c .before .before .before .before .before .before .before .before .before .args .value .now)) (rw (← read .ensures) (c .before .before .tell .ensures))
 
 pub dirgemist-head-value-account-spec : {M : Type 1} → statement M
-dirgemist-head-value-account-spec =
-    tie.close
-    (tie.spec
-    returns
-    read-account-requires
-    slice-aggregate-put
-    put-requires
-    number-requires
-    same-length
-    returns-2)
+dirgemist-head-value-account-spec = tie.close (tie.spec (λ c κs. search needs) (λ c. search needs) (λ c κs. search needs) (λ c. search needs) returns)

@@ -4,16 +4,9 @@ use borrow.Author.Needs.{needs}
 use Rattle.headlink.proofs.fields.dirgemist_head_value_counter.Statement.{statement}
 use Rattle.headlink.proofs.fields.dirgemist_head_value_counter.Tie as tie
 
-read-counter-requires : tie.Need-read-counter-requires
-read-counter-requires c κs = search needs
-
-number-requires : tie.Need-number-requires
-number-requires c κs = search needs
-
 returns : tie.Need-returns
 returns c =
     rw (← c .before .read-counter .ensures) (c .number .ensures, refl)
 
 pub dirgemist-head-value-counter-spec : {M : Type 1} → statement M
-dirgemist-head-value-counter-spec =
-    tie.close (tie.spec read-counter-requires number-requires returns)
+dirgemist-head-value-counter-spec = tie.close (tie.spec (λ c κs. search needs) (λ c κs. search needs) returns)

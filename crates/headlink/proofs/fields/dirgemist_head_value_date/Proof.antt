@@ -4,15 +4,9 @@ use borrow.Author.Needs.{needs}
 use Rattle.headlink.proofs.fields.dirgemist_head_value_date.Statement.{statement}
 use Rattle.headlink.proofs.fields.dirgemist_head_value_date.Tie as tie
 
-read-date-requires : tie.Need-read-date-requires
-read-date-requires c κs = search needs
-
-number-requires : tie.Need-number-requires
-number-requires c κs = search needs
-
 returns : tie.Need-returns
 returns c =
     rw (← c .before .before .read-date .ensures) (c .number .ensures, refl)
 
 pub dirgemist-head-value-date-spec : {M : Type 1} → statement M
-dirgemist-head-value-date-spec = tie.close (tie.spec read-date-requires number-requires returns)
+dirgemist-head-value-date-spec = tie.close (tie.spec (λ c κs. search needs) (λ c κs. search needs) returns)

@@ -4,15 +4,9 @@ use borrow.Author.Needs.{needs}
 use Rattle.headlink.proofs.fields.dirgemist_head_value_time.Statement.{statement}
 use Rattle.headlink.proofs.fields.dirgemist_head_value_time.Tie as tie
 
-read-time-requires : tie.Need-read-time-requires
-read-time-requires c κs = search needs
-
-number-requires : tie.Need-number-requires
-number-requires c κs = search needs
-
 returns : tie.Need-returns
 returns c =
     rw (← c .before .before .read-time .ensures) (c .number .ensures, refl)
 
 pub dirgemist-head-value-time-spec : {M : Type 1} → statement M
-dirgemist-head-value-time-spec = tie.close (tie.spec read-time-requires number-requires returns)
+dirgemist-head-value-time-spec = tie.close (tie.spec (λ c κs. search needs) (λ c κs. search needs) returns)

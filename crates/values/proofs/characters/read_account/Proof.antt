@@ -6,9 +6,6 @@ use Rattle.values.specs.Serials.{accountRead}
 use Rattle.values.proofs.characters.read_account.Statement.{statement}
 use Rattle.values.proofs.characters.read_account.Tie as tie
 
-is-account-requires : tie.Need-is-account-requires
-is-account-requires c κs = search needs
-
 ten-of-requires : tie.Need-ten-of-requires
 ten-of-requires c κs =
     account-long _ (sym (c .before .is-account .ensures) ∙ c .if1 .taken)
@@ -24,4 +21,4 @@ returns-2 c =
     rw (← c .before .is-account .ensures, c .if1 .left)
 
 pub read-account-spec : {M : Type 1} → statement M
-read-account-spec = tie.close (tie.spec is-account-requires ten-of-requires returns returns-2)
+read-account-spec = tie.close (tie.spec (λ c κs. search needs) ten-of-requires returns returns-2)

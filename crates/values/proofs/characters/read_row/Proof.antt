@@ -6,9 +6,6 @@ use Rattle.values.specs.Serials.{rowRead}
 use Rattle.values.proofs.characters.read_row.Statement.{statement}
 use Rattle.values.proofs.characters.read_row.Tie as tie
 
-is-row-requires : tie.Need-is-row-requires
-is-row-requires c κs = search needs
-
 row-of-requires : tie.Need-row-of-requires
 row-of-requires c κs =
     row-long _ (sym (c .before .is-row .ensures) ∙ c .if1 .taken)
@@ -24,4 +21,4 @@ returns-2 c =
     rw (← c .before .is-row .ensures, c .if1 .left)
 
 pub read-row-spec : {M : Type 1} → statement M
-read-row-spec = tie.close (tie.spec is-row-requires row-of-requires returns returns-2)
+read-row-spec = tie.close (tie.spec (λ c κs. search needs) row-of-requires returns returns-2)

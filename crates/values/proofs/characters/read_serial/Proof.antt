@@ -7,12 +7,6 @@ use Rattle.text.specs.Layout.{pattern}
 use Rattle.values.proofs.characters.read_serial.Statement.{statement}
 use Rattle.values.proofs.characters.read_serial.Tie as tie
 
-slice-aggregate-has-form : tie.Need-slice-aggregate-has-form
-slice-aggregate-has-form c = search needs
-
-has-form-requires : tie.Need-has-form-requires
-has-form-requires c κs = search needs
-
 digits-of-requires : tie.Need-digits-of-requires
 unfolding pattern
 digits-of-requires c κs =
@@ -29,6 +23,4 @@ returns-2 c =
     rw (← c .before .has-form .ensures, c .if1 .left)
 
 pub read-serial-spec : {M : Type 1} → statement M
-read-serial-spec =
-    tie.close
-    (tie.spec slice-aggregate-has-form has-form-requires digits-of-requires returns returns-2)
+read-serial-spec = tie.close (tie.spec (λ c. search needs) (λ c κs. search needs) digits-of-requires returns returns-2)

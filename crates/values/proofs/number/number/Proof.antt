@@ -39,23 +39,11 @@ mul-n c =
     let a = at-loop .before .before .args in
     omega (arith, bound (a .s .now) (at-loop .loop .i) (at-loop .loop .n) _ (c .loop-test .taken) (at-loop .loop .inv .1))
 
-shared-slice-read-digit : tie.Need-shared-slice-read-digit Inv-loop μ-loop
-shared-slice-read-digit c = omega arith
-
-digit-requires : tie.Need-digit-requires Inv-loop μ-loop
-digit-requires c κs = tt
-
 add-n : tie.Need-add-n Inv-loop μ-loop
 add-n c =
     let at-loop = c .before .before .before in
     let a = at-loop .before .before .args in
     rw (c .digit .ensures .0) (omega (arith, bound (a .s .now) (at-loop .loop .i) (at-loop .loop .n) _ (c .before .before .loop-test .taken) (at-loop .loop .inv .1)))
-
-add-i : tie.Need-add-i Inv-loop μ-loop
-add-i c = omega arith
-
-loop-less : tie.Need-loop-less Inv-loop μ-loop
-loop-less c = omega arith
 
 loop-again : tie.Need-loop-again Inv-loop μ-loop
 loop-again c =
@@ -69,17 +57,4 @@ returns c =
     last (a .s .now) (c .before .loop .i) (c .before .loop .n) _ (c .loop-test .left) (c .before .loop .inv .1)
 
 pub number-spec : {M : Type 1} → statement M
-number-spec =
-    tie.close
-    (tie.spec
-    Inv-loop
-    μ-loop
-    loop-holds
-    mul-n
-    shared-slice-read-digit
-    digit-requires
-    add-n
-    add-i
-    loop-less
-    loop-again
-    returns)
+number-spec = tie.close (tie.spec Inv-loop μ-loop loop-holds mul-n (λ c. omega arith) (λ c κs. tt) add-n (λ c. omega arith) (λ c. omega arith) loop-again returns)

@@ -3,17 +3,11 @@ use borrow.Author.Needs.{needs}
 use Rattle.values.proofs.reading.clock_if_real.Statement.{statement}
 use Rattle.values.proofs.reading.clock_if_real.Tie as tie
 
-is-clock-requires : tie.Need-is-clock-requires
-is-clock-requires c κs = search needs
-
 returns : tie.Need-returns
 returns c = rw (← c .before .is-clock .ensures, c .if1 .taken)
-
-no-clock-requires : tie.Need-no-clock-requires
-no-clock-requires c κs = search needs
 
 returns-2 : tie.Need-returns-2
 returns-2 c = rw (← c .before .before .is-clock .ensures, c .before .if1 .left, c .no-clock .ensures)
 
 pub clock-if-real-spec : {M : Type 1} → statement M
-clock-if-real-spec = tie.close (tie.spec is-clock-requires returns no-clock-requires returns-2)
+clock-if-real-spec = tie.close (tie.spec (λ c κs. search needs) returns (λ c κs. search needs) returns-2)

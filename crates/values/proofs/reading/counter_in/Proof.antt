@@ -5,27 +5,9 @@ use borrow.Author.Needs.{needs}
 use Rattle.values.proofs.reading.counter_in.Statement.{statement}
 use Rattle.values.proofs.reading.counter_in.Tie as tie
 
-sub-number : tie.Need-sub-number
-sub-number c = search needs
-
-part-number-start : tie.Need-part-number-start
-part-number-start c = search needs
-
-part-number-end : tie.Need-part-number-end
-part-number-end c = search needs
-
 number-requires : tie.Need-number-requires
 unfolding numberAt
 number-requires c κs = omega (arith, c .before .before .pre .whole)
-
-sub-number-2 : tie.Need-sub-number-2
-sub-number-2 c = search needs
-
-part-number-start-2 : tie.Need-part-number-start-2
-part-number-start-2 c = search needs
-
-part-number-end-2 : tie.Need-part-number-end-2
-part-number-end-2 c = search needs
 
 number-requires-2 : tie.Need-number-requires-2
 unfolding numberAt
@@ -46,17 +28,4 @@ unfolding numberAt
 returns c = rw (c .before .before .number .ensures, c .number2 .ensures)
 
 pub counter-in-spec : {M : Type 1} → statement M
-counter-in-spec =
-    tie.close
-    (tie.spec
-    sub-number
-    part-number-start
-    part-number-end
-    number-requires
-    sub-number-2
-    part-number-start-2
-    part-number-end-2
-    number-requires-2
-    mul-result
-    add-result
-    returns)
+counter-in-spec = tie.close (tie.spec (λ c. search needs) (λ c. search needs) (λ c. search needs) number-requires (λ c. search needs) (λ c. search needs) (λ c. search needs) number-requires-2 mul-result add-result returns)

@@ -3,15 +3,6 @@ use borrow.Author.Needs.{needs}
 use Rattle.values.proofs.reading.date_of.Statement.{statement}
 use Rattle.values.proofs.reading.date_of.Tie as tie
 
-cast-y : tie.Need-cast-y
-cast-y c = search needs
-
-add-y : tie.Need-add-y
-add-y c = search needs
-
-is-date-requires : tie.Need-is-date-requires
-is-date-requires c κs = search needs
-
 returns : tie.Need-returns
 returns c = rw (← c .before .is-date .ensures, c .if1 .taken)
 
@@ -19,4 +10,4 @@ returns-2 : tie.Need-returns-2
 returns-2 c = rw (← c .before .is-date .ensures, c .if1 .left)
 
 pub date-of-spec : {M : Type 1} → statement M
-date-of-spec = tie.close (tie.spec cast-y add-y is-date-requires returns returns-2)
+date-of-spec = tie.close (tie.spec (λ c. search needs) (λ c. search needs) (λ c κs. search needs) returns returns-2)

@@ -7,40 +7,19 @@ use borrow.Author.Needs.{needs}
 use Rattle.values.proofs.reading.read_clock.Statement.{statement}
 use Rattle.values.proofs.reading.read_clock.Tie as tie
 
-slice-aggregate-has-form : tie.Need-slice-aggregate-has-form
-slice-aggregate-has-form c = search needs
-
-has-form-requires : tie.Need-has-form-requires
-has-form-requires c κs = search needs
-
 clock-in-requires : tie.Need-clock-in-requires
 unfolding pattern
 clock-in-requires c κs =
     let h = sym (c .before .has-form .ensures) ∙ c .if1 .taken in
     clock-fields _ h
 
-clock-if-real-requires : tie.Need-clock-if-real-requires
-clock-if-real-requires c κs = search needs
-
 returns : tie.Need-returns
 unfolding clockRead pattern
 returns c = rw (← c .before .before .before .has-form .ensures, c .before .before .if1 .taken, c .clock-if-real .ensures, c .before .clock-in .ensures)
-
-no-clock-requires : tie.Need-no-clock-requires
-no-clock-requires c κs = search needs
 
 returns-2 : tie.Need-returns-2
 unfolding clockRead pattern
 returns-2 c = rw (← c .before .before .has-form .ensures, c .before .if1 .left, c .no-clock .ensures)
 
 pub read-clock-spec : {M : Type 1} → statement M
-read-clock-spec =
-    tie.close
-    (tie.spec
-    slice-aggregate-has-form
-    has-form-requires
-    clock-in-requires
-    clock-if-real-requires
-    returns
-    no-clock-requires
-    returns-2)
+read-clock-spec = tie.close (tie.spec (λ c. search needs) (λ c κs. search needs) clock-in-requires (λ c κs. search needs) returns (λ c κs. search needs) returns-2)

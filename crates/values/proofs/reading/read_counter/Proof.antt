@@ -7,12 +7,6 @@ use borrow.Author.Needs.{needs}
 use Rattle.values.proofs.reading.read_counter.Statement.{statement}
 use Rattle.values.proofs.reading.read_counter.Tie as tie
 
-slice-aggregate-has-form : tie.Need-slice-aggregate-has-form
-slice-aggregate-has-form c = search needs
-
-has-form-requires : tie.Need-has-form-requires
-has-form-requires c κs = search needs
-
 counter-in-requires : tie.Need-counter-in-requires
 unfolding pattern
 counter-in-requires c κs =
@@ -28,6 +22,4 @@ unfolding counterRead pattern
 returns-2 c = rw (← c .before .has-form .ensures, c .if1 .left)
 
 pub read-counter-spec : {M : Type 1} → statement M
-read-counter-spec =
-    tie.close
-    (tie.spec slice-aggregate-has-form has-form-requires counter-in-requires returns returns-2)
+read-counter-spec = tie.close (tie.spec (λ c. search needs) (λ c κs. search needs) counter-in-requires returns returns-2)

@@ -7,12 +7,6 @@ use borrow.Author.Needs.{needs}
 use Rattle.values.proofs.reading.read_date.Statement.{statement}
 use Rattle.values.proofs.reading.read_date.Tie as tie
 
-slice-aggregate-has-form : tie.Need-slice-aggregate-has-form
-slice-aggregate-has-form c = search needs
-
-has-form-requires : tie.Need-has-form-requires
-has-form-requires c κs = search needs
-
 three-at-requires : tie.Need-three-at-requires
 unfolding pattern
 three-at-requires c κs =
@@ -34,12 +28,4 @@ unfolding dateRead pattern
 returns-2 c = rw (← c .before .has-form .ensures, c .if1 .left)
 
 pub read-date-spec : {M : Type 1} → statement M
-read-date-spec =
-    tie.close
-    (tie.spec
-    slice-aggregate-has-form
-    has-form-requires
-    three-at-requires
-    date-of-requires
-    returns
-    returns-2)
+read-date-spec = tie.close (tie.spec (λ c. search needs) (λ c κs. search needs) three-at-requires date-of-requires returns returns-2)

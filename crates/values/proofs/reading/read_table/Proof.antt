@@ -8,12 +8,6 @@ use borrow.Author.Needs.{needs}
 use Rattle.values.proofs.reading.read_table.Statement.{statement}
 use Rattle.values.proofs.reading.read_table.Tie as tie
 
-slice-aggregate-has-form : tie.Need-slice-aggregate-has-form
-slice-aggregate-has-form c = search needs
-
-has-form-requires : tie.Need-has-form-requires
-has-form-requires c κs = search needs
-
 two-requires : tie.Need-two-requires
 unfolding pattern
 two-requires c κs =
@@ -35,12 +29,4 @@ unfolding tableRead pattern
 returns-2 c = rw (← c .before .has-form .ensures, c .if1 .left)
 
 pub read-table-spec : {M : Type 1} → statement M
-read-table-spec =
-    tie.close
-    (tie.spec
-    slice-aggregate-has-form
-    has-form-requires
-    two-requires
-    table-of-requires
-    returns
-    returns-2)
+read-table-spec = tie.close (tie.spec (λ c. search needs) (λ c κs. search needs) two-requires table-of-requires returns returns-2)

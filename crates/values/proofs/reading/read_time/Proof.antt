@@ -7,20 +7,11 @@ use borrow.Author.Needs.{needs}
 use Rattle.values.proofs.reading.read_time.Statement.{statement}
 use Rattle.values.proofs.reading.read_time.Tie as tie
 
-slice-aggregate-has-form : tie.Need-slice-aggregate-has-form
-slice-aggregate-has-form c = search needs
-
-has-form-requires : tie.Need-has-form-requires
-has-form-requires c κs = search needs
-
 three-at-requires : tie.Need-three-at-requires
 unfolding pattern
 three-at-requires c κs =
     let h = sym (c .before .has-form .ensures) ∙ c .if1 .taken in
     three-fields 58 _ h
-
-time-of-requires : tie.Need-time-of-requires
-time-of-requires c κs = search needs
 
 returns : tie.Need-returns
 unfolding timeRead pattern
@@ -31,12 +22,4 @@ unfolding timeRead pattern
 returns-2 c = rw (← c .before .has-form .ensures, c .if1 .left)
 
 pub read-time-spec : {M : Type 1} → statement M
-read-time-spec =
-    tie.close
-    (tie.spec
-    slice-aggregate-has-form
-    has-form-requires
-    three-at-requires
-    time-of-requires
-    returns
-    returns-2)
+read-time-spec = tie.close (tie.spec (λ c. search needs) (λ c κs. search needs) three-at-requires (λ c κs. search needs) returns returns-2)

@@ -3,12 +3,6 @@ use borrow.Author.Needs.{needs}
 use Rattle.values.proofs.reading.table_of.Statement.{statement}
 use Rattle.values.proofs.reading.table_of.Tie as tie
 
-cast-t4 : tie.Need-cast-t4
-cast-t4 c = search needs
-
-is-table-requires : tie.Need-is-table-requires
-is-table-requires c κs = search needs
-
 returns : tie.Need-returns
 returns c = rw (← c .before .is-table .ensures, c .if1 .taken)
 
@@ -16,4 +10,4 @@ returns-2 : tie.Need-returns-2
 returns-2 c = rw (← c .before .is-table .ensures, c .if1 .left)
 
 pub table-of-spec : {M : Type 1} → statement M
-table-of-spec = tie.close (tie.spec cast-t4 is-table-requires returns returns-2)
+table-of-spec = tie.close (tie.spec (λ c. search needs) (λ c κs. search needs) returns returns-2)

@@ -3,9 +3,6 @@ use borrow.Author.Needs.{needs}
 use Rattle.values.proofs.reading.time_of.Statement.{statement}
 use Rattle.values.proofs.reading.time_of.Tie as tie
 
-is-time-requires : tie.Need-is-time-requires
-is-time-requires c κs = search needs
-
 returns : tie.Need-returns
 returns c = rw (← c .before .is-time .ensures, c .if1 .taken)
 
@@ -13,4 +10,4 @@ returns-2 : tie.Need-returns-2
 returns-2 c = rw (← c .before .is-time .ensures, c .if1 .left)
 
 pub time-of-spec : {M : Type 1} → statement M
-time-of-spec = tie.close (tie.spec is-time-requires returns returns-2)
+time-of-spec = tie.close (tie.spec (λ c κs. search needs) returns returns-2)

@@ -12,39 +12,6 @@ use borrow.Author.Needs.{needs}
 use Rattle.values.proofs.writing.put_serial.Statement.{statement}
 use Rattle.values.proofs.writing.put_serial.Tie as tie
 
-sub-put : tie.Need-sub-put
-sub-put c = search needs
-
-part-put-start : tie.Need-part-put-start
-part-put-start c = search needs
-
-part-put-end : tie.Need-part-put-end
-part-put-end c = search needs
-
-put-requires : tie.Need-put-requires
-put-requires c κs = search needs
-
-slice-aggregate-put : tie.Need-slice-aggregate-put
-slice-aggregate-put c = search needs
-
-put-requires-2 : tie.Need-put-requires-2
-put-requires-2 c κs = search needs
-
-sub-put-2 : tie.Need-sub-put-2
-sub-put-2 c = search needs
-
-part-put-start-2 : tie.Need-part-put-start-2
-part-put-start-2 c = search needs
-
-part-put-end-2 : tie.Need-part-put-end-2
-part-put-end-2 c = search needs
-
-put-requires-3 : tie.Need-put-requires-3
-put-requires-3 c κs = search needs
-
-same-length : tie.Need-same-length
-same-length c = search needs
-
 -- three digits, the space and the other seven, put in one after the other
 three-then-seven : (s buf : List ℕ) (at : ℕ) (b1 : List ℕ) (p1 : ℕ) (b2 : List ℕ) (p2 : ℕ) (b3 : List ℕ) → length s ≡ 10
     → p1 ≡ at + length (take 3 s) → b1 ≡ stored buf at (take 3 s)
@@ -73,18 +40,4 @@ returns c =
     )
 
 pub put-serial-spec : {M : Type 1} → statement M
-put-serial-spec =
-    tie.close
-    (tie.spec
-    sub-put
-    part-put-start
-    part-put-end
-    put-requires
-    slice-aggregate-put
-    put-requires-2
-    sub-put-2
-    part-put-start-2
-    part-put-end-2
-    put-requires-3
-    same-length
-    returns)
+put-serial-spec = tie.close (tie.spec (λ c. search needs) (λ c. search needs) (λ c. search needs) (λ c κs. search needs) (λ c. search needs) (λ c κs. search needs) (λ c. search needs) (λ c. search needs) (λ c. search needs) (λ c κs. search needs) (λ c. search needs) returns)
