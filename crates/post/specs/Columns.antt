@@ -82,9 +82,15 @@ beginsLast above s = ltb 0 above && (ltb 0 (length s) && eqb (getD s 0 0) 33)
 unfoldable pub isLast : ℕ → List ℕ → Bool
 isLast above s = ltb 0 above && sameText s lastLine
 
--- a column that strays, as its number; 36 where it fits
-unfoldable pub straying : Bool → ℕ → ℕ
-straying fits column = cond fits 36 column
+-- the first column before an end that strays, or the end
+pub record StraysFirst (s : List ℕ) (end column : ℕ) : Type 0 where
+  pub in-line : column ≤ end
+  pub before : (j : ℕ) → j < column → columnFits s j ≡ true
+  pub stops : column < end → columnFits s column ≡ false
+
+-- a column that strays, as its number; the end where it fits
+unfoldable pub straying : Bool → ℕ → ℕ → ℕ
+straying fits column end = cond fits end column
 
 unfoldable pub smaller : ℕ → ℕ → ℕ
 smaller a b = cond (ltb b a) b a

@@ -6,7 +6,7 @@ ghost use Prim.Native.Nat.{ℕ, _+_, _*_, _<_, _≤_};
 ghost use lib.ListN.{length, getD, drop};
 ghost use Rattle.post.specs.Grammar.{lastLine, IsPost};
 ghost use Rattle.post.specs.Place.{Longest, CheckedAs};
-ghost use Rattle.post.specs.Columns.{lowest, highest, columnFits, nextNumber, straying, smaller, FirstStray, LinePlace, LastPlace, beginsLast, isLast, TookLine, LineRises};
+ghost use Rattle.post.specs.Columns.{lowest, highest, columnFits, nextNumber, straying, smaller, StraysFirst, FirstStray, LinePlace, LastPlace, beginsLast, isLast, TookLine, LineRises};
 ghost use Rattle.post.specs.Rest.{Rest, Scanned};
 
 // The lowest and the highest character of each column of a line, `131.0.xx(row)` CR LF.
@@ -111,12 +111,12 @@ fn column_fits(low: &[u8; 36], high: &[u8; 36], text: &[u8], at: usize, j: usize
     above <= high[j] - low[j]
 }
 
-// A column that strays, as its number; 36 where it fits.
-fn straying(fits: bool, column: u8) -> u8
-    ensures { λ r. ⌜ r ≡ straying fits column ⌝ }
+// A column that strays, as its number; the end where it fits.
+fn straying(fits: bool, column: u8, end: u8) -> u8
+    ensures { λ r. ⌜ r ≡ straying fits column end ⌝ }
 {
     if fits {
-        return 36;
+        return end;
     }
     column
 }
@@ -130,9 +130,44 @@ fn smaller(a: u8, b: u8) -> u8
     a
 }
 
-// The first column of the 36 from a place on that strays; 36 where they are a line's, but for the value of its number. All columns
-// are seen at once, in three windows of 16, the last two overlapping, so that none is left over. Each of these two has a copy of the
-// bounds for itself: what only one window reads need not stand in memory.
+// The first column from a place on that strays, of those that three windows of 16 hold, and their end where none does. All are seen at
+// once. The last window has bounds of its own: a copy that one window alone reads need not stand in memory.
+fn stray_in(
+    low: &[u8; 36],
+    high: &[u8; 36],
+    floor: &[u8; 36],
+    ceiling: &[u8; 36],
+    text: &[u8],
+    at: usize,
+    second: u8,
+    third: u8,
+) -> usize
+    requires { ⌜ (now low ≡ lowest) × (now high ≡ highest) × (now floor ≡ lowest) × (now ceiling ≡ highest) × (second ≤ 16) × (third ≤ second + 16) × (third ≤ 20) × (at + third + 16 ≤ length (now text)) × (second ≤ third) ⌝ }
+    ensures { λ r. ⌜ StraysFirst (drop at (now (text .entry))) (third + 16) r ⌝ }
+{
+    let end = third + 16;
+    let mut column: u8 = end;
+    let mut j: u8 = 0;
+    while j < 16 {
+        let i = j as usize;
+        let first = straying(column_fits(low, high, text, at, i), j, end);
+        let next = straying(
+            column_fits(low, high, text, at, second as usize + i),
+            second + j,
+            end,
+        );
+        let last = straying(
+            column_fits(floor, ceiling, text, at, third as usize + i),
+            third + j,
+            end,
+        );
+        column = smaller(smaller(column, first), smaller(next, last));
+        j += 1;
+    }
+    column as usize
+}
+
+// The first column of the 36 from a place on that strays; 36 where they are a line's, but for the value of its number.
 fn stray_at(text: &[u8], at: usize) -> usize
     requires { ⌜ at + 36 ≤ length (now text) ⌝ }
     ensures { λ r. ⌜ FirstStray (drop at (now (text .entry))) r ⌝ }
@@ -141,17 +176,18 @@ fn stray_at(text: &[u8], at: usize) -> usize
     let high = HIGHEST;
     let floor = LOWEST;
     let ceiling = HIGHEST;
-    let mut column: u8 = 36;
-    let mut j: u8 = 0;
-    while j < 16 {
-        let i = j as usize;
-        let first = straying(column_fits(&low, &high, text, at, i), j);
-        let second = straying(column_fits(&low, &high, text, at, 16 + i), 16 + j);
-        let third = straying(column_fits(&floor, &ceiling, text, at, 20 + i), 20 + j);
-        column = smaller(smaller(column, first), smaller(second, third));
-        j += 1;
-    }
-    column as usize
+    stray_in(&low, &high, &floor, &ceiling, text, at, 16, 20)
+}
+
+// The same in a text shorter than a line that holds a window: the last ends where the text does.
+fn late_stray(s: &[u8]) -> usize
+    requires { ⌜ (16 ≤ length (now s)) × (length (now s) < 36) ⌝ }
+    ensures { λ r. ⌜ FirstStray (now (s .entry)) r ⌝ }
+{
+    let low = LOWEST;
+    let high = HIGHEST;
+    let third = (s.len() - 16) as u8;
+    stray_in(&low, &high, &low, &high, s, 0, smaller(16, third), third)
 }
 
 // The first column that strays in a text shorter than a line.
@@ -159,6 +195,9 @@ fn first_stray(s: &[u8]) -> usize
     requires { ⌜ length (now s) < 36 ⌝ }
     ensures { λ r. ⌜ FirstStray (now (s .entry)) r ⌝ }
 {
+    if 16 <= s.len() {
+        return late_stray(s);
+    }
     let low = LOWEST;
     let high = HIGHEST;
     let mut j = 0;

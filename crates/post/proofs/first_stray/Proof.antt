@@ -17,21 +17,27 @@ Inv-loop s low high j₀ j = (low ≡ lowest) × (high ≡ highest) × (length s
 abbrev μ-loop : tie.MeasureT-loop
 μ-loop s low high j₀ j = length s - j
 
+late-stray-requires : tie.Need-late-stray-requires Inv-loop μ-loop
+late-stray-requires c κs = (c .if1 .taken, c .before .before .pre)
+
+returns : tie.Need-returns Inv-loop μ-loop
+returns c = c .late-stray .ensures
+
 loop-holds : tie.Need-loop-holds Inv-loop μ-loop
 unfolding lowest highest
-loop-holds c = (refl, refl, (c .before .pre), omega arith, λ i h. absurd (omega arith))
+loop-holds c = (refl, refl, c .before .before .pre, omega arith, λ i h. absurd (omega arith))
 
 column-fits-requires : tie.Need-column-fits-requires Inv-loop μ-loop
 column-fits-requires c κs = (c .before .before .before .loop .inv .0, c .before .before .before .loop .inv .1, omega arith, omega arith)
 
-returns : tie.Need-returns Inv-loop μ-loop
-returns c =
+returns-2 : tie.Need-returns-2 Inv-loop μ-loop
+returns-2 c =
     let l = (c .before .before .before .before .before .loop) in
     record {
       in-text = l .inv .3;
       in-line = omega arith;
       before = l .inv .4;
-      stops = λ h k. sym (c .before .column-fits .ensures) ∙ not-true _ (c .if1 .taken);
+      stops = λ h k. sym (c .before .column-fits .ensures) ∙ not-true _ (c .if2 .taken);
     }
 
 add-j : tie.Need-add-j Inv-loop μ-loop
@@ -43,10 +49,10 @@ loop-less c = omega arith
 loop-again : tie.Need-loop-again Inv-loop μ-loop
 loop-again c =
     let l = (c .before .before .before .before .before .loop) in
-    (l .inv .0, l .inv .1, omega arith, omega arith, below-more _ _ (l .inv .4) (sym (c .before .column-fits .ensures) ∙ not-false _ (c .if1 .left)))
+    (l .inv .0, l .inv .1, omega arith, omega arith, below-more _ _ (l .inv .4) (sym (c .before .column-fits .ensures) ∙ not-false _ (c .if2 .left)))
 
-returns-2 : tie.Need-returns-2 Inv-loop μ-loop
-returns-2 c =
+returns-3 : tie.Need-returns-3 Inv-loop μ-loop
+returns-3 c =
     let l = (c .before .loop) in
     record { in-text = l .inv .3; in-line = omega arith; before = l .inv .4; stops = λ h k. absurd (omega arith) }
 
@@ -56,10 +62,12 @@ first-stray-spec =
     (tie.spec
     Inv-loop
     μ-loop
+    late-stray-requires
+    returns
     loop-holds
     column-fits-requires
-    returns
+    returns-2
     add-j
     loop-less
     loop-again
-    returns-2)
+    returns-3)

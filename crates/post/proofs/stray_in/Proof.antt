@@ -1,0 +1,127 @@
+-- `post::stray_in` meets its contract: the smallest of the columns that stray so far, in each window. Assumes nothing.
+use mathlib.Core.Path.{_≡_, refl, sym, ap, _∙_}
+use Prim.Native.Nat.{ℕ, _+_, _-_, _<_, _≤_}
+use native.Mathlib.Omega.{arith}
+use lib.ListN.{length, drop}
+use Rattle.post.specs.Columns.{lowest, highest, columnFits, straying, smaller}
+use Rattle.post.proofs.Strays.{Least, least-none, least-more, least-all}
+use Rattle.post.proofs.stray_in.Statement.{statement}
+use Rattle.post.proofs.stray_in.Tie as tie
+
+abbrev Inv-loop : tie.InvT-loop
+Inv-loop low high floor ceiling text at second third end column₀ j₀ column j = (end ≡ third + 16) × (j ≤ 16) × (Least (drop at text) second third j column)
+
+abbrev μ-loop : tie.MeasureT-loop
+μ-loop low high floor ceiling text at second third end column₀ j₀ column j = 16 - j
+
+add-end : tie.Need-add-end Inv-loop μ-loop
+add-end c = omega (arith, c .before .pre .6)
+
+loop-holds : tie.Need-loop-holds Inv-loop μ-loop
+loop-holds c = (refl, omega arith, least-none _ _ _)
+
+cast-i : tie.Need-cast-i Inv-loop μ-loop
+cast-i c = omega arith
+
+column-fits-requires : tie.Need-column-fits-requires Inv-loop μ-loop
+column-fits-requires c κs =
+    let p = c .before .before .before .pre in
+    (p .0, p .1, omega (arith, p .4, p .5, p .6), omega (arith, p .4, p .5, p .6, p .7, p .8))
+
+straying-requires : tie.Need-straying-requires Inv-loop μ-loop
+straying-requires c κs = tt
+
+add-column-fits : tie.Need-add-column-fits Inv-loop μ-loop
+add-column-fits c = omega (arith, c .before .before .before .before .before .pre .4, c .before .before .before .before .before .pre .6)
+
+column-fits-requires-2 : tie.Need-column-fits-requires-2 Inv-loop μ-loop
+column-fits-requires-2 c κs =
+    let p = c .before .before .before .before .before .pre in
+    (p .0, p .1, omega (arith, p .4, p .5, p .6), omega (arith, p .4, p .5, p .6, p .7, p .8))
+
+add-straying : tie.Need-add-straying Inv-loop μ-loop
+add-straying c = omega (arith, c .before .before .before .before .before .before .pre .4, c .before .before .before .before .before .before .pre .6)
+
+straying-requires-2 : tie.Need-straying-requires-2 Inv-loop μ-loop
+straying-requires-2 c κs = tt
+
+add-column-fits-2 : tie.Need-add-column-fits-2 Inv-loop μ-loop
+add-column-fits-2 c = omega (arith, c .before .before .before .before .before .before .before .pre .4, c .before .before .before .before .before .before .before .pre .6)
+
+column-fits-requires-3 : tie.Need-column-fits-requires-3 Inv-loop μ-loop
+column-fits-requires-3 c κs =
+    let p = c .before .before .before .before .before .before .before .pre in
+    (p .2, p .3, omega (arith, p .4, p .5, p .6), omega (arith, p .4, p .5, p .6, p .7, p .8))
+
+add-straying-2 : tie.Need-add-straying-2 Inv-loop μ-loop
+add-straying-2 c = omega (arith, c .before .before .before .before .before .before .before .before .pre .4, c .before .before .before .before .before .before .before .before .pre .6)
+
+straying-requires-3 : tie.Need-straying-requires-3 Inv-loop μ-loop
+straying-requires-3 c κs = tt
+
+smaller-requires : tie.Need-smaller-requires Inv-loop μ-loop
+smaller-requires c κs = tt
+
+smaller-requires-2 : tie.Need-smaller-requires-2 Inv-loop μ-loop
+smaller-requires-2 c κs = tt
+
+smaller-requires-3 : tie.Need-smaller-requires-3 Inv-loop μ-loop
+smaller-requires-3 c κs = tt
+
+add-j : tie.Need-add-j Inv-loop μ-loop
+add-j c = omega arith
+
+loop-less : tie.Need-loop-less Inv-loop μ-loop
+loop-less c = omega arith
+
+loop-again : tie.Need-loop-again Inv-loop μ-loop
+loop-again c =
+    let l = c .before .before .before .before .before .before .before .before .before .before .loop in
+    let a = (c .before .before .before .before .before .before .before .before .before .before .before .before .args) in
+    let f = (c .before .before .before .before .before .before .before .before .column-fits) in
+    let g = (c .before .before .before .before .before .before .column-fits2) in
+    let h = (c .before .before .before .before .column-fits3) in
+    let e : c .smaller3 .result ≡ smaller (smaller (l .column) (straying (f .result) (l .j) (a .third + 16))) (smaller (straying (g .result) (a .second + l .j) (a .third + 16)) (straying (h .result) (a .third + l .j) (a .third + 16))) =
+    rw (c .smaller3 .ensures, c .before .smaller2 .ensures, c .before .before .smaller .ensures, c .before .before .before .before .before .before .before .straying .ensures, c .before .before .before .before .before .straying2 .ensures, c .before .before .before .straying3 .ensures) in (
+      l .inv .0,
+      omega (arith, c .before .before .before .before .before .before .before .before .before .loop-test .taken),
+      rw e (least-more (drop (a .at) (a .text .now)) (a .second) (a .third) (l .j) (l .column) (f .result) (g .result) (h .result) (f .ensures) (g .ensures) (h .ensures) (l .inv .2)),
+    )
+
+cast-result : tie.Need-cast-result Inv-loop μ-loop
+cast-result c = omega arith
+
+returns : tie.Need-returns Inv-loop μ-loop
+returns c =
+    let l = c .before .loop in
+    let a = (c .before .before .before .args) in
+    let e : l .j ≡ 16 = omega arith in
+    least-all (drop (a .at) (a .text .now)) (a .second) (a .third) (l .column) (c .before .before .before .pre .4) (c .before .before .before .pre .5) (rw e at (l .inv .2))
+
+pub stray-in-spec : {M : Type 1} → statement M
+stray-in-spec =
+    tie.close
+    (tie.spec
+    Inv-loop
+    μ-loop
+    add-end
+    loop-holds
+    cast-i
+    column-fits-requires
+    straying-requires
+    add-column-fits
+    column-fits-requires-2
+    add-straying
+    straying-requires-2
+    add-column-fits-2
+    column-fits-requires-3
+    add-straying-2
+    straying-requires-3
+    smaller-requires
+    smaller-requires-2
+    smaller-requires-3
+    add-j
+    loop-less
+    loop-again
+    cast-result
+    returns)
