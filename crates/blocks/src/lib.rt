@@ -1,7 +1,7 @@
 // A meter's reply: its parity stripped, and the part of a block that holds the data.
 ghost use mathlib.Core.Path.{_≡_};
 ghost use mathlib.Core.List.{[], _∷_, _++_, map};
-ghost use Prim.Native.Nat.{_+_, _-_, _≤_};
+ghost use Prim.Native.Nat.{_+_, _-_, _≤_, max};
 ghost use lib.ListN.{length, take, drop, getD};
 ghost use Rattle.line.specs.Characters.{seven};
 ghost use Rattle.line.specs.Checksum.{bccOf};
@@ -67,20 +67,29 @@ pub struct Seen {
     pub sum: u8,
 }
 
-// Whether every byte is a character other than ETX, and the BCC of all; both in one pass.
+// The larger of two bytes.
+fn larger(a: u8, b: u8) -> u8
+    ensures { λ r. ⌜ r ≡ max a b ⌝ }
+{
+    if a < b { b } else { a }
+}
+
+// Whether every byte is a character other than ETX, and the BCC of all; both in one pass. The largest byte tells for all whether they are characters.
 fn look(s: &[u8]) -> Seen
     ensures { λ r. ⌜ r ≡ record { plain = every isContent (now (s .entry)); sum = bccOf (now (s .entry)) } ⌝ }
 {
-    let mut plain = true;
+    let mut most: u8 = 0;
+    let mut clear = true;
     let mut sum: u8 = 0;
     let mut i = 0;
     while i < s.len() {
-        plain = plain & ((s[i] <= 127) & (s[i] != line::ETX));
+        most = larger(most, s[i]);
+        clear = clear & (s[i] != line::ETX);
         sum = sum ^ s[i];
         i += 1;
     }
     Seen {
-        plain: plain,
+        plain: (most <= 127) & clear,
         sum: sum % 128,
     }
 }

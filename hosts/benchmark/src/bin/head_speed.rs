@@ -7,13 +7,15 @@ mod head_link;
 
 use benchmark::fast_head;
 use model::head::{self, answer, Clock, Registers, Step};
+use std::cell::RefCell;
 use std::hint::black_box;
 use std::process::ExitCode;
 use std::time::Instant;
 
-/// Calls in a batch, and batches on each side; the median batch counts.
-const CALLS: u32 = 5_000;
-const BATCHES: usize = 81;
+/// Calls in a batch, and batches on each side; the median batch counts. A batch lasts a fraction of a
+/// millisecond, so that few are cut in two by another process's turn.
+const CALLS: u32 = 200;
+const BATCHES: usize = 2_001;
 
 /// A meter's registers, each its own.
 fn registers() -> Registers {
@@ -35,7 +37,18 @@ fn registers() -> Registers {
     }
 }
 
-/// The hand-written reader behind a call that is not inlined, as the library's is.
+// The hand-written side behind calls that are not inlined, as the library's are.
+
+#[inline(never)]
+fn fast_strip(reply: &[u8], out: &mut [u8]) -> (u8, usize) {
+    fast_head::strip(reply, out)
+}
+
+#[inline(never)]
+fn fast_part(stripped: &[u8]) -> (u8, usize, usize) {
+    fast_head::part(stripped)
+}
+
 #[inline(never)]
 fn fast_next(sets: &[u8], at: usize) -> Step {
     fast_head::next(sets, at)
@@ -117,18 +130,25 @@ fn main() -> ExitCode {
         println!("head: the sides differ; nothing is timed");
         return ExitCode::FAILURE;
     }
-    let (mut one, mut other) = (vec![0; wire.len()], vec![0; wire.len()]);
+    // One buffer for both sides, so that both write to the same places of a page.
+    let out = RefCell::new(vec![0; wire.len()]);
     let strip = medians(
         || {
-            black_box(fast_head::strip(black_box(&wire), black_box(&mut one)));
+            black_box(fast_strip(
+                black_box(&wire),
+                black_box(&mut out.borrow_mut()),
+            ));
         },
         || {
-            black_box(head_link::strip(black_box(&wire), black_box(&mut other)));
+            black_box(head_link::strip(
+                black_box(&wire),
+                black_box(&mut out.borrow_mut()),
+            ));
         },
     );
     let part = medians(
         || {
-            black_box(fast_head::part(black_box(&block)));
+            black_box(fast_part(black_box(&block)));
         },
         || {
             black_box(head_link::part(black_box(&block)));
