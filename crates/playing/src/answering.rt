@@ -68,6 +68,9 @@ pub fn hear_in(m: Meter, b: u8, room: usize, out: &mut [u8], at: usize) -> Playe
     requires { ⌜ (room ≤ 8192) × (at + 16449 ≤ length (now out)) ⌝ }
     ensures { λ r. ⌜ Did (given (character m room b) room) 16449 (now (out .entry)) at (r .next) (r .place) (now (out .exit)) ⌝ }
 {
+    if room == 2048 {
+        return hear_one(m, b, out, at);
+    }
     let mut reply = [UNTOUCHED; 8192];
     hear(m, b, &mut reply[..room], out, at)
 }
@@ -81,11 +84,23 @@ fn wait(m: Meter, reply: &mut [u8], out: &mut [u8], at: usize) -> Played
     show(a, reply, out, at)
 }
 
+// Silence, with 2,048 bytes of room for the reply.
+fn wait_once(m: Meter, out: &mut [u8], at: usize) -> Played
+    requires { ⌜ at + 4161 ≤ length (now out) ⌝ }
+    ensures { λ r. ⌜ Did (given (silence m 2048) 2048) 4161 (now (out .entry)) at (r .next) (r .place) (now (out .exit)) ⌝ }
+{
+    let mut reply = [UNTOUCHED; 2048];
+    wait(m, &mut reply, out, at)
+}
+
 // Silence, with so much room.
 pub fn wait_in(m: Meter, room: usize, out: &mut [u8], at: usize) -> Played
     requires { ⌜ (room ≤ 8192) × (at + 16449 ≤ length (now out)) ⌝ }
     ensures { λ r. ⌜ Did (given (silence m room) room) 16449 (now (out .entry)) at (r .next) (r .place) (now (out .exit)) ⌝ }
 {
+    if room == 2048 {
+        return wait_once(m, out, at);
+    }
     let mut reply = [UNTOUCHED; 8192];
     wait(m, &mut reply[..room], out, at)
 }
