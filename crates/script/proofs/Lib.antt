@@ -7,3 +7,4 @@ pub mod Writing
 pub mod Taken
 pub mod Wrote
 pub mod RoundTrip
+pub mod Sizes

@@ -6,6 +6,8 @@ use std::io::{self, BufRead, Write};
 
 /// The largest reply buffer that a script can ask for.
 pub const ROOM_MOST: usize = 8_192;
+/// The longest line that is taken.
+pub const LINE_MOST: usize = 262_143;
 /// What the reply buffer is filled with before each call.
 pub const FILLING: u8 = 0xAA;
 
@@ -137,6 +139,9 @@ pub fn run(mut script: impl BufRead, mut transcript: impl Write) -> io::Result<(
 
 /// Reads one line, given without its LF; nothing for `error`.
 pub fn parse(line: &[u8]) -> Option<Command> {
+    if line.len() > LINE_MOST {
+        return None;
+    }
     let fields: Vec<&[u8]> = line.split(|&byte| byte == b' ').collect();
     Some(match fields[..] {
         [b"new", serial, account, password, ref clock @ ..] => Command::New {

@@ -1,6 +1,6 @@
 //! Holds a bench program against the model: fixed scripts, sweeps and scripts by chance.
 //!
-//! `meter PROGRAM [SEED [EVENTS]]`
+//! `meter PROGRAM [SEED [EVENTS]]`; PROGRAM may be `'hosts/run bench'`, with its arguments
 
 mod aims;
 mod chance;

@@ -4,7 +4,7 @@ use crate::chance::Chance;
 use crate::player::{wire, Played, Player};
 use crate::reached::Reached;
 use crate::words::*;
-use model::bench::dump;
+use model::bench::{dump, LINE_MOST};
 use model::meter::{days_in_month, Clock, Meter, ETX, LF, PLACES, SOH, STX};
 
 /// All sweeps, each a script of its own.
@@ -1040,4 +1040,9 @@ fn script_lines(chance: &mut Chance, player: &mut Player) {
     }
     player.bytes(&long);
     player.dump();
+    // So is the longest, and one character more is an error.
+    for length in [LINE_MOST, LINE_MOST + 1] {
+        player.line(format!("pulse {}1", "0".repeat(length - "pulse 1".len())));
+        player.dump();
+    }
 }
