@@ -13,57 +13,5 @@ Inv-loop piece line₀ out₀ after₀ at₀ line out after at = (length line �
 abbrev μ-loop : tie.MeasureT-loop
 μ-loop piece line₀ out₀ after₀ at₀ line out after at = length piece - at
 
-loop-holds : tie.Need-loop-holds Inv-loop μ-loop
-loop-holds c = search needs
-
-line-end-requires : tie.Need-line-end-requires Inv-loop μ-loop
-line-end-requires c κs = search needs
-
-sub-take : tie.Need-sub-take Inv-loop μ-loop
-sub-take c = search needs
-
-part-take-start : tie.Need-part-take-start Inv-loop μ-loop
-part-take-start c = search needs
-
-part-take-end : tie.Need-part-take-end Inv-loop μ-loop
-part-take-end c = search needs
-
-take-requires : tie.Need-take-requires Inv-loop μ-loop
-take-requires c κs = search needs
-
-add-at : tie.Need-add-at Inv-loop μ-loop
-add-at c = search needs
-
-loop-less : tie.Need-loop-less Inv-loop μ-loop
-loop-less c = search needs
-
-loop-again : tie.Need-loop-again Inv-loop μ-loop
-loop-again c = search needs
-
-same-length : tie.Need-same-length Inv-loop μ-loop
-same-length c = search needs
-
-same-length-2 : tie.Need-same-length-2 Inv-loop μ-loop
-same-length-2 c = search needs
-
-returns : tie.Need-returns Inv-loop μ-loop
-returns c = search needs
-
 pub take-piece-spec : {M : Type 1} → statement M
-take-piece-spec =
-    tie.close
-    (tie.spec
-    Inv-loop
-    μ-loop
-    loop-holds
-    line-end-requires
-    sub-take
-    part-take-start
-    part-take-end
-    take-requires
-    add-at
-    loop-less
-    loop-again
-    same-length
-    same-length-2
-    returns)
+take-piece-spec = tie.close (tie.spec Inv-loop μ-loop (λ c. search needs) (λ c κs. search needs) (λ c. search needs) (λ c. search needs) (λ c. search needs) (λ c κs. search needs) (λ c. search needs) (λ c. search needs) (λ c. search needs) (λ c. search needs) (λ c. search needs) (λ c. search needs))

@@ -7,24 +7,6 @@ use borrow.Author.Needs.{needs}
 use Rattle.datasets.proofs.put_date_set.Statement.{statement}
 use Rattle.datasets.proofs.put_date_set.Tie as tie
 
-slice-aggregate-put : tie.Need-slice-aggregate-put
-slice-aggregate-put c = search needs
-
-put-requires : tie.Need-put-requires
-put-requires c κs = search needs
-
-put-date-requires : tie.Need-put-date-requires
-put-date-requires c κs = search needs
-
-slice-aggregate-put-2 : tie.Need-slice-aggregate-put-2
-slice-aggregate-put-2 c = search needs
-
-put-requires-2 : tie.Need-put-requires-2
-put-requires-2 c κs = search needs
-
-same-length : tie.Need-same-length
-same-length c = search needs
-
 returns : tie.Need-returns
 returns c =
     let start = c .before .before .before .before .before .before .before .before .before .before .before .before .before .before .before in
@@ -37,13 +19,4 @@ returns c =
     )
 
 pub put-date-set-spec : {M : Type 1} → statement M
-put-date-set-spec =
-    tie.close
-    (tie.spec
-    slice-aggregate-put
-    put-requires
-    put-date-requires
-    slice-aggregate-put-2
-    put-requires-2
-    same-length
-    returns)
+put-date-set-spec = tie.close (tie.spec (λ c. search needs) (λ c κs. search needs) (λ c κs. search needs) (λ c. search needs) (λ c κs. search needs) (λ c. search needs) returns)

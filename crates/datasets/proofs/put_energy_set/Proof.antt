@@ -8,27 +8,6 @@ use borrow.Author.Needs.{needs}
 use Rattle.datasets.proofs.put_energy_set.Statement.{statement}
 use Rattle.datasets.proofs.put_energy_set.Tie as tie
 
-add-t10 : tie.Need-add-t10
-add-t10 c = search needs
-
-slice-aggregate-put : tie.Need-slice-aggregate-put
-slice-aggregate-put c = search needs
-
-put-requires : tie.Need-put-requires
-put-requires c κs = search needs
-
-put-counter-requires : tie.Need-put-counter-requires
-put-counter-requires c κs = search needs
-
-slice-aggregate-put-2 : tie.Need-slice-aggregate-put-2
-slice-aggregate-put-2 c = search needs
-
-put-requires-2 : tie.Need-put-requires-2
-put-requires-2 c κs = search needs
-
-same-length : tie.Need-same-length
-same-length c = search needs
-
 returns : tie.Need-returns
 unfolding decimal
 returns c =
@@ -42,14 +21,4 @@ returns c =
     )
 
 pub put-energy-set-spec : {M : Type 1} → statement M
-put-energy-set-spec =
-    tie.close
-    (tie.spec
-    add-t10
-    slice-aggregate-put
-    put-requires
-    put-counter-requires
-    slice-aggregate-put-2
-    put-requires-2
-    same-length
-    returns)
+put-energy-set-spec = tie.close (tie.spec (λ c. search needs) (λ c. search needs) (λ c κs. search needs) (λ c κs. search needs) (λ c. search needs) (λ c κs. search needs) (λ c. search needs) returns)

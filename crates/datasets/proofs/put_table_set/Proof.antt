@@ -11,30 +11,6 @@ use borrow.Author.Needs.{needs}
 use Rattle.datasets.proofs.put_table_set.Statement.{statement}
 use Rattle.datasets.proofs.put_table_set.Tie as tie
 
-add-t12 : tie.Need-add-t12
-add-t12 c = search needs
-
-add-t14 : tie.Need-add-t14
-add-t14 c = search needs
-
-slice-aggregate-put : tie.Need-slice-aggregate-put
-slice-aggregate-put c = search needs
-
-put-requires : tie.Need-put-requires
-put-requires c κs = search needs
-
-put-row-requires : tie.Need-put-row-requires
-put-row-requires c κs = search needs
-
-slice-aggregate-put-2 : tie.Need-slice-aggregate-put-2
-slice-aggregate-put-2 c = search needs
-
-put-requires-2 : tie.Need-put-requires-2
-put-requires-2 c κs = search needs
-
-same-length : tie.Need-same-length
-same-length c = search needs
-
 returns : tie.Need-returns
 unfolding tableText layoutText decimal
 returns c =
@@ -48,15 +24,4 @@ returns c =
     )
 
 pub put-table-set-spec : {M : Type 1} → statement M
-put-table-set-spec =
-    tie.close
-    (tie.spec
-    add-t12
-    add-t14
-    slice-aggregate-put
-    put-requires
-    put-row-requires
-    slice-aggregate-put-2
-    put-requires-2
-    same-length
-    returns)
+put-table-set-spec = tie.close (tie.spec (λ c. search needs) (λ c. search needs) (λ c. search needs) (λ c κs. search needs) (λ c κs. search needs) (λ c. search needs) (λ c κs. search needs) (λ c. search needs) returns)

@@ -20,18 +20,6 @@ loop-holds : tie.Need-loop-holds Inv-loop μ-loop
 unfolding stored
 loop-holds c = (omega arith, refl, refl)
 
-shared-slice-read-copy : tie.Need-shared-slice-read-copy Inv-loop μ-loop
-shared-slice-read-copy c = omega arith
-
-array-write-copy : tie.Need-array-write-copy Inv-loop μ-loop
-array-write-copy c = omega arith
-
-add-i : tie.Need-add-i Inv-loop μ-loop
-add-i c = omega arith
-
-loop-less : tie.Need-loop-less Inv-loop μ-loop
-loop-less c = omega arith
-
 loop-again : tie.Need-loop-again Inv-loop μ-loop
 loop-again c =
     let turn = c .before .before .loop in
@@ -49,9 +37,6 @@ slice-aggregate-put c = sym (c .before .before .before .loop .inv .1)
 put-requires : tie.Need-put-requires Inv-loop μ-loop
 put-requires c κs = omega (arith, c .before .before .before .loop .inv .1)
 
-same-length : tie.Need-same-length Inv-loop μ-loop
-same-length c = omega arith
-
 returns : tie.Need-returns Inv-loop μ-loop
 returns c =
     let start = c .before .before .before .before .before .before .before .before .before in
@@ -62,18 +47,4 @@ returns c =
     (omega (arith, put .0, turn .inv .1), put .1 ∙ ap (stored (start .args .buf .now) (start .args .at)) done)
 
 pub put-whole-row-spec : {M : Type 1} → statement M
-put-whole-row-spec =
-    tie.close
-    (tie.spec
-    Inv-loop
-    μ-loop
-    loop-holds
-    shared-slice-read-copy
-    array-write-copy
-    add-i
-    loop-less
-    loop-again
-    slice-aggregate-put
-    put-requires
-    same-length
-    returns)
+put-whole-row-spec = tie.close (tie.spec Inv-loop μ-loop loop-holds (λ c. omega arith) (λ c. omega arith) (λ c. omega arith) (λ c. omega arith) loop-again slice-aggregate-put put-requires (λ c. omega arith) returns)

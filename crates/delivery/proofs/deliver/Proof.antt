@@ -8,12 +8,6 @@ use borrow.Author.Needs.{needs}
 use Rattle.delivery.proofs.deliver.Statement.{statement}
 use Rattle.delivery.proofs.deliver.Tie as tie
 
-slice-aggregate-export : tie.Need-slice-aggregate-export
-slice-aggregate-export c = search needs
-
-export-requires : tie.Need-export-requires
-export-requires c κs = search needs
-
 returns : tie.Need-returns
 returns c =
     let a = (c .before .before .before .before .before .args) in
@@ -25,9 +19,6 @@ array-share-prefix-out c = omega (arith, frames-bound 24 _ _ _ _ _ _ (c .before 
 slice-aggregate-feed : tie.Need-slice-aggregate-feed
 slice-aggregate-feed c = sym (length-take-le _ _ (omega (arith, frames-bound 24 _ _ _ _ _ _ (c .before .before .before .export .ensures))))
 
-feed-requires : tie.Need-feed-requires
-feed-requires c κs = search needs
-
 returns-2 : tie.Need-returns-2
 returns-2 c =
     let a = (c .before .before .before .before .before .before .before .before .args) in
@@ -35,13 +26,4 @@ returns-2 c =
     was-delivered (a .m) (a .text .now) _ _ _ _ _ (omega arith) (f .result .acknowledged) (f .result .next) (omega arith) (f .ensures .0) (f .ensures .1) (c .before .before .before .before .before .export .ensures)
 
 pub deliver-spec : {M : Type 1} → statement M
-deliver-spec =
-    tie.close
-    (tie.spec
-    slice-aggregate-export
-    export-requires
-    returns
-    array-share-prefix-out
-    slice-aggregate-feed
-    feed-requires
-    returns-2)
+deliver-spec = tie.close (tie.spec (λ c. search needs) (λ c κs. search needs) returns array-share-prefix-out slice-aggregate-feed (λ c κs. search needs) returns-2)

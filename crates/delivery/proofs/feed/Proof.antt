@@ -16,17 +16,8 @@ abbrev μ-loop : tie.MeasureT-loop
 loop-holds : tie.Need-loop-holds Inv-loop μ-loop
 loop-holds c = feeding-none _ _
 
-shared-slice-read-step : tie.Need-shared-slice-read-step Inv-loop μ-loop
-shared-slice-read-step c = search needs
-
 step-requires : tie.Need-step-requires Inv-loop μ-loop
 step-requires c κs = let l = (c .before .before .loop) in omega (arith, l .inv .few, l .inv .within)
-
-add-i : tie.Need-add-i Inv-loop μ-loop
-add-i c = search needs
-
-loop-less : tie.Need-loop-less Inv-loop μ-loop
-loop-less c = search needs
 
 loop-again : tie.Need-loop-again Inv-loop μ-loop
 loop-again c =
@@ -42,15 +33,4 @@ returns c =
     feeding-all (a .m) (a .bytes .now) (l .i) (l .fed .acknowledged) (l .fed .next) (omega arith) (l .inv)
 
 pub feed-spec : {M : Type 1} → statement M
-feed-spec =
-    tie.close
-    (tie.spec
-    Inv-loop
-    μ-loop
-    loop-holds
-    shared-slice-read-step
-    step-requires
-    add-i
-    loop-less
-    loop-again
-    returns)
+feed-spec = tie.close (tie.spec Inv-loop μ-loop loop-holds (λ c. search needs) step-requires (λ c. search needs) (λ c. search needs) loop-again returns)

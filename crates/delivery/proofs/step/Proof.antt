@@ -9,12 +9,6 @@ use borrow.Author.Needs.{needs}
 use Rattle.delivery.proofs.step.Statement.{statement}
 use Rattle.delivery.proofs.step.Tie as tie
 
-give-requires : tie.Need-give-requires
-give-requires c κs = search needs
-
-is-done-requires : tie.Need-is-done-requires
-is-done-requires c κs = search needs
-
 add-t7 : tie.Need-add-t7
 add-t7 c = omega (arith, done-most (c .before .before .before .give .result .number), c .before .is-done .ensures)
 
@@ -25,4 +19,4 @@ returns c =
     (ap (λ (d : ℕ). f .acknowledged + d) (c .before .is-done .ensures ∙ ap (λ (a : Answer). isDone (a .number)) (g .ensures)), ap (λ (a : Answer). a .next) (g .ensures))
 
 pub step-spec : {M : Type 1} → statement M
-step-spec = tie.close (tie.spec give-requires is-done-requires add-t7 returns)
+step-spec = tie.close (tie.spec (λ c κs. search needs) (λ c κs. search needs) add-t7 returns)

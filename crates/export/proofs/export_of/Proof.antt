@@ -4,17 +4,11 @@ use borrow.Author.Needs.{needs}
 use Rattle.export.proofs.export_of.Statement.{statement}
 use Rattle.export.proofs.export_of.Tie as tie
 
-check-of-requires : tie.Need-check-of-requires
-check-of-requires c κs = search needs
-
 returns : tie.Need-returns
 returns c =
     let a = (c .before .before .before .before .args) in
     let k = c .before .check-of .result in
     answers-20 (a .tables) (a .text .now) (k .number) (k .place) (a .out .now) (c .before .check-of .ensures) (c .if1 .taken)
-
-mul-if2 : tie.Need-mul-if2
-mul-if2 c = search needs
 
 returns-2 : tie.Need-returns-2
 returns-2 c =
@@ -22,15 +16,6 @@ returns-2 c =
     let k = c .before .before .check-of .result in
     let p = post-of (a .tables) (a .text .now) (k .number) (k .place) (c .before .before .check-of .ensures) (c .before .if1 .left) in
     answers-21 (a .tables) (a .text .now) (a .out .now) p (c .if2 .taken)
-
-write-frames-requires : tie.Need-write-frames-requires
-write-frames-requires c κs = search needs
-
-mul-t8 : tie.Need-mul-t8
-mul-t8 c = search needs
-
-same-length : tie.Need-same-length
-same-length c = search needs
 
 returns-3 : tie.Need-returns-3
 returns-3 c =
@@ -40,14 +25,4 @@ returns-3 c =
     answers-1 (a .tables) (a .text .now) (a .out .now) p _ (c .before .before .before .before .if2 .left) (c .before .before .write-frames .ensures)
 
 pub export-of-spec : {M : Type 1} → statement M
-export-of-spec =
-    tie.close
-    (tie.spec
-    check-of-requires
-    returns
-    mul-if2
-    returns-2
-    write-frames-requires
-    mul-t8
-    same-length
-    returns-3)
+export-of-spec = tie.close (tie.spec (λ c κs. search needs) returns (λ c. search needs) returns-2 (λ c κs. search needs) (λ c. search needs) (λ c. search needs) returns-3)

@@ -20,21 +20,6 @@ loop-holds : tie.Need-loop-holds Inv-loop μ-loop
 unfolding stored
 loop-holds c = (omega arith, refl, refl)
 
-add-copy : tie.Need-add-copy Inv-loop μ-loop
-add-copy c = omega arith
-
-shared-slice-read-copy : tie.Need-shared-slice-read-copy Inv-loop μ-loop
-shared-slice-read-copy c = omega arith
-
-array-write-copy : tie.Need-array-write-copy Inv-loop μ-loop
-array-write-copy c = omega arith
-
-add-i : tie.Need-add-i Inv-loop μ-loop
-add-i c = omega arith
-
-loop-less : tie.Need-loop-less Inv-loop μ-loop
-loop-less c = omega arith
-
 loop-again : tie.Need-loop-again Inv-loop μ-loop
 loop-again c =
     let l = (c .before .before .loop) in
@@ -58,16 +43,4 @@ returns c =
     ∙ filled (replicate 36 0) (take 36 s) (length-take-le 36 s (omega (arith, length-drop (a .at) (a .text .now))))
 
 pub line-at-spec : {M : Type 1} → statement M
-line-at-spec =
-    tie.close
-    (tie.spec
-    Inv-loop
-    μ-loop
-    loop-holds
-    add-copy
-    shared-slice-read-copy
-    array-write-copy
-    add-i
-    loop-less
-    loop-again
-    returns)
+line-at-spec = tie.close (tie.spec Inv-loop μ-loop loop-holds (λ c. omega arith) (λ c. omega arith) (λ c. omega arith) (λ c. omega arith) (λ c. omega arith) loop-again returns)

@@ -48,27 +48,6 @@ loop-holds : tie.Need-loop-holds Inv-loop μ-loop
 unfolding stored changedTo
 loop-holds c = (omega arith, refl, refl)
 
-array-read-wire : tie.Need-array-read-wire Inv-loop μ-loop
-array-read-wire c = omega arith
-
-element-copy-out-wire : tie.Need-element-copy-out-wire Inv-loop μ-loop
-element-copy-out-wire c = omega arith
-
-wire-requires : tie.Need-wire-requires Inv-loop μ-loop
-wire-requires c κs = tt
-
-add-out : tie.Need-add-out Inv-loop μ-loop
-add-out c = omega arith
-
-slice-write-out : tie.Need-slice-write-out Inv-loop μ-loop
-slice-write-out c = omega arith
-
-add-j : tie.Need-add-j Inv-loop μ-loop
-add-j c = omega arith
-
-loop-less : tie.Need-loop-less Inv-loop μ-loop
-loop-less c = omega arith
-
 loop-again : tie.Need-loop-again Inv-loop μ-loop
 loop-again c =
     let l = (c .before .before .before .loop) in
@@ -77,29 +56,11 @@ loop-again c =
     let w = c .wire .ensures ∙ ap (λ (d : List ℕ). sent (bitXor (getD (copied .result) (l .j) 0) (getD d (l .j) 0))) (c .before .before .before .before .before .before .before .pre .0) in
     (omega arith, simp length-set (l .inv .1), turn (a .out .now) (l .out) (drop (a .at) (a .text .now)) (copied .result) (a .at) (l .j) _ (copied .ensures) (l .inv .2) (omega arith) w)
 
-array-share-prefix-copy : tie.Need-array-share-prefix-copy Inv-loop μ-loop
-array-share-prefix-copy c = omega arith
-
 slice-aggregate-bcc : tie.Need-slice-aggregate-bcc Inv-loop μ-loop
 slice-aggregate-bcc c =
     let a = (c .before .before .before .before .before .before .args) in
     let copied = c .before .before .before .line-at in
     sym (length-take-le 32 (copied .result) (long (a .text .now) (copied .result) (a .at) (c .before .before .before .before .before .before .pre .1) (copied .ensures)))
-
-bcc-requires : tie.Need-bcc-requires Inv-loop μ-loop
-bcc-requires c κs = tt
-
-array-read-wire-2 : tie.Need-array-read-wire-2 Inv-loop μ-loop
-array-read-wire-2 c = omega arith
-
-wire-requires-2 : tie.Need-wire-requires-2 Inv-loop μ-loop
-wire-requires-2 c κs = tt
-
-add-out-2 : tie.Need-add-out-2 Inv-loop μ-loop
-add-out-2 c = omega arith
-
-slice-write-out-2 : tie.Need-slice-write-out-2 Inv-loop μ-loop
-slice-write-out-2 c = omega arith
 
 same-length : tie.Need-same-length Inv-loop μ-loop
 same-length c = simp length-set (c .before .before .before .before .loop .inv .1)
@@ -112,27 +73,4 @@ returns c =
     last (a .out .now) (l .out) (drop (a .at) (a .text .now)) (copied .result) (a .at) (l .j) _ (copied .ensures) (l .inv .2) (omega arith) (c .before .bcc .result) (c .before .bcc .ensures) (c .wire2 .ensures)
 
 pub write-frame-spec : {M : Type 1} → statement M
-write-frame-spec =
-    tie.close
-    (tie.spec
-    Inv-loop
-    μ-loop
-    line-at-requires
-    loop-holds
-    array-read-wire
-    element-copy-out-wire
-    wire-requires
-    add-out
-    slice-write-out
-    add-j
-    loop-less
-    loop-again
-    array-share-prefix-copy
-    slice-aggregate-bcc
-    bcc-requires
-    array-read-wire-2
-    wire-requires-2
-    add-out-2
-    slice-write-out-2
-    same-length
-    returns)
+write-frame-spec = tie.close (tie.spec Inv-loop μ-loop line-at-requires loop-holds (λ c. omega arith) (λ c. omega arith) (λ c κs. tt) (λ c. omega arith) (λ c. omega arith) (λ c. omega arith) (λ c. omega arith) loop-again (λ c. omega arith) slice-aggregate-bcc (λ c κs. tt) (λ c. omega arith) (λ c κs. tt) (λ c. omega arith) (λ c. omega arith) same-length returns)

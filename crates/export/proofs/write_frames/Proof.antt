@@ -20,17 +20,8 @@ loop-holds : tie.Need-loop-holds Inv-loop μ-loop
 unfolding stored changedLines change
 loop-holds c = (refl, omega arith, refl, refl)
 
-mul-write-frame : tie.Need-mul-write-frame Inv-loop μ-loop
-mul-write-frame c = omega arith
-
 write-frame-requires : tie.Need-write-frame-requires Inv-loop μ-loop
 write-frame-requires c κs = (c .before .before .before .loop .inv .0, omega arith, omega arith)
-
-add-i : tie.Need-add-i Inv-loop μ-loop
-add-i c = omega arith
-
-loop-less : tie.Need-loop-less Inv-loop μ-loop
-loop-less c = omega arith
 
 loop-again : tie.Need-loop-again Inv-loop μ-loop
 loop-again c =
@@ -55,16 +46,4 @@ returns c =
     l .inv .3 ∙ ap (λ (i : ℕ). stored (a .out .now) 0 (changedLines (a .text .now) i)) e
 
 pub write-frames-spec : {M : Type 1} → statement M
-write-frames-spec =
-    tie.close
-    (tie.spec
-    Inv-loop
-    μ-loop
-    loop-holds
-    mul-write-frame
-    write-frame-requires
-    add-i
-    loop-less
-    loop-again
-    same-length
-    returns)
+write-frames-spec = tie.close (tie.spec Inv-loop μ-loop loop-holds (λ c. omega arith) write-frame-requires (λ c. omega arith) (λ c. omega arith) loop-again same-length returns)

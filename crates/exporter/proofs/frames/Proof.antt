@@ -5,12 +5,6 @@ use borrow.Author.Needs.{needs}
 use Rattle.exporter.proofs.frames.Statement.{statement}
 use Rattle.exporter.proofs.frames.Tie as tie
 
-export-requires : tie.Need-export-requires
-export-requires c κs = search needs
-
-same-length : tie.Need-same-length
-same-length c = search needs
-
 returns : tie.Need-returns
 returns c =
     let a = (c .before .before .before .before .before .before .args) in
@@ -18,4 +12,4 @@ returns c =
     (e, (room-enough 24 (a .text .now) (a .out .now) _ _ _ _ (c .before .before .before .before .before .before .pre) e, frames-bound 24 (a .text .now) (a .out .now) _ _ _ _ e))
 
 pub frames-spec : {M : Type 1} → statement M
-frames-spec = tie.close (tie.spec export-requires same-length returns)
+frames-spec = tie.close (tie.spec (λ c κs. search needs) (λ c. search needs) returns)

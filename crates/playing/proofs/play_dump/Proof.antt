@@ -11,13 +11,10 @@ put-state-requires : tie.Need-put-state-requires
 put-state-requires c κs =
     omega (arith, state-short (c .before .before .args .m))
 
-same-length : tie.Need-same-length
-same-length c = search needs
-
 returns : tie.Need-returns
 unfolding dumpPlayed
 returns c =
     record { state = refl; ends = c .before .before .put-state .ensures .0; held = c .before .before .put-state .ensures .1; short = omega (arith, state-short (c .before .before .before .before .before .args .m)) }
 
 pub play-dump-spec : {M : Type 1} → statement M
-play-dump-spec = tie.close (tie.spec put-state-requires same-length returns)
+play-dump-spec = tie.close (tie.spec put-state-requires (λ c. search needs) returns)

@@ -8,15 +8,6 @@ use borrow.Author.Needs.{needs}
 use Rattle.playing.proofs.play_new.Statement.{statement}
 use Rattle.playing.proofs.play_new.Tie as tie
 
-read-new-requires : tie.Need-read-new-requires
-read-new-requires c κs = search needs
-
-refuse-requires : tie.Need-refuse-requires
-refuse-requires c κs = search needs
-
-same-length : tie.Need-same-length
-same-length c = search needs
-
 returns : tie.Need-returns
 unfolding newPlayed
 returns c =
@@ -26,22 +17,10 @@ put-one-requires : tie.Need-put-one-requires
 put-one-requires c κs =
     omega (arith, one-short (c .before .before .before .read-new .result .number))
 
-same-length-2 : tie.Need-same-length-2
-same-length-2 c = search needs
-
 returns-2 : tie.Need-returns-2
 unfolding newPlayed
 returns-2 c =
     rw (← c .before .before .before .before .before .before .read-new .ensures, ne-eqb _ _ (c .before .before .before .before .before .if1 .left)) (record { state = refl; ends = c .before .before .put-one .ensures .0; held = c .before .before .put-one .ensures .1; short = omega (arith, one-short (c .before .before .before .before .before .before .read-new .result .number)) })
 
 pub play-new-spec : {M : Type 1} → statement M
-play-new-spec =
-    tie.close
-    (tie.spec
-    read-new-requires
-    refuse-requires
-    same-length
-    returns
-    put-one-requires
-    same-length-2
-    returns-2)
+play-new-spec = tie.close (tie.spec (λ c κs. search needs) (λ c κs. search needs) (λ c. search needs) returns put-one-requires (λ c. search needs) returns-2)

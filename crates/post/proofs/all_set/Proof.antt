@@ -19,15 +19,6 @@ abbrev μ-loop : tie.MeasureT-loop
 loop-holds : tie.Need-loop-holds Inv-loop μ-loop
 loop-holds c = (omega arith, λ e i h. absurd (omega arith))
 
-element-copy-out-all : tie.Need-element-copy-out-all Inv-loop μ-loop
-element-copy-out-all c = omega arith
-
-add-j : tie.Need-add-j Inv-loop μ-loop
-add-j c = omega arith
-
-loop-less : tie.Need-loop-less Inv-loop μ-loop
-loop-less c = omega arith
-
 loop-again : tie.Need-loop-again Inv-loop μ-loop
 loop-again c =
     let l = (c .before .before .loop) in
@@ -39,6 +30,4 @@ returns c =
     λ e i h. l .inv .1 e i (omega arith)
 
 pub all-set-spec : {M : Type 1} → statement M
-all-set-spec =
-    tie.close
-    (tie.spec Inv-loop μ-loop loop-holds element-copy-out-all add-j loop-less loop-again returns)
+all-set-spec = tie.close (tie.spec Inv-loop μ-loop loop-holds (λ c. omega arith) (λ c. omega arith) (λ c. omega arith) loop-again returns)

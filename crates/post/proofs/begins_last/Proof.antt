@@ -18,9 +18,6 @@ returns-2 c =
     let a = c .before .before .args in
     rw (lt-ltb 0 (a .above) (omega arith), le-ltb 0 (length (a .s .now)) (omega arith))
 
-shared-slice-read-result : tie.Need-shared-slice-read-result
-shared-slice-read-result c = search needs
-
 returns-3 : tie.Need-returns-3
 unfolding beginsLast
 returns-3 c =
@@ -28,4 +25,4 @@ returns-3 c =
     rw (lt-ltb 0 (a .above) (omega arith), lt-ltb 0 (length (a .s .now)) (omega arith))
 
 pub begins-last-spec : {M : Type 1} → statement M
-begins-last-spec = tie.close (tie.spec returns returns-2 shared-slice-read-result returns-3)
+begins-last-spec = tie.close (tie.spec returns returns-2 (λ c. search needs) returns-3)

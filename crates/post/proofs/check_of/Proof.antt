@@ -6,26 +6,8 @@ use borrow.Author.Needs.{needs}
 use Rattle.post.proofs.check_of.Statement.{statement}
 use Rattle.post.proofs.check_of.Tie as tie
 
-seen-whole-requires : tie.Need-seen-whole-requires
-seen-whole-requires c κs = search needs
-
 returns : tie.Need-returns
 returns c = answers-post (c .before .before .before .args .tables) (c .before .before .before .args .text .now) (c .before .seen-whole .ensures (c .if1 .taken))
-
-scan-requires : tie.Need-scan-requires
-scan-requires c κs = search needs
-
-sub-rest : tie.Need-sub-rest
-sub-rest c = search needs
-
-part-rest-start : tie.Need-part-rest-start
-part-rest-start c = search needs
-
-part-rest-end : tie.Need-part-rest-end
-part-rest-end c = search needs
-
-is-last-requires : tie.Need-is-last-requires
-is-last-requires c κs = search needs
 
 returns-2 : tie.Need-returns-2
 returns-2 c =
@@ -45,9 +27,6 @@ rest-place-requires c κs =
       rw (part-is (a .text .now) (n .at)) (c .before .before .before .scan .ensures .strays),
     )
 
-add-t10 : tie.Need-add-t10
-add-t10 c = search needs
-
 returns-3 : tie.Need-returns-3
 returns-3 c =
     let a = (c .before .before .before .before .before .before .before .before .args) in
@@ -57,17 +36,4 @@ returns-3 c =
     (rw (part-is (a .text .now) (n .at)) at (c .rest-place .ensures))
 
 pub check-of-spec : {M : Type 1} → statement M
-check-of-spec =
-    tie.close
-    (tie.spec
-    seen-whole-requires
-    returns
-    scan-requires
-    sub-rest
-    part-rest-start
-    part-rest-end
-    is-last-requires
-    returns-2
-    rest-place-requires
-    add-t10
-    returns-3)
+check-of-spec = tie.close (tie.spec (λ c κs. search needs) returns (λ c κs. search needs) (λ c. search needs) (λ c. search needs) (λ c. search needs) (λ c κs. search needs) returns-2 rest-place-requires (λ c. search needs) returns-3)

@@ -19,24 +19,6 @@ unfolding columnFits
 wrapped text low high at j r l h i k m e =
     rw (l, h, getD-drop at text j 0) (fits-wrapped (getD lowest j 0) (getD highest j 0) (getD text (at + j) 0) r (bounds-order j i) (bounds-small j i) k m (rw l at e))
 
-add-wrapping-sub-u8 : tie.Need-add-wrapping-sub-u8
-add-wrapping-sub-u8 c = search needs
-
-shared-slice-read-wrapping-sub-u8 : tie.Need-shared-slice-read-wrapping-sub-u8
-shared-slice-read-wrapping-sub-u8 c = search needs
-
-element-copy-out-wrapping-sub-u8 : tie.Need-element-copy-out-wrapping-sub-u8
-element-copy-out-wrapping-sub-u8 c = search needs
-
-wrapping-sub-u8-requires : tie.Need-wrapping-sub-u8-requires
-wrapping-sub-u8-requires c κs = search needs
-
-element-copy-out-result : tie.Need-element-copy-out-result
-element-copy-out-result c = search needs
-
-element-copy-out-result-2 : tie.Need-element-copy-out-result-2
-element-copy-out-result-2 c = search needs
-
 sub-result : tie.Need-sub-result
 sub-result c =
     let j = c .before .before .before .before .before .before .args .j in
@@ -49,14 +31,4 @@ returns c =
     (omega (arith, c .before .before .before .before .before .shared-slice-known .given (a .at + a .j))) (omega (arith, c .before .before .wrapping-sub-u8 .ok)) (c .before .before .wrapping-sub-u8 .ensures)
 
 pub column-fits-spec : {M : Type 1} → statement M
-column-fits-spec =
-    tie.close
-    (tie.spec
-    add-wrapping-sub-u8
-    shared-slice-read-wrapping-sub-u8
-    element-copy-out-wrapping-sub-u8
-    wrapping-sub-u8-requires
-    element-copy-out-result
-    element-copy-out-result-2
-    sub-result
-    returns)
+column-fits-spec = tie.close (tie.spec (λ c. search needs) (λ c. search needs) (λ c. search needs) (λ c κs. search needs) (λ c. search needs) (λ c. search needs) sub-result returns)

@@ -40,12 +40,6 @@ returns-2 c =
       stops = λ h k. sym (c .before .column-fits .ensures) ∙ not-true _ (c .if2 .taken);
     }
 
-add-j : tie.Need-add-j Inv-loop μ-loop
-add-j c = omega arith
-
-loop-less : tie.Need-loop-less Inv-loop μ-loop
-loop-less c = omega arith
-
 loop-again : tie.Need-loop-again Inv-loop μ-loop
 loop-again c =
     let l = (c .before .before .before .before .before .loop) in
@@ -57,17 +51,4 @@ returns-3 c =
     record { in-text = l .inv .3; in-line = omega arith; before = l .inv .4; stops = λ h k. absurd (omega arith) }
 
 pub first-stray-spec : {M : Type 1} → statement M
-first-stray-spec =
-    tie.close
-    (tie.spec
-    Inv-loop
-    μ-loop
-    late-stray-requires
-    returns
-    loop-holds
-    column-fits-requires
-    returns-2
-    add-j
-    loop-less
-    loop-again
-    returns-3)
+first-stray-spec = tie.close (tie.spec Inv-loop μ-loop late-stray-requires returns loop-holds column-fits-requires returns-2 (λ c. omega arith) (λ c. omega arith) loop-again returns-3)

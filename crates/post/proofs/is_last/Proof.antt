@@ -22,15 +22,6 @@ returns-2 c =
     let a = (c .before .before .args) in
     rw (lt-ltb 0 (a .above) (omega arith)) (sym (matching-length eqb (a .s .now) lastLine (c .if2 .taken)))
 
-shared-slice-read-result : tie.Need-shared-slice-read-result
-shared-slice-read-result c = search needs
-
-shared-slice-read-result-2 : tie.Need-shared-slice-read-result-2
-shared-slice-read-result-2 c = search needs
-
-shared-slice-read-result-3 : tie.Need-shared-slice-read-result-3
-shared-slice-read-result-3 c = search needs
-
 returns-3 : tie.Need-returns-3
 unfolding isLast
 returns-3 c =
@@ -38,12 +29,4 @@ returns-3 c =
     rw (lt-ltb 0 (a .above) (omega arith)) (last-three (a .s .now) (c .before .before .before .if2 .left))
 
 pub is-last-spec : {M : Type 1} → statement M
-is-last-spec =
-    tie.close
-    (tie.spec
-    returns
-    returns-2
-    shared-slice-read-result
-    shared-slice-read-result-2
-    shared-slice-read-result-3
-    returns-3)
+is-last-spec = tie.close (tie.spec returns returns-2 (λ c. search needs) (λ c. search needs) (λ c. search needs) returns-3)

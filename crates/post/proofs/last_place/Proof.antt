@@ -46,9 +46,6 @@ returns c =
     let f = first-is s (c .before .pre) in
     record { some = omega arith; in-text = omega (arith, f .0); in-line = omega arith; same = same-one s (f .0) (f .1); stops = λ a b d. omega (arith, c .if1 .taken) }
 
-shared-slice-read-if2 : tie.Need-shared-slice-read-if2
-shared-slice-read-if2 c = search needs
-
 returns-2 : tie.Need-returns-2
 unfolding lastLine
 returns-2 c =
@@ -62,9 +59,6 @@ returns-3 c =
     let s = c .before .before .before .before .args .s .now in
     let f = first-is s (c .before .before .before .before .pre) in
     record { some = omega arith; in-text = omega arith; in-line = omega arith; same = same-two s (omega arith) (f .1) (c .before .if2 .left); stops = λ a b d. omega arith }
-
-shared-slice-read-if4 : tie.Need-shared-slice-read-if4
-shared-slice-read-if4 c = search needs
 
 returns-4 : tie.Need-returns-4
 unfolding lastLine
@@ -80,13 +74,4 @@ returns-5 c =
     record { some = omega arith; in-text = omega arith; in-line = omega arith; same = same-three s (omega arith) (f .1) (c .before .before .before .if2 .left) (c .if4 .left); stops = λ a b d. omega arith }
 
 pub last-place-spec : {M : Type 1} → statement M
-last-place-spec =
-    tie.close
-    (tie.spec
-    returns
-    shared-slice-read-if2
-    returns-2
-    returns-3
-    shared-slice-read-if4
-    returns-4
-    returns-5)
+last-place-spec = tie.close (tie.spec returns (λ c. search needs) returns-2 returns-3 (λ c. search needs) returns-4 returns-5)

@@ -14,15 +14,6 @@ use Rattle.post.proofs.late_stray.Tie as tie
 close : (third : ℕ) → third ≤ 20 → third ≤ smaller 16 third + 16
 close third h = ⊎-elim (λ e. omega arith) (λ e. omega arith) (smaller-one 16 third)
 
-sub-third : tie.Need-sub-third
-sub-third c = search needs
-
-cast-third : tie.Need-cast-third
-cast-third c = search needs
-
-smaller-requires : tie.Need-smaller-requires
-smaller-requires c κs = search needs
-
 stray-in-requires : tie.Need-stray-in-requires
 unfolding lowest highest
 stray-in-requires c κs =
@@ -47,4 +38,4 @@ returns c =
     first-of s (length s - 16 + 16) (c .stray-in .result) (omega (arith, p .1)) (omega (arith, p .0)) (λ h. omega arith) (c .stray-in .ensures)
 
 pub late-stray-spec : {M : Type 1} → statement M
-late-stray-spec = tie.close (tie.spec sub-third cast-third smaller-requires stray-in-requires returns)
+late-stray-spec = tie.close (tie.spec (λ c. search needs) (λ c. search needs) (λ c κs. search needs) stray-in-requires returns)

@@ -101,21 +101,4 @@ returns-8 c =
     place-stray (a .tables) (a .above) (a .s .now) (a .stray) f (omega arith) (λ e. (omega arith, omega arith)) (λ e. (omega arith, omega arith))
 
 pub line-place-spec : {M : Type 1} → statement M
-line-place-spec =
-    tie.close
-    (tie.spec
-    returns
-    returns-2
-    shared-slice-read-tens
-    sub-tens
-    mul-tens
-    returns-3
-    add-if4
-    returns-4
-    returns-5
-    shared-slice-read-number
-    sub-number
-    add-number
-    returns-6
-    returns-7
-    returns-8)
+line-place-spec = tie.close (tie.spec returns returns-2 shared-slice-read-tens sub-tens mul-tens returns-3 add-if4 returns-4 returns-5 shared-slice-read-number sub-number add-number returns-6 returns-7 returns-8)

@@ -21,9 +21,6 @@ Inv-loop text lines tables low high floor ceiling top fits₀ above₀ rise₀ l
 abbrev μ-loop : tie.MeasureT-loop
 μ-loop text lines tables low high floor ceiling top fits₀ above₀ rise₀ l₀ fits above rise l = lines - l
 
-wide-requires : tie.Need-wide-requires Inv-loop μ-loop
-wide-requires c κs = tt
-
 add-top : tie.Need-add-top Inv-loop μ-loop
 add-top c = omega (arith, c .wide .ensures .1)
 
@@ -31,22 +28,10 @@ loop-holds : tie.Need-loop-holds Inv-loop μ-loop
 unfolding lowest highest
 loop-holds c = (refl, refl, refl, refl, ap (λ (x : ℕ). 528 + x) (c .wide .ensures .0), omega arith, rose-none _ _ _ refl)
 
-mul-at : tie.Need-mul-at Inv-loop μ-loop
-mul-at c = omega arith
-
 take-line-requires : tie.Need-take-line-requires Inv-loop μ-loop
 take-line-requires c κs =
     let l = c .before .before .before .before .before .before .loop in
     (l .inv .0, l .inv .1, l .inv .2, l .inv .3, omega arith, l .inv .6 .long)
-
-raw-number-requires : tie.Need-raw-number-requires Inv-loop μ-loop
-raw-number-requires c κs = omega arith
-
-add-l : tie.Need-add-l Inv-loop μ-loop
-add-l c = omega arith
-
-loop-less : tie.Need-loop-less Inv-loop μ-loop
-loop-less c = omega arith
 
 loop-again : tie.Need-loop-again Inv-loop μ-loop
 loop-again c =
@@ -61,9 +46,6 @@ loop-again c =
       rose-more (a .tables) (a .text .now) (l .l) (l .above) _ (c .raw-number .result) (l .rise) (l .fits) _ (l .inv .4) (raw-is (a .text .now) (l .l) (c .raw-number .result) (c .raw-number .ensures)) (c .before .take-line .ensures) (l .inv .6),
     )
 
-all-set-requires : tie.Need-all-set-requires Inv-loop μ-loop
-all-set-requires c κs = tt
-
 returns : tie.Need-returns Inv-loop μ-loop
 returns c =
     let l = (c .before .before .before .loop) in
@@ -74,19 +56,4 @@ returns c =
     (and-right (c .all-set .result) (l .rise) t) k (omega arith)
 
 pub lines-rise-spec : {M : Type 1} → statement M
-lines-rise-spec =
-    tie.close
-    (tie.spec
-    Inv-loop
-    μ-loop
-    wide-requires
-    add-top
-    loop-holds
-    mul-at
-    take-line-requires
-    raw-number-requires
-    add-l
-    loop-less
-    loop-again
-    all-set-requires
-    returns)
+lines-rise-spec = tie.close (tie.spec Inv-loop μ-loop (λ c κs. tt) add-top loop-holds (λ c. omega arith) take-line-requires (λ c κs. omega arith) (λ c. omega arith) (λ c. omega arith) loop-again (λ c κs. tt) returns)

@@ -49,12 +49,6 @@ returns c =
     let s = drop (a .at) (a .text .now) in
     strays (a .tables) (a .above) s (whole-strays s (a .stray) (rw (length-drop (a .at) (a .text .now)) (omega (arith, c .before .pre .0))) (c .before .pre .1) (c .if1 .taken))
 
-add-n : tie.Need-add-n
-add-n c = search needs
-
-shared-slice-read-n : tie.Need-shared-slice-read-n
-shared-slice-read-n c = search needs
-
 sub-n : tie.Need-sub-n
 sub-n c =
     let d = digits (c .before .before .args .text .now) (c .before .before .args .at) (whole-fits (drop (c .before .before .args .at) (c .before .before .args .text .now)) (c .before .before .args .stray) (c .before .before .pre .1) (c .before .if1 .left)) in
@@ -64,12 +58,6 @@ mul-n : tie.Need-mul-n
 mul-n c =
     let d = digits (c .before .before .args .text .now) (c .before .before .args .at) (whole-fits (drop (c .before .before .args .at) (c .before .before .args .text .now)) (c .before .before .args .stray) (c .before .before .pre .1) (c .before .if1 .left)) in
     omega (arith, d .1)
-
-add-n-2 : tie.Need-add-n-2
-add-n-2 c = search needs
-
-shared-slice-read-n-2 : tie.Need-shared-slice-read-n-2
-shared-slice-read-n-2 c = search needs
 
 sub-n-2 : tie.Need-sub-n-2
 sub-n-2 c =
@@ -97,18 +85,4 @@ returns-4 c =
     found (a .tables) (a .above) _ (drop (a .at) (a .text .now)) (whole-fits (drop (c .before .before .before .before .before .args .at) (c .before .before .before .before .before .args .text .now)) (c .before .before .before .before .before .args .stray) (c .before .before .before .before .before .pre .1) (c .before .before .before .before .if1 .left)) (number-at (a .text .now) (a .at)) (omega (arith, c .before .if2 .left)) (c .if3 .left)
 
 pub next-number-spec : {M : Type 1} → statement M
-next-number-spec =
-    tie.close
-    (tie.spec
-    returns
-    add-n
-    shared-slice-read-n
-    sub-n
-    mul-n
-    add-n-2
-    shared-slice-read-n-2
-    sub-n-2
-    add-n-3
-    returns-2
-    returns-3
-    returns-4)
+next-number-spec = tie.close (tie.spec returns (λ c. search needs) (λ c. search needs) sub-n mul-n (λ c. search needs) (λ c. search needs) sub-n-2 add-n-3 returns-2 returns-3 returns-4)

@@ -15,9 +15,6 @@ use borrow.Author.Needs.{needs}
 use Rattle.post.proofs.rest_place.Statement.{statement}
 use Rattle.post.proofs.rest_place.Tie as tie
 
-begins-last-requires : tie.Need-begins-last-requires
-begins-last-requires c κs = search needs
-
 last-place-requires : tie.Need-last-place-requires
 last-place-requires c κs = begins-one (c .before .before .before .args .above) (c .before .before .before .args .s .now) (sym (c .before .begins-last .ensures) ∙ c .if1 .taken)
 
@@ -39,6 +36,4 @@ returns-2 c =
     (not-begun (a .above) (a .s .now) (sym (c .before .before .begins-last .ensures) ∙ c .before .if1 .left)) (pre .0) (pre .2)
 
 pub rest-place-spec : {M : Type 1} → statement M
-rest-place-spec =
-    tie.close
-    (tie.spec begins-last-requires last-place-requires returns line-place-requires returns-2)
+rest-place-spec = tie.close (tie.spec (λ c κs. search needs) last-place-requires returns line-place-requires returns-2)

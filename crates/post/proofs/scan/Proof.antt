@@ -34,9 +34,6 @@ returns c = record { passed = c .before .before .before .before .loop .inv .2; s
 add-l : tie.Need-add-l Inv-loop μ-loop
 add-l c = omega (arith, c .before .before .before .before .loop .inv .0)
 
-loop-less : tie.Need-loop-less Inv-loop μ-loop
-loop-less c = omega arith
-
 loop-again : tie.Need-loop-again Inv-loop μ-loop
 loop-again c =
     let l = (c .before .before .before .before .loop) in
@@ -78,22 +75,4 @@ returns-2 c =
     }
 
 pub scan-spec : {M : Type 1} → statement M
-scan-spec =
-    tie.close
-    (tie.spec
-    Inv-loop
-    μ-loop
-    loop-holds
-    mul-at
-    stray-at-requires
-    next-number-requires
-    returns
-    add-l
-    loop-less
-    loop-again
-    mul-at-2
-    sub-first-stray
-    part-first-stray-start
-    part-first-stray-end
-    first-stray-requires
-    returns-2)
+scan-spec = tie.close (tie.spec Inv-loop μ-loop loop-holds mul-at stray-at-requires next-number-requires returns add-l (λ c. omega arith) loop-again mul-at-2 sub-first-stray part-first-stray-start part-first-stray-end first-stray-requires returns-2)

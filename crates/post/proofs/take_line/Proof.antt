@@ -23,29 +23,11 @@ loop-holds c = (omega arith, c .before .pre .5, took-none _ _)
 column-fits-requires : tie.Need-column-fits-requires Inv-loop μ-loop
 column-fits-requires c κs = (c .before .before .before .pre .0, c .before .before .before .pre .1, omega arith, omega arith)
 
-add-column-fits : tie.Need-add-column-fits Inv-loop μ-loop
-add-column-fits c = omega arith
-
 column-fits-requires-2 : tie.Need-column-fits-requires-2 Inv-loop μ-loop
 column-fits-requires-2 c κs = (c .before .before .before .before .pre .0, c .before .before .before .before .pre .1, omega arith, omega arith)
 
-add-column-fits-2 : tie.Need-add-column-fits-2 Inv-loop μ-loop
-add-column-fits-2 c = omega arith
-
 column-fits-requires-3 : tie.Need-column-fits-requires-3 Inv-loop μ-loop
 column-fits-requires-3 c κs = (c .before .before .before .before .before .pre .2, c .before .before .before .before .before .pre .3, omega arith, omega arith)
-
-element-copy-out-fits : tie.Need-element-copy-out-fits Inv-loop μ-loop
-element-copy-out-fits c = omega arith
-
-element-write-fits : tie.Need-element-write-fits Inv-loop μ-loop
-element-write-fits c = omega arith
-
-add-j : tie.Need-add-j Inv-loop μ-loop
-add-j c = omega arith
-
-loop-less : tie.Need-loop-less Inv-loop μ-loop
-loop-less c = omega arith
 
 loop-again : tie.Need-loop-again Inv-loop μ-loop
 loop-again c =
@@ -61,20 +43,4 @@ returns c =
     rw e at (l .inv .2)
 
 pub take-line-spec : {M : Type 1} → statement M
-take-line-spec =
-    tie.close
-    (tie.spec
-    Inv-loop
-    μ-loop
-    loop-holds
-    column-fits-requires
-    add-column-fits
-    column-fits-requires-2
-    add-column-fits-2
-    column-fits-requires-3
-    element-copy-out-fits
-    element-write-fits
-    add-j
-    loop-less
-    loop-again
-    returns)
+take-line-spec = tie.close (tie.spec Inv-loop μ-loop loop-holds column-fits-requires (λ c. omega arith) column-fits-requires-2 (λ c. omega arith) column-fits-requires-3 (λ c. omega arith) (λ c. omega arith) (λ c. omega arith) (λ c. omega arith) loop-again returns)

@@ -11,18 +11,6 @@ use borrow.Author.Needs.{needs}
 use Rattle.replies.proofs.ask_password.Statement.{statement}
 use Rattle.replies.proofs.ask_password.Tie as tie
 
-slice-aggregate-put : tie.Need-slice-aggregate-put
-slice-aggregate-put c = search needs
-
-put-requires : tie.Need-put-requires
-put-requires c κs = search needs
-
-seal-requires : tie.Need-seal-requires
-seal-requires c κs = search needs
-
-same-length : tie.Need-same-length
-same-length c = search needs
-
 returns : tie.Need-returns
 unfolding passwordAsk frameOf bracketed sealed
 returns c =
@@ -32,5 +20,4 @@ returns c =
     (omega (arith, written .0, shut .0), sealing (start .args .buf .now) (1 ∷ 80 ∷ 48 ∷ 2 ∷ 40 ∷ 48 ∷ 48 ∷ 48 ∷ 48 ∷ 41 ∷ []) _ _ (omega arith) (written .0) (written .1) _ (omega arith) (shut .1))
 
 pub ask-password-spec : {M : Type 1} → statement M
-ask-password-spec =
-    tie.close (tie.spec slice-aggregate-put put-requires seal-requires same-length returns)
+ask-password-spec = tie.close (tie.spec (λ c. search needs) (λ c κs. search needs) (λ c κs. search needs) (λ c. search needs) returns)

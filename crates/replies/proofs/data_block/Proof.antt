@@ -9,21 +9,6 @@ use borrow.Author.Needs.{needs}
 use Rattle.replies.proofs.data_block.Statement.{statement}
 use Rattle.replies.proofs.data_block.Tie as tie
 
-slice-aggregate-put : tie.Need-slice-aggregate-put
-slice-aggregate-put c = search needs
-
-put-requires : tie.Need-put-requires
-put-requires c κs = search needs
-
-put-block-requires : tie.Need-put-block-requires
-put-block-requires c κs = search needs
-
-seal-requires : tie.Need-seal-requires
-seal-requires c κs = search needs
-
-same-length : tie.Need-same-length
-same-length c = search needs
-
 returns : tie.Need-returns
 returns c =
     let start = c .before .before .before .before .before .before .before .before .before .before .before .before .before .before in
@@ -37,12 +22,4 @@ returns c =
     )
 
 pub data-block-spec : {M : Type 1} → statement M
-data-block-spec =
-    tie.close
-    (tie.spec
-    slice-aggregate-put
-    put-requires
-    put-block-requires
-    seal-requires
-    same-length
-    returns)
+data-block-spec = tie.close (tie.spec (λ c. search needs) (λ c κs. search needs) (λ c κs. search needs) (λ c κs. search needs) (λ c. search needs) returns)

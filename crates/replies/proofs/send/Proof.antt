@@ -9,22 +9,10 @@ use borrow.Author.Needs.{needs}
 use Rattle.replies.proofs.send.Statement.{statement}
 use Rattle.replies.proofs.send.Tie as tie
 
-put-requires : tie.Need-put-requires
-put-requires c κs = search needs
-
-slice-relend-prefix-put-parity : tie.Need-slice-relend-prefix-put-parity
-slice-relend-prefix-put-parity c = search needs
-
 slice-aggregate-put-parity : tie.Need-slice-aggregate-put-parity
 slice-aggregate-put-parity c =
     let written = c .before .before .before .put .ensures in
     sym (length-take-le (c .before .before .before .put .result) (c .before .before .before .put .last .0) (rw (written .1, length-stored (c .before .before .before .before .before .before .before .args .buf .now) 0 (c .before .before .before .before .before .before .before .args .s .now)) (omega (arith, written .0, c .before .before .before .before .before .before .before .pre))))
-
-put-parity-requires : tie.Need-put-parity-requires
-put-parity-requires c κs = search needs
-
-same-length : tie.Need-same-length
-same-length c = search needs
 
 returns : tie.Need-returns
 returns c =
@@ -33,12 +21,4 @@ returns c =
     (omega (arith, written .0), rw (c .before .before .put-parity .ensures) (sent-front (start .args .buf .now) (start .args .s .now) (c .before .before .before .before .before .before .put .last .0) (c .before .before .before .before .before .before .put .result) (start .pre) (omega (arith, written .0)) (written .1)))
 
 pub send-spec : {M : Type 1} → statement M
-send-spec =
-    tie.close
-    (tie.spec
-    put-requires
-    slice-relend-prefix-put-parity
-    slice-aggregate-put-parity
-    put-parity-requires
-    same-length
-    returns)
+send-spec = tie.close (tie.spec (λ c κs. search needs) (λ c. search needs) slice-aggregate-put-parity (λ c κs. search needs) (λ c. search needs) returns)

@@ -22,23 +22,11 @@ record Lengths (c : tie.Start) : Type 0 where
 lengths : (c : tie.Start) → Lengths c
 lengths c = record { held = search needs; serial = search needs; account = search needs; password = search needs; tables = search needs }
 
-slice-aggregate-put : tie.Need-slice-aggregate-put
-slice-aggregate-put c = search needs
-
-slice-aggregate-put-2 : tie.Need-slice-aggregate-put-2
-slice-aggregate-put-2 c = search needs
-
 put-requires : tie.Need-put-requires
 put-requires c κs =
     let m = c .before .before .before .before .before .before .before .before .before .args .m in
     let l = lengths (c .before .before .before .before .before .before .before .before .before) in
     omega arith
-
-slice-aggregate-put-3 : tie.Need-slice-aggregate-put-3
-slice-aggregate-put-3 c = search needs
-
-slice-aggregate-put-4 : tie.Need-slice-aggregate-put-4
-slice-aggregate-put-4 c = search needs
 
 put-requires-2 : tie.Need-put-requires-2
 put-requires-2 c κs =
@@ -47,12 +35,6 @@ put-requires-2 c κs =
     let w1 : Wrote (replicate 667 0) 0 (m .receiver .held) _ _ = record { next = c .before .before .before .put .ensures .0; held = c .before .before .before .put .ensures .1 } in
     then-fits w1 (m .registers .serial) (omega (arith, length-append (m .receiver .held) (m .registers .serial)))
 
-slice-aggregate-put-5 : tie.Need-slice-aggregate-put-5
-slice-aggregate-put-5 c = search needs
-
-slice-aggregate-put-6 : tie.Need-slice-aggregate-put-6
-slice-aggregate-put-6 c = search needs
-
 put-requires-3 : tie.Need-put-requires-3
 put-requires-3 c κs =
     let m = c .before .before .before .before .before .before .before .before .before .before .before .before .before .before .before .before .before .args .m in
@@ -60,9 +42,6 @@ put-requires-3 c κs =
     let w1 : Wrote (replicate 667 0) 0 (m .receiver .held) _ _ = record { next = c .before .before .before .before .before .before .before .put .ensures .0; held = c .before .before .before .before .before .before .before .put .ensures .1 } in
     let w2 : Wrote _ _ (m .registers .serial) _ _ = record { next = c .before .before .before .put2 .ensures .0; held = c .before .before .before .put2 .ensures .1 } in
     then-fits (followed w1 w2) (m .registers .account) (omega (arith, length-append (m .receiver .held) (m .registers .serial), length-append ((m .receiver .held) ++ (m .registers .serial)) (m .registers .account)))
-
-slice-aggregate-put-7 : tie.Need-slice-aggregate-put-7
-slice-aggregate-put-7 c = search needs
 
 slice-aggregate-put-8 : tie.Need-slice-aggregate-put-8
 slice-aggregate-put-8 c = sym (lengths (c .before .before .before .before .before .before .before .before .before .before .before .before .before .before .before .before .before .before .before .before .before) .password)
@@ -75,9 +54,6 @@ put-requires-4 c κs =
     let w2 : Wrote _ _ (m .registers .serial) _ _ = record { next = c .before .before .before .before .before .before .before .put2 .ensures .0; held = c .before .before .before .before .before .before .before .put2 .ensures .1 } in
     let w3 : Wrote _ _ (m .registers .account) _ _ = record { next = c .before .before .before .put3 .ensures .0; held = c .before .before .before .put3 .ensures .1 } in
     then-fits (followed (followed w1 w2) w3) (m .registers .password) (omega (arith, length-append (m .receiver .held) (m .registers .serial), length-append ((m .receiver .held) ++ (m .registers .serial)) (m .registers .account), length-append (((m .receiver .held) ++ (m .registers .serial)) ++ (m .registers .account)) (m .registers .password)))
-
-slice-aggregate-put-9 : tie.Need-slice-aggregate-put-9
-slice-aggregate-put-9 c = search needs
 
 slice-aggregate-put-10 : tie.Need-slice-aggregate-put-10
 slice-aggregate-put-10 c = sym (lengths (c .before .before .before .before .before .before .before .before .before .before .before .before .before .before .before .before .before .before .before .before .before .before .before .before .before) .tables)
@@ -106,22 +82,4 @@ returns c =
     r .held ∙ stored-all (replicate 667 0) (((((m .receiver .held) ++ (m .registers .serial)) ++ (m .registers .account)) ++ (m .registers .password)) ++ (m .registers .tables)) (omega (arith, length-append (m .receiver .held) (m .registers .serial), length-append ((m .receiver .held) ++ (m .registers .serial)) (m .registers .account), length-append (((m .receiver .held) ++ (m .registers .serial)) ++ (m .registers .account)) (m .registers .password), length-append ((((m .receiver .held) ++ (m .registers .serial)) ++ (m .registers .account)) ++ (m .registers .password)) (m .registers .tables)))
 
 pub bytes-of-spec : {M : Type 1} → statement M
-bytes-of-spec =
-    tie.close
-    (tie.spec
-    slice-aggregate-put
-    slice-aggregate-put-2
-    put-requires
-    slice-aggregate-put-3
-    slice-aggregate-put-4
-    put-requires-2
-    slice-aggregate-put-5
-    slice-aggregate-put-6
-    put-requires-3
-    slice-aggregate-put-7
-    slice-aggregate-put-8
-    put-requires-4
-    slice-aggregate-put-9
-    slice-aggregate-put-10
-    put-requires-5
-    returns)
+bytes-of-spec = tie.close (tie.spec (λ c. search needs) (λ c. search needs) put-requires (λ c. search needs) (λ c. search needs) put-requires-2 (λ c. search needs) (λ c. search needs) put-requires-3 (λ c. search needs) slice-aggregate-put-8 put-requires-4 (λ c. search needs) slice-aggregate-put-10 put-requires-5 returns)

@@ -8,30 +8,12 @@ use borrow.Author.Needs.{needs}
 use Rattle.snapshot.proofs.clock_of.Statement.{statement}
 use Rattle.snapshot.proofs.clock_of.Tie as tie
 
-element-copy-out-date-of : tie.Need-element-copy-out-date-of
-element-copy-out-date-of c = search needs
-
-element-copy-out-date-of-2 : tie.Need-element-copy-out-date-of-2
-element-copy-out-date-of-2 c = search needs
-
-element-copy-out-date-of-3 : tie.Need-element-copy-out-date-of-3
-element-copy-out-date-of-3 c = search needs
-
 date-of-requires : tie.Need-date-of-requires
 unfolding stateForm
 date-of-requires c κs =
     let ns = c .before .before .before .args .n .now in
     let w = c .before .before .before .pre in
     (omega (arith, number-within stateForm ns 8 65535 w (lit< tt) refl (lit< tt)), omega (arith, number-within stateForm ns 9 255 w (lit< tt) refl (lit< tt)), omega (arith, number-within stateForm ns 10 255 w (lit< tt) refl (lit< tt)))
-
-element-copy-out-time-of : tie.Need-element-copy-out-time-of
-element-copy-out-time-of c = search needs
-
-element-copy-out-time-of-2 : tie.Need-element-copy-out-time-of-2
-element-copy-out-time-of-2 c = search needs
-
-element-copy-out-time-of-3 : tie.Need-element-copy-out-time-of-3
-element-copy-out-time-of-3 c = search needs
 
 time-of-requires : tie.Need-time-of-requires
 unfolding stateForm
@@ -45,15 +27,4 @@ unfolding clockIn
 returns c = rw (c .before .before .before .before .date-of .ensures, c .time-of .ensures)
 
 pub clock-of-spec : {M : Type 1} → statement M
-clock-of-spec =
-    tie.close
-    (tie.spec
-    element-copy-out-date-of
-    element-copy-out-date-of-2
-    element-copy-out-date-of-3
-    date-of-requires
-    element-copy-out-time-of
-    element-copy-out-time-of-2
-    element-copy-out-time-of-3
-    time-of-requires
-    returns)
+clock-of-spec = tie.close (tie.spec (λ c. search needs) (λ c. search needs) (λ c. search needs) date-of-requires (λ c. search needs) (λ c. search needs) (λ c. search needs) time-of-requires returns)

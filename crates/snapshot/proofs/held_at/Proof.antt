@@ -11,15 +11,6 @@ use borrow.Author.Needs.{needs}
 use Rattle.snapshot.proofs.held_at.Statement.{statement}
 use Rattle.snapshot.proofs.held_at.Tie as tie
 
-slice-aggregate-put : tie.Need-slice-aggregate-put
-slice-aggregate-put c = search needs
-
-rest-requires : tie.Need-rest-requires
-rest-requires c κs = search needs
-
-first-requires : tie.Need-first-requires
-first-requires c κs = search needs
-
 put-requires : tie.Need-put-requires
 unfolding partOf
 put-requires c κs =
@@ -35,5 +26,4 @@ returns c =
     c .before .put .ensures .1 ∙ ap (stored (replicate 63 0) 0) part ∙ stored-all (replicate 63 0) (take 63 (drop (a .at) (a .b .now))) (part-long (a .at) 63 (a .b .now) (c .before .before .before .before .before .before .pre))
 
 pub held-at-spec : {M : Type 1} → statement M
-held-at-spec =
-    tie.close (tie.spec slice-aggregate-put rest-requires first-requires put-requires returns)
+held-at-spec = tie.close (tie.spec (λ c. search needs) (λ c κs. search needs) (λ c κs. search needs) put-requires returns)

@@ -8,38 +8,17 @@ use borrow.Author.Needs.{needs}
 use Rattle.snapshot.proofs.meter_of.Statement.{statement}
 use Rattle.snapshot.proofs.meter_of.Tie as tie
 
-element-copy-out-t5 : tie.Need-element-copy-out-t5
-element-copy-out-t5 c = search needs
-
 cast-t6 : tie.Need-cast-t6
 unfolding stateForm
 cast-t6 c = omega (arith, number-within stateForm (c .before .before .args .n .now) 0 255 (c .before .before .pre .0) (lit< tt) refl (lit< tt))
 
-element-copy-out-t9 : tie.Need-element-copy-out-t9
-element-copy-out-t9 c = search needs
-
 cast-t10 : tie.Need-cast-t10
 unfolding stateForm
 cast-t10 c = omega (arith, number-within stateForm (c .before .before .before .args .n .now) 7 255 (c .before .before .before .pre .0) (lit< tt) refl (lit< tt))
-
-receiver-of-requires : tie.Need-receiver-of-requires
-receiver-of-requires c κs = search needs
-
-registers-of-requires : tie.Need-registers-of-requires
-registers-of-requires c κs = search needs
 
 returns : tie.Need-returns
 unfolding meterIn
 returns c = rw (c .before .receiver-of .ensures, c .registers-of .ensures)
 
 pub meter-of-spec : {M : Type 1} → statement M
-meter-of-spec =
-    tie.close
-    (tie.spec
-    element-copy-out-t5
-    cast-t6
-    element-copy-out-t9
-    cast-t10
-    receiver-of-requires
-    registers-of-requires
-    returns)
+meter-of-spec = tie.close (tie.spec (λ c. search needs) cast-t6 (λ c. search needs) cast-t10 (λ c κs. search needs) (λ c κs. search needs) returns)

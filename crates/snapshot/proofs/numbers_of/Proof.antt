@@ -12,52 +12,9 @@ bit-is : (b : Bool) → mir.Val.boolByte b ≡ bit b
 bit-is true = refl
 bit-is false = refl
 
-cast-t8 : tie.Need-cast-t8
-cast-t8 c = search needs
-
-cast-t9 : tie.Need-cast-t9
-cast-t9 c = search needs
-
-cast-t10 : tie.Need-cast-t10
-cast-t10 c = search needs
-
-cast-t11 : tie.Need-cast-t11
-cast-t11 c = search needs
-
-cast-t12 : tie.Need-cast-t12
-cast-t12 c = search needs
-
-cast-t13 : tie.Need-cast-t13
-cast-t13 c = search needs
-
-cast-t14 : tie.Need-cast-t14
-cast-t14 c = search needs
-
-cast-t15 : tie.Need-cast-t15
-cast-t15 c = search needs
-
-cast-t16 : tie.Need-cast-t16
-cast-t16 c = search needs
-
-cast-t17 : tie.Need-cast-t17
-cast-t17 c = search needs
-
 returns : tie.Need-returns
 unfolding stateNumbers
 returns c = rw (bit-is (c .before .before .before .before .before .before .before .before .before .before .before .before .before .before .before .before .args .m .receiver .mark))
 
 pub numbers-of-spec : {M : Type 1} → statement M
-numbers-of-spec =
-    tie.close
-    (tie.spec
-    cast-t8
-    cast-t9
-    cast-t10
-    cast-t11
-    cast-t12
-    cast-t13
-    cast-t14
-    cast-t15
-    cast-t16
-    cast-t17
-    returns)
+numbers-of-spec = tie.close (tie.spec (λ c. search needs) (λ c. search needs) (λ c. search needs) (λ c. search needs) (λ c. search needs) (λ c. search needs) (λ c. search needs) (λ c. search needs) (λ c. search needs) (λ c. search needs) returns)

@@ -14,42 +14,12 @@ use borrow.Author.Needs.{needs}
 use Rattle.snapshot.proofs.put_state.Statement.{statement}
 use Rattle.snapshot.proofs.put_state.Tie as tie
 
-numbers-of-requires : tie.Need-numbers-of-requires
-numbers-of-requires c κs = search needs
-
-bytes-of-requires : tie.Need-bytes-of-requires
-bytes-of-requires c κs = search needs
-
-cast-put : tie.Need-cast-put
-cast-put c = search needs
-
 put-requires : tie.Need-put-requires
 unfolding stateText
 put-requires c κs =
     let a = c .before .before .before .before .before .args in
     let fits = c .before .before .before .before .before .pre in
     first-fits (a .at) (digitsOf (a .m .mode)) (fieldsText (drop 1 stateForm) (drop 1 (stateNumbers (a .m))) (stateBytes (a .m))) _ (first-fits (a .at) ((digitsOf (a .m .mode)) ++ (fieldsText (drop 1 stateForm) (drop 1 (stateNumbers (a .m))) (stateBytes (a .m)))) (10 ∷ []) _ fits)
-
-sub-put : tie.Need-sub-put
-sub-put c = search needs
-
-part-put-start : tie.Need-part-put-start
-part-put-start c = search needs
-
-part-put-end : tie.Need-part-put-end
-part-put-end c = search needs
-
-sub-put-2 : tie.Need-sub-put-2
-sub-put-2 c = search needs
-
-part-put-start-2 : tie.Need-part-put-start-2
-part-put-start-2 c = search needs
-
-part-put-end-2 : tie.Need-part-put-end-2
-part-put-end-2 c = search needs
-
-slice-aggregate-put : tie.Need-slice-aggregate-put
-slice-aggregate-put c = search needs
 
 put-requires-2 : tie.Need-put-requires-2
 unfolding stateText stateForm stateNumbers roomOf sizeOf isNumber
@@ -63,9 +33,6 @@ put-requires-2 c κs =
     let full : length (c .before .before .before .before .before .before .before .before .before .before .before .bytes-of .result) ≡ 667 = search needs in
     (omega (arith, long, length-take 18 (drop 1 (c .before .before .before .before .before .before .before .before .before .before .before .before .numbers-of .result)), length-drop 1 (c .before .before .before .before .before .before .before .before .before .before .before .before .numbers-of .result)), rw full (lit≤ tt), rw same (then-fits w1 (fieldsText (drop 1 stateForm) (drop 1 (stateNumbers (a .m))) (stateBytes (a .m))) (first-fits (a .at) ((digitsOf (a .m .mode)) ++ (fieldsText (drop 1 stateForm) (drop 1 (stateNumbers (a .m))) (stateBytes (a .m)))) (10 ∷ []) _ fits)))
 
-slice-aggregate-put-2 : tie.Need-slice-aggregate-put-2
-slice-aggregate-put-2 c = search needs
-
 put-requires-3 : tie.Need-put-requires-3
 unfolding stateText stateForm stateNumbers
 put-requires-3 c κs =
@@ -76,9 +43,6 @@ put-requires-3 c κs =
     ap₂ (λ (ns bs : List ℕ). fieldsText (drop 1 stateForm) (take 18 (drop 1 ns)) bs) (c .before .before .before .before .before .before .before .before .before .before .before .before .before .before .before .before .before .numbers-of .ensures) (c .before .before .before .before .before .before .before .before .before .before .before .before .before .before .before .before .bytes-of .ensures) in
     let w2 : Wrote _ _ (fieldsText (drop 1 stateForm) (drop 1 (stateNumbers (a .m))) (stateBytes (a .m))) _ _ = record { next = c .before .before .before .before .put2 .ensures .0 ∙ ap (λ (t : List ℕ). c .before .before .before .before .before .before .before .before .before .before .before .before .before .put .result + length t) same; held = c .before .before .before .before .put2 .ensures .1 ∙ ap (stored _ _) same } in
     then-fits (followed w1 w2) (10 ∷ []) fits
-
-same-length : tie.Need-same-length
-same-length c = search needs
 
 returns : tie.Need-returns
 unfolding stateText stateForm stateNumbers
@@ -94,22 +58,4 @@ returns c =
     (r .next, r .held)
 
 pub put-state-spec : {M : Type 1} → statement M
-put-state-spec =
-    tie.close
-    (tie.spec
-    numbers-of-requires
-    bytes-of-requires
-    cast-put
-    put-requires
-    sub-put
-    part-put-start
-    part-put-end
-    sub-put-2
-    part-put-start-2
-    part-put-end-2
-    slice-aggregate-put
-    put-requires-2
-    slice-aggregate-put-2
-    put-requires-3
-    same-length
-    returns)
+put-state-spec = tie.close (tie.spec (λ c κs. search needs) (λ c κs. search needs) (λ c. search needs) put-requires (λ c. search needs) (λ c. search needs) (λ c. search needs) (λ c. search needs) (λ c. search needs) (λ c. search needs) (λ c. search needs) put-requires-2 (λ c. search needs) put-requires-3 (λ c. search needs) returns)

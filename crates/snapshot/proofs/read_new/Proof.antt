@@ -12,21 +12,9 @@ use borrow.Author.Needs.{needs}
 use Rattle.snapshot.proofs.read_new.Statement.{statement}
 use Rattle.snapshot.proofs.read_new.Tie as tie
 
-slice-aggregate-read : tie.Need-slice-aggregate-read
-slice-aggregate-read c = search needs
-
-slice-aggregate-read-2 : tie.Need-slice-aggregate-read-2
-slice-aggregate-read-2 c = search needs
-
-slice-aggregate-read-3 : tie.Need-slice-aggregate-read-3
-slice-aggregate-read-3 c = search needs
-
 read-requires : tie.Need-read-requires
 unfolding roomOf sizeOf isNumber
 read-requires c κs = (c .before .before .before .before .pre, lit≤ tt, lit≤ tt)
-
-slice-aggregate-made-of : tie.Need-slice-aggregate-made-of
-slice-aggregate-made-of c = search needs
 
 made-of-requires : tie.Need-made-of-requires
 unfolding factsForm
@@ -59,14 +47,4 @@ returns-2 c =
     rw none
 
 pub read-new-spec : {M : Type 1} → statement M
-read-new-spec =
-    tie.close
-    (tie.spec
-    slice-aggregate-read
-    slice-aggregate-read-2
-    slice-aggregate-read-3
-    read-requires
-    slice-aggregate-made-of
-    made-of-requires
-    returns
-    returns-2)
+read-new-spec = tie.close (tie.spec (λ c. search needs) (λ c. search needs) (λ c. search needs) read-requires (λ c. search needs) made-of-requires returns returns-2)

@@ -13,21 +13,9 @@ use borrow.Author.Needs.{needs}
 use Rattle.snapshot.proofs.read_state.Statement.{statement}
 use Rattle.snapshot.proofs.read_state.Tie as tie
 
-slice-aggregate-read : tie.Need-slice-aggregate-read
-slice-aggregate-read c = search needs
-
-slice-aggregate-read-2 : tie.Need-slice-aggregate-read-2
-slice-aggregate-read-2 c = search needs
-
-slice-aggregate-read-3 : tie.Need-slice-aggregate-read-3
-slice-aggregate-read-3 c = search needs
-
 read-requires : tie.Need-read-requires
 unfolding roomOf sizeOf isNumber
 read-requires c κs = (c .before .before .before .before .pre, lit≤ tt, lit≤ tt)
-
-slice-aggregate-meter-of : tie.Need-slice-aggregate-meter-of
-slice-aggregate-meter-of c = search needs
 
 meter-of-requires : tie.Need-meter-of-requires
 unfolding stateForm
@@ -60,14 +48,4 @@ returns-2 c =
     rw none
 
 pub read-state-spec : {M : Type 1} → statement M
-read-state-spec =
-    tie.close
-    (tie.spec
-    slice-aggregate-read
-    slice-aggregate-read-2
-    slice-aggregate-read-3
-    read-requires
-    slice-aggregate-meter-of
-    meter-of-requires
-    returns
-    returns-2)
+read-state-spec = tie.close (tie.spec (λ c. search needs) (λ c. search needs) (λ c. search needs) read-requires (λ c. search needs) meter-of-requires returns returns-2)

@@ -8,23 +8,13 @@ use borrow.Author.Needs.{needs}
 use Rattle.snapshot.proofs.receiver_of.Statement.{statement}
 use Rattle.snapshot.proofs.receiver_of.Tie as tie
 
-held-at-requires : tie.Need-held-at-requires
-held-at-requires c κs = search needs
-
-element-copy-out-t6 : tie.Need-element-copy-out-t6
-element-copy-out-t6 c = search needs
-
 cast-t7 : tie.Need-cast-t7
 unfolding stateForm
 cast-t7 c = omega (arith, number-within stateForm (c .before .before .before .args .n .now) 1 255 (c .before .before .before .pre .0) (lit< tt) refl (lit< tt))
-
-element-copy-out-t10 : tie.Need-element-copy-out-t10
-element-copy-out-t10 c = search needs
 
 returns : tie.Need-returns
 unfolding receiverIn
 returns c = rw (c .before .before .held-at .ensures)
 
 pub receiver-of-spec : {M : Type 1} → statement M
-receiver-of-spec =
-    tie.close (tie.spec held-at-requires element-copy-out-t6 cast-t7 element-copy-out-t10 returns)
+receiver-of-spec = tie.close (tie.spec (λ c κs. search needs) (λ c. search needs) cast-t7 (λ c. search needs) returns)

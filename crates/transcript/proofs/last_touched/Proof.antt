@@ -19,12 +19,6 @@ loop-holds : tie.Need-loop-holds Inv-loop μ-loop
 unfolding touched
 loop-holds c = (omega arith, ap touched (drop-length (c .args .reply .now)))
 
-sub-last : tie.Need-sub-last Inv-loop μ-loop
-sub-last c = omega arith
-
-shared-slice-read-if1 : tie.Need-shared-slice-read-if1 Inv-loop μ-loop
-shared-slice-read-if1 c = omega arith
-
 returns : tie.Need-returns Inv-loop μ-loop
 returns c =
     let s = c .before .before .before .before .args .reply .now in
@@ -32,9 +26,6 @@ returns c =
     let e : n - 1 + 1 ≡ n = omega arith in
     let past : touched (drop (n - 1 + 1) s) ≡ 0 = ap (λ (k : ℕ). touched (drop k s)) e ∙ c .before .before .before .loop .inv .1 in
     sym e ∙ touched-at s (n - 1) (omega arith) (c .if1 .taken) past
-
-loop-less : tie.Need-loop-less Inv-loop μ-loop
-loop-less c = omega arith
 
 loop-again : tie.Need-loop-again Inv-loop μ-loop
 loop-again c =
@@ -53,15 +44,4 @@ returns-2 c =
     none ∙ sym (rw none at past)
 
 pub last-touched-spec : {M : Type 1} → statement M
-last-touched-spec =
-    tie.close
-    (tie.spec
-    Inv-loop
-    μ-loop
-    loop-holds
-    sub-last
-    shared-slice-read-if1
-    returns
-    loop-less
-    loop-again
-    returns-2)
+last-touched-spec = tie.close (tie.spec Inv-loop μ-loop loop-holds (λ c. omega arith) (λ c. omega arith) returns (λ c. omega arith) loop-again returns-2)

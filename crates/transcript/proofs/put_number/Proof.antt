@@ -11,9 +11,6 @@ use borrow.Author.Needs.{needs}
 use Rattle.transcript.proofs.put_number.Statement.{statement}
 use Rattle.transcript.proofs.put_number.Tie as tie
 
-slice-aggregate-put : tie.Need-slice-aggregate-put
-slice-aggregate-put c = search needs
-
 put-requires : tie.Need-put-requires
 unfolding numberText
 put-requires c κs = first-fits (c .before .before .before .args .at) (32 ∷ []) (digitsOf (c .before .before .before .args .n)) _ (c .before .before .before .pre)
@@ -25,9 +22,6 @@ put-requires-2 c κs =
     let w : Wrote (a .buf .now) (a .at) (32 ∷ []) _ _ = record { next = c .before .before .before .put .ensures .0; held = c .before .before .before .put .ensures .1 } in
     then-fits w (digitsOf (a .n)) (c .before .before .before .before .before .before .before .pre)
 
-same-length : tie.Need-same-length
-same-length c = search needs
-
 returns : tie.Need-returns
 unfolding numberText
 returns c =
@@ -38,5 +32,4 @@ returns c =
     (r .next, r .held)
 
 pub put-number-spec : {M : Type 1} → statement M
-put-number-spec =
-    tie.close (tie.spec slice-aggregate-put put-requires put-requires-2 same-length returns)
+put-number-spec = tie.close (tie.spec (λ c. search needs) put-requires put-requires-2 (λ c. search needs) returns)

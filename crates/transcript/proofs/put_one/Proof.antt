@@ -17,18 +17,12 @@ put-requires c κs =
     let a = c .before .before .args in
     first-fits (a .at) (digitsOf (a .number)) (10 ∷ []) _ (c .before .before .pre)
 
-slice-aggregate-put : tie.Need-slice-aggregate-put
-slice-aggregate-put c = search needs
-
 put-requires-2 : tie.Need-put-requires-2
 unfolding oneText
 put-requires-2 c κs =
     let a = c .before .before .before .before .before .before .before .args in
     let w1 : Wrote (a .buf .now) (a .at) (digitsOf (a .number)) _ _ = record { next = c .before .before .before .before .put .ensures .0; held = c .before .before .before .before .put .ensures .1 } in
     then-fits w1 (10 ∷ []) (c .before .before .before .before .before .before .before .pre)
-
-same-length : tie.Need-same-length
-same-length c = search needs
 
 returns : tie.Need-returns
 unfolding oneText
@@ -40,5 +34,4 @@ returns c =
     (r .next, r .held)
 
 pub put-one-spec : {M : Type 1} → statement M
-put-one-spec =
-    tie.close (tie.spec put-requires slice-aggregate-put put-requires-2 same-length returns)
+put-one-spec = tie.close (tie.spec put-requires (λ c. search needs) put-requires-2 (λ c. search needs) returns)

@@ -41,9 +41,6 @@ put-string-requires c κs =
     let w3 : Wrote _ _ (numberText (a .length)) _ _ = record { next = c .before .before .before .put-number2 .ensures .0; held = c .before .before .before .put-number2 .ensures .1 } in
     then-fits (followed (followed w1 w2) w3) (stringText (a .shown .now)) (first-fits (a .at) ((((digitsOf (a .number)) ++ (numberText (a .speed))) ++ (numberText (a .length))) ++ (stringText (a .shown .now))) (10 ∷ []) _ (c .before .before .before .before .before .before .before .before .before .before .before .before .before .before .before .pre))
 
-slice-aggregate-put : tie.Need-slice-aggregate-put
-slice-aggregate-put c = search needs
-
 put-requires-2 : tie.Need-put-requires-2
 unfolding replyText
 put-requires-2 c κs =
@@ -53,9 +50,6 @@ put-requires-2 c κs =
     let w3 : Wrote _ _ (numberText (a .length)) _ _ = record { next = c .before .before .before .before .before .before .before .before .put-number2 .ensures .0; held = c .before .before .before .before .before .before .before .before .put-number2 .ensures .1 } in
     let w4 : Wrote _ _ (stringText (a .shown .now)) _ _ = record { next = c .before .before .before .before .put-string .ensures .0; held = c .before .before .before .before .put-string .ensures .1 } in
     then-fits (followed (followed (followed w1 w2) w3) w4) (10 ∷ []) (c .before .before .before .before .before .before .before .before .before .before .before .before .before .before .before .before .before .before .before .before .pre)
-
-same-length : tie.Need-same-length
-same-length c = search needs
 
 returns : tie.Need-returns
 unfolding replyText
@@ -70,14 +64,4 @@ returns c =
     (r .next, r .held)
 
 pub put-reply-spec : {M : Type 1} → statement M
-put-reply-spec =
-    tie.close
-    (tie.spec
-    put-requires
-    put-number-requires
-    put-number-requires-2
-    put-string-requires
-    slice-aggregate-put
-    put-requires-2
-    same-length
-    returns)
+put-reply-spec = tie.close (tie.spec put-requires put-number-requires put-number-requires-2 put-string-requires (λ c. search needs) put-requires-2 (λ c. search needs) returns)

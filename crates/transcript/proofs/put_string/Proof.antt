@@ -16,22 +16,13 @@ use borrow.Author.Needs.{needs}
 use Rattle.transcript.proofs.put_string.Statement.{statement}
 use Rattle.transcript.proofs.put_string.Tie as tie
 
-slice-aggregate-put : tie.Need-slice-aggregate-put
-slice-aggregate-put c = search needs
-
 put-requires : tie.Need-put-requires
 unfolding stringText
 put-requires c κs = rw (eq-eqb _ 0 (c .before .before .if1 .taken)) at (c .before .before .before .before .before .pre)
 
-same-length : tie.Need-same-length
-same-length c = search needs
-
 returns : tie.Need-returns
 unfolding stringText
 returns c = rw (eq-eqb _ 0 (c .before .before .before .before .before .if1 .taken)) (c .before .before .put .ensures .0, c .before .before .put .ensures .1)
-
-slice-aggregate-put-2 : tie.Need-slice-aggregate-put-2
-slice-aggregate-put-2 c = search needs
 
 put-requires-2 : tie.Need-put-requires-2
 unfolding stringText
@@ -48,9 +39,6 @@ put-requires-3 c κs =
     let w : Wrote (a .buf .now) (a .at) (32 ∷ []) _ _ = record { next = c .before .before .before .put2 .ensures .0; held = c .before .before .before .put2 .ensures .1 } in
     rw (length-hex (a .s .now)) at (then-fits w (hexText (a .s .now)) h)
 
-same-length-2 : tie.Need-same-length-2
-same-length-2 c = search needs
-
 returns-2 : tie.Need-returns-2
 unfolding stringText
 returns-2 c =
@@ -61,15 +49,4 @@ returns-2 c =
     rw (ne-eqb (length (a .s .now)) 0 (c .before .before .before .before .before .before .before .before .before .if1 .left)) (r .next, r .held)
 
 pub put-string-spec : {M : Type 1} → statement M
-put-string-spec =
-    tie.close
-    (tie.spec
-    slice-aggregate-put
-    put-requires
-    same-length
-    returns
-    slice-aggregate-put-2
-    put-requires-2
-    put-requires-3
-    same-length-2
-    returns-2)
+put-string-spec = tie.close (tie.spec (λ c. search needs) put-requires (λ c. search needs) returns (λ c. search needs) put-requires-2 put-requires-3 (λ c. search needs) returns-2)

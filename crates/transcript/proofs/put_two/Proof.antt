@@ -24,9 +24,6 @@ put-number-requires c κs =
     let w1 : Wrote (a .buf .now) (a .at) (digitsOf (a .number)) _ _ = record { next = c .before .before .before .put .ensures .0; held = c .before .before .before .put .ensures .1 } in
     then-fits w1 (numberText (a .speed)) (first-fits (a .at) ((digitsOf (a .number)) ++ (numberText (a .speed))) (10 ∷ []) _ (c .before .before .before .before .before .before .pre))
 
-slice-aggregate-put : tie.Need-slice-aggregate-put
-slice-aggregate-put c = search needs
-
 put-requires-2 : tie.Need-put-requires-2
 unfolding twoText
 put-requires-2 c κs =
@@ -34,9 +31,6 @@ put-requires-2 c κs =
     let w1 : Wrote (a .buf .now) (a .at) (digitsOf (a .number)) _ _ = record { next = c .before .before .before .before .before .before .before .before .put .ensures .0; held = c .before .before .before .before .before .before .before .before .put .ensures .1 } in
     let w2 : Wrote _ _ (numberText (a .speed)) _ _ = record { next = c .before .before .before .before .put-number .ensures .0; held = c .before .before .before .before .put-number .ensures .1 } in
     then-fits (followed w1 w2) (10 ∷ []) (c .before .before .before .before .before .before .before .before .before .before .before .pre)
-
-same-length : tie.Need-same-length
-same-length c = search needs
 
 returns : tie.Need-returns
 unfolding twoText
@@ -49,12 +43,4 @@ returns c =
     (r .next, r .held)
 
 pub put-two-spec : {M : Type 1} → statement M
-put-two-spec =
-    tie.close
-    (tie.spec
-    put-requires
-    put-number-requires
-    slice-aggregate-put
-    put-requires-2
-    same-length
-    returns)
+put-two-spec = tie.close (tie.spec put-requires put-number-requires (λ c. search needs) put-requires-2 (λ c. search needs) returns)

@@ -9,19 +9,10 @@ use borrow.Author.Needs.{needs}
 use Rattle.transcript.proofs.shown.Statement.{statement}
 use Rattle.transcript.proofs.shown.Tie as tie
 
-rest-requires : tie.Need-rest-requires
-rest-requires c κs = search needs
-
-all-between-requires : tie.Need-all-between-requires
-all-between-requires c κs = search needs
-
 returns : tie.Need-returns
 returns c =
     let a = c .before .before .before .before .args in
     shown-short (a .reply .now) (a .length) _ (c .before .all-between .ensures ∙ ap (every (between 170 170)) (c .before .before .rest .ensures)) (c .if1 .taken)
-
-last-touched-requires : tie.Need-last-touched-requires
-last-touched-requires c κs = search needs
 
 returns-2 : tie.Need-returns-2
 returns-2 c =
@@ -30,5 +21,4 @@ returns-2 c =
     ∙ shown-long (a .reply .now) (a .length) _ (c .before .before .all-between .ensures ∙ ap (every (between 170 170)) (c .before .before .before .rest .ensures)) (c .before .if1 .left)
 
 pub shown-spec : {M : Type 1} → statement M
-shown-spec =
-    tie.close (tie.spec rest-requires all-between-requires returns last-touched-requires returns-2)
+shown-spec = tie.close (tie.spec (λ c κs. search needs) (λ c κs. search needs) returns (λ c κs. search needs) returns-2)

@@ -10,19 +10,10 @@ use borrow.Author.Needs.{needs}
 use Rattle.playing.proofs.answering.hear_in.Statement.{statement}
 use Rattle.playing.proofs.answering.hear_in.Tie as tie
 
-hear-one-requires : tie.Need-hear-one-requires
-hear-one-requires c κs = search needs
-
-same-length : tie.Need-same-length
-same-length c = search needs
-
 returns : tie.Need-returns
 unfolding oneHeard
 returns c =
     did-as (c .before .before .hear-one .ensures) (ap (λ (n : ℕ). given (character (c .before .before .before .before .before .before .args .m) n (c .before .before .before .before .before .before .args .b)) n) (sym (c .before .before .before .before .if1 .taken))) (omega arith)
-
-array-borrow-prefix-reply : tie.Need-array-borrow-prefix-reply
-array-borrow-prefix-reply c = search needs
 
 slice-aggregate-hear : tie.Need-slice-aggregate-hear
 slice-aggregate-hear c =
@@ -32,22 +23,9 @@ hear-requires : tie.Need-hear-requires
 hear-requires c κs =
     part-fits (c .before .before .before .before .args .room) (c .before .before .before .before .args .at) _ (c .before .before .before .before .pre .0) (c .before .before .before .before .pre .1)
 
-same-length-2 : tie.Need-same-length-2
-same-length-2 c = search needs
-
 returns-2 : tie.Need-returns-2
 returns-2 c =
     did-as (c .before .before .before .hear .ensures) (given-in (λ (n : ℕ). character (c .before .before .before .before .before .before .before .before .args .m) n (c .before .before .before .before .before .before .before .before .args .b)) (c .before .before .before .before .before .before .before .before .args .room) _ (front (c .before .before .before .before .before .before .before .before .args .room) 8192 170 (c .before .before .before .before .before .before .before .before .pre .0))) (part-short (c .before .before .before .before .before .before .before .before .args .room) (c .before .before .before .before .before .before .before .before .pre .0))
 
 pub hear-in-spec : {M : Type 1} → statement M
-hear-in-spec =
-    tie.close
-    (tie.spec
-    hear-one-requires
-    same-length
-    returns
-    array-borrow-prefix-reply
-    slice-aggregate-hear
-    hear-requires
-    same-length-2
-    returns-2)
+hear-in-spec = tie.close (tie.spec (λ c κs. search needs) (λ c. search needs) returns (λ c. search needs) slice-aggregate-hear hear-requires (λ c. search needs) returns-2)

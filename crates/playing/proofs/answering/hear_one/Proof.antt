@@ -10,19 +10,10 @@ use borrow.Author.Needs.{needs}
 use Rattle.playing.proofs.answering.hear_one.Statement.{statement}
 use Rattle.playing.proofs.answering.hear_one.Tie as tie
 
-slice-aggregate-hear : tie.Need-slice-aggregate-hear
-slice-aggregate-hear c = search needs
-
-hear-requires : tie.Need-hear-requires
-hear-requires c κs = search needs
-
-same-length : tie.Need-same-length
-same-length c = search needs
-
 returns : tie.Need-returns
 unfolding oneHeard
 returns c =
     did-as (c .before .before .before .hear .ensures) (given-in (λ (n : ℕ). character (c .before .before .before .before .before .before .before .args .m) n (c .before .before .before .before .before .before .before .args .b)) 2048 _ refl) (omega arith)
 
 pub hear-one-spec : {M : Type 1} → statement M
-hear-one-spec = tie.close (tie.spec slice-aggregate-hear hear-requires same-length returns)
+hear-one-spec = tie.close (tie.spec (λ c. search needs) (λ c κs. search needs) (λ c. search needs) returns)

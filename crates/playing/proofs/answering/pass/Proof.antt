@@ -11,13 +11,10 @@ put-two-requires : tie.Need-put-two-requires
 put-two-requires c κs =
     let a = c .before .before .before .args .a in omega (arith, two-short (a .number) (a .speed))
 
-same-length : tie.Need-same-length
-same-length c = search needs
-
 returns : tie.Need-returns
 unfolding passed
 returns c =
     let a = c .before .before .before .before .before .before .args .a in record { state = refl; ends = c .before .before .put-two .ensures .0; held = c .before .before .put-two .ensures .1; short = omega (arith, two-short (a .number) (a .speed)) }
 
 pub pass-spec : {M : Type 1} → statement M
-pass-spec = tie.close (tie.spec put-two-requires same-length returns)
+pass-spec = tie.close (tie.spec put-two-requires (λ c. search needs) returns)

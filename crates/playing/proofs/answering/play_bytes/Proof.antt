@@ -20,20 +20,11 @@ hear-next-requires : tie.Need-hear-next-requires Inv-loop μ-loop
 hear-next-requires c κs =
     let l = c .before .before .loop in (omega (arith, l .inv .within), omega (arith, l .inv .near, l .inv .long, c .before .before .before .before .before .pre))
 
-add-k : tie.Need-add-k Inv-loop μ-loop
-add-k c = omega arith
-
-loop-less : tie.Need-loop-less Inv-loop μ-loop
-loop-less c = omega arith
-
 loop-again : tie.Need-loop-again Inv-loop μ-loop
 loop-again c =
     let l = c .before .before .before .before .before .loop in
     let a = c .before .before .before .before .before .before .before .before .args in
     left-next (a .m) (a .s .now) (a .out .now) (a .at) (l .k) (l .p .next) (l .p .place) (l .out) (l .inv) (omega arith) _ _ _ (c .before .before .hear-next .ensures)
-
-same-length : tie.Need-same-length Inv-loop μ-loop
-same-length c = omega arith
 
 returns : tie.Need-returns Inv-loop μ-loop
 returns c =
@@ -42,15 +33,4 @@ returns c =
     left-all (a .m) (a .s .now) (a .out .now) (a .at) (l .k) (l .p .next) (l .p .place) (l .out) (l .inv) (omega arith)
 
 pub play-bytes-spec : {M : Type 1} → statement M
-play-bytes-spec =
-    tie.close
-    (tie.spec
-    Inv-loop
-    μ-loop
-    loop-holds
-    hear-next-requires
-    add-k
-    loop-less
-    loop-again
-    same-length
-    returns)
+play-bytes-spec = tie.close (tie.spec Inv-loop μ-loop loop-holds hear-next-requires (λ c. omega arith) (λ c. omega arith) loop-again (λ c. omega arith) returns)

@@ -12,12 +12,6 @@ use borrow.Author.Needs.{needs}
 use Rattle.playing.proofs.answering.show.Statement.{statement}
 use Rattle.playing.proofs.answering.show.Tie as tie
 
-shown-requires : tie.Need-shown-requires
-shown-requires c κs = search needs
-
-first-requires : tie.Need-first-requires
-first-requires c κs = search needs
-
 put-reply-requires : tie.Need-put-reply-requires
 unfolding shownOf
 put-reply-requires c κs =
@@ -25,9 +19,6 @@ put-reply-requires c κs =
     let s = c .before .before .before .before .before .before .args .reply .now in
     let same : _ ≡ shownOf s (a .length) = c .before .first .ensures ∙ ap (λ (n : ℕ). take n s) (c .before .before .shown .ensures) in
     rw same (omega (arith, reply-short (a .number) (a .speed) (a .length) (shownOf s (a .length)), shown-short-of s (a .length)))
-
-same-length : tie.Need-same-length
-same-length c = search needs
 
 returns : tie.Need-returns
 unfolding replied shownOf
@@ -43,5 +34,4 @@ returns c =
     }
 
 pub show-spec : {M : Type 1} → statement M
-show-spec =
-    tie.close (tie.spec shown-requires first-requires put-reply-requires same-length returns)
+show-spec = tie.close (tie.spec (λ c κs. search needs) (λ c κs. search needs) put-reply-requires (λ c. search needs) returns)

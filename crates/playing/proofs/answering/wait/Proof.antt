@@ -7,22 +7,9 @@ use borrow.Author.Needs.{needs}
 use Rattle.playing.proofs.answering.wait.Statement.{statement}
 use Rattle.playing.proofs.answering.wait.Tie as tie
 
-hear-nothing-requires : tie.Need-hear-nothing-requires
-hear-nothing-requires c κs = search needs
-
-show-requires : tie.Need-show-requires
-show-requires c κs = search needs
-
-same-length : tie.Need-same-length
-same-length c = search needs
-
-same-length-2 : tie.Need-same-length-2
-same-length-2 c = search needs
-
 returns : tie.Need-returns
 returns c =
     did-as (c .before .before .show .ensures) (ap₂ replied (c .before .before .before .before .before .before .before .hear-nothing .ensures .0) (c .before .before .before .before .before .before .before .hear-nothing .ensures .1)) (omega arith)
 
 pub wait-spec : {M : Type 1} → statement M
-wait-spec =
-    tie.close (tie.spec hear-nothing-requires show-requires same-length same-length-2 returns)
+wait-spec = tie.close (tie.spec (λ c κs. search needs) (λ c κs. search needs) (λ c. search needs) (λ c. search needs) returns)

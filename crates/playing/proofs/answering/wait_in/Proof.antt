@@ -10,18 +10,9 @@ use borrow.Author.Needs.{needs}
 use Rattle.playing.proofs.answering.wait_in.Statement.{statement}
 use Rattle.playing.proofs.answering.wait_in.Tie as tie
 
-wait-once-requires : tie.Need-wait-once-requires
-wait-once-requires c κs = search needs
-
-same-length : tie.Need-same-length
-same-length c = search needs
-
 returns : tie.Need-returns
 returns c =
     did-as (c .before .before .wait-once .ensures) (ap (λ (n : ℕ). given (silence (c .before .before .before .before .before .before .args .m) n) n) (sym (c .before .before .before .before .if1 .taken))) (omega arith)
-
-array-borrow-prefix-reply : tie.Need-array-borrow-prefix-reply
-array-borrow-prefix-reply c = search needs
 
 slice-aggregate-wait : tie.Need-slice-aggregate-wait
 slice-aggregate-wait c =
@@ -31,22 +22,9 @@ wait-requires : tie.Need-wait-requires
 wait-requires c κs =
     part-fits (c .before .before .before .before .args .room) (c .before .before .before .before .args .at) _ (c .before .before .before .before .pre .0) (c .before .before .before .before .pre .1)
 
-same-length-2 : tie.Need-same-length-2
-same-length-2 c = search needs
-
 returns-2 : tie.Need-returns-2
 returns-2 c =
     did-as (c .before .before .before .wait .ensures) (given-in (silence (c .before .before .before .before .before .before .before .before .args .m)) (c .before .before .before .before .before .before .before .before .args .room) _ (front (c .before .before .before .before .before .before .before .before .args .room) 8192 170 (c .before .before .before .before .before .before .before .before .pre .0))) (part-short (c .before .before .before .before .before .before .before .before .args .room) (c .before .before .before .before .before .before .before .before .pre .0))
 
 pub wait-in-spec : {M : Type 1} → statement M
-wait-in-spec =
-    tie.close
-    (tie.spec
-    wait-once-requires
-    same-length
-    returns
-    array-borrow-prefix-reply
-    slice-aggregate-wait
-    wait-requires
-    same-length-2
-    returns-2)
+wait-in-spec = tie.close (tie.spec (λ c κs. search needs) (λ c. search needs) returns (λ c. search needs) slice-aggregate-wait wait-requires (λ c. search needs) returns-2)

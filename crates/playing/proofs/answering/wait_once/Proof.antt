@@ -7,18 +7,9 @@ use borrow.Author.Needs.{needs}
 use Rattle.playing.proofs.answering.wait_once.Statement.{statement}
 use Rattle.playing.proofs.answering.wait_once.Tie as tie
 
-slice-aggregate-wait : tie.Need-slice-aggregate-wait
-slice-aggregate-wait c = search needs
-
-wait-requires : tie.Need-wait-requires
-wait-requires c κs = search needs
-
-same-length : tie.Need-same-length
-same-length c = search needs
-
 returns : tie.Need-returns
 returns c =
     did-as (c .before .before .before .wait .ensures) (given-in (silence (c .before .before .before .before .before .before .before .args .m)) 2048 _ refl) (omega arith)
 
 pub wait-once-spec : {M : Type 1} → statement M
-wait-once-spec = tie.close (tie.spec slice-aggregate-wait wait-requires same-length returns)
+wait-once-spec = tie.close (tie.spec (λ c. search needs) (λ c κs. search needs) (λ c. search needs) returns)

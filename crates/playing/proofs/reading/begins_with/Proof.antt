@@ -5,16 +5,10 @@ use borrow.Author.Needs.{needs}
 use Rattle.playing.proofs.reading.begins_with.Statement.{statement}
 use Rattle.playing.proofs.reading.begins_with.Tie as tie
 
-first-requires : tie.Need-first-requires
-first-requires c κs = search needs
-
-same-requires : tie.Need-same-requires
-same-requires c κs = search needs
-
 returns : tie.Need-returns
 unfolding begins
 returns c =
     rw (c .same .ensures, c .before .first .ensures)
 
 pub begins-with-spec : {M : Type 1} → statement M
-begins-with-spec = tie.close (tie.spec first-requires same-requires returns)
+begins-with-spec = tie.close (tie.spec (λ c κs. search needs) (λ c κs. search needs) returns)

@@ -5,23 +5,10 @@ use borrow.Author.Needs.{needs}
 use Rattle.playing.proofs.reading.byte_good.Statement.{statement}
 use Rattle.playing.proofs.reading.byte_good.Tie as tie
 
-at-requires : tie.Need-at-requires
-at-requires c κs = search needs
-
-is-hex-requires : tie.Need-is-hex-requires
-is-hex-requires c κs = search needs
-
-at-requires-2 : tie.Need-at-requires-2
-at-requires-2 c κs = search needs
-
-is-hex-requires-2 : tie.Need-is-hex-requires-2
-is-hex-requires-2 c κs = search needs
-
 returns : tie.Need-returns
 unfolding byteGood
 returns c =
     rw (c .before .before .is-hex .ensures, c .before .before .before .at .ensures, c .is-hex2 .ensures, c .before .at2 .ensures)
 
 pub byte-good-spec : {M : Type 1} → statement M
-byte-good-spec =
-    tie.close (tie.spec at-requires is-hex-requires at-requires-2 is-hex-requires-2 returns)
+byte-good-spec = tie.close (tie.spec (λ c κs. search needs) (λ c κs. search needs) (λ c κs. search needs) (λ c κs. search needs) returns)

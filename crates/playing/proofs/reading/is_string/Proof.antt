@@ -5,19 +5,10 @@ use borrow.Author.Needs.{needs}
 use Rattle.playing.proofs.reading.is_string.Statement.{statement}
 use Rattle.playing.proofs.reading.is_string.Tie as tie
 
-slice-aggregate-same : tie.Need-slice-aggregate-same
-slice-aggregate-same c = search needs
-
-same-requires : tie.Need-same-requires
-same-requires c κs = search needs
-
-all-hex-requires : tie.Need-all-hex-requires
-all-hex-requires c κs = search needs
-
 returns : tie.Need-returns
 unfolding isString
 returns c =
     rw (c .before .same .ensures, c .all-hex .ensures)
 
 pub is-string-spec : {M : Type 1} → statement M
-is-string-spec = tie.close (tie.spec slice-aggregate-same same-requires all-hex-requires returns)
+is-string-spec = tie.close (tie.spec (λ c. search needs) (λ c κs. search needs) (λ c κs. search needs) returns)

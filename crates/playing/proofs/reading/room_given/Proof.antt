@@ -14,15 +14,6 @@ unfolding roomGiven
 returns c =
     (rw (eq-eqb _ _ (c .if1 .taken)), omega arith)
 
-at-requires : tie.Need-at-requires
-at-requires c κs = search needs
-
-rest-requires : tie.Need-rest-requires
-rest-requires c κs = search needs
-
-read-requires : tie.Need-read-requires
-read-requires c κs = search needs
-
 returns-2 : tie.Need-returns-2
 unfolding roomGiven
 returns-2 c =
@@ -34,5 +25,4 @@ returns-3 c =
     (rw (ne-eqb _ _ (c .before .before .if1 .left), ← c .before .at .ensures, ne-eqb _ _ (c .if2 .left)), omega arith)
 
 pub room-given-spec : {M : Type 1} → statement M
-room-given-spec =
-    tie.close (tie.spec returns at-requires rest-requires read-requires returns-2 returns-3)
+room-given-spec = tie.close (tie.spec returns (λ c κs. search needs) (λ c κs. search needs) (λ c κs. search needs) returns-2 returns-3)

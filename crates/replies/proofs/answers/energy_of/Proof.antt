@@ -9,15 +9,6 @@ use borrow.Author.Needs.{needs}
 use Rattle.replies.proofs.answers.energy_of.Statement.{statement}
 use Rattle.replies.proofs.answers.energy_of.Tie as tie
 
-total-of-requires : tie.Need-total-of-requires
-total-of-requires c κs = search needs
-
-mul-result : tie.Need-mul-result
-mul-result c = search needs
-
-array-read-result : tie.Need-array-read-result
-array-read-result c = search needs
-
 returns : tie.Need-returns
 unfolding energy
 returns c =
@@ -31,5 +22,4 @@ returns-2 c =
     sym (List·getD-eq-default (total (a .c) ∷ a .c .t1 ∷ a .c .t2 ∷ a .c .t3 ∷ a .c .t4 ∷ []) 0 (c .if1 .left))
 
 pub energy-of-spec : {M : Type 1} → statement M
-energy-of-spec =
-    tie.close (tie.spec total-of-requires mul-result array-read-result returns returns-2)
+energy-of-spec = tie.close (tie.spec (λ c κs. search needs) (λ c. search needs) (λ c. search needs) returns returns-2)

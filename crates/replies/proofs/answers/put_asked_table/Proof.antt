@@ -6,18 +6,11 @@ use borrow.Author.Needs.{needs}
 use Rattle.replies.proofs.answers.put_asked_table.Statement.{statement}
 use Rattle.replies.proofs.answers.put_asked_table.Tie as tie
 
-row-of-requires : tie.Need-row-of-requires
-row-of-requires c κs = search needs
-
 put-table-set-requires : tie.Need-put-table-set-requires
 put-table-set-requires c κs = rw (c .before .row-of .ensures) (omega (arith, c .before .before .before .before .pre, row-short (c .before .before .before .before .args .tables .now) (c .before .before .before .before .args .t .0)))
-
-same-length : tie.Need-same-length
-same-length c = search needs
 
 returns : tie.Need-returns
 returns c = rw (← c .before .before .before .before .row-of .ensures) (c .before .before .put-table-set .ensures)
 
 pub put-asked-table-spec : {M : Type 1} → statement M
-put-asked-table-spec =
-    tie.close (tie.spec row-of-requires put-table-set-requires same-length returns)
+put-asked-table-spec = tie.close (tie.spec (λ c κs. search needs) put-table-set-requires (λ c. search needs) returns)

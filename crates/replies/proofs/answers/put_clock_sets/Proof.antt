@@ -7,15 +7,6 @@ use borrow.Author.Needs.{needs}
 use Rattle.replies.proofs.answers.put_clock_sets.Statement.{statement}
 use Rattle.replies.proofs.answers.put_clock_sets.Tie as tie
 
-put-time-set-requires : tie.Need-put-time-set-requires
-put-time-set-requires c κs = search needs
-
-put-date-set-requires : tie.Need-put-date-set-requires
-put-date-set-requires c κs = search needs
-
-same-length : tie.Need-same-length
-same-length c = search needs
-
 returns : tie.Need-returns
 returns c =
     let start = c .before .before .before .before .before .before .before .before .before in
@@ -27,5 +18,4 @@ returns c =
     (omega (arith, first .0, second .0), two .held)
 
 pub put-clock-sets-spec : {M : Type 1} → statement M
-put-clock-sets-spec =
-    tie.close (tie.spec put-time-set-requires put-date-set-requires same-length returns)
+put-clock-sets-spec = tie.close (tie.spec (λ c κs. search needs) (λ c κs. search needs) (λ c. search needs) returns)

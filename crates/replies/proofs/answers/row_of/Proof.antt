@@ -5,18 +5,9 @@ use borrow.Author.Needs.{needs}
 use Rattle.replies.proofs.answers.row_of.Statement.{statement}
 use Rattle.replies.proofs.answers.row_of.Tie as tie
 
-row-start-requires : tie.Need-row-start-requires
-row-start-requires c κs = search needs
-
-rest-requires : tie.Need-rest-requires
-rest-requires c κs = search needs
-
-first-requires : tie.Need-first-requires
-first-requires c κs = search needs
-
 returns : tie.Need-returns
 unfolding rowOf
 returns c = rw (c .first .ensures, c .before .rest .ensures, c .before .before .row-start .ensures)
 
 pub row-of-spec : {M : Type 1} → statement M
-row-of-spec = tie.close (tie.spec row-start-requires rest-requires first-requires returns)
+row-of-spec = tie.close (tie.spec (λ c κs. search needs) (λ c κs. search needs) (λ c κs. search needs) returns)

@@ -5,33 +5,6 @@ use borrow.Author.Needs.{needs}
 use Rattle.replies.proofs.block.put_block.Statement.{statement}
 use Rattle.replies.proofs.block.put_block.Tie as tie
 
-slice-aggregate-put-facts : tie.Need-slice-aggregate-put-facts
-slice-aggregate-put-facts c = search needs
-
-slice-aggregate-put-facts-2 : tie.Need-slice-aggregate-put-facts-2
-slice-aggregate-put-facts-2 c = search needs
-
-put-facts-requires : tie.Need-put-facts-requires
-put-facts-requires c κs = search needs
-
-put-energies-requires : tie.Need-put-energies-requires
-put-energies-requires c κs = search needs
-
-slice-aggregate-put-tables : tie.Need-slice-aggregate-put-tables
-slice-aggregate-put-tables c = search needs
-
-put-tables-requires : tie.Need-put-tables-requires
-put-tables-requires c κs = search needs
-
-slice-aggregate-put : tie.Need-slice-aggregate-put
-slice-aggregate-put c = search needs
-
-put-requires : tie.Need-put-requires
-put-requires c κs = search needs
-
-same-length : tie.Need-same-length
-same-length c = search needs
-
 returns : tie.Need-returns
 returns c =
     let start = c .before .before .before .before .before .before .before .before .before .before .before .before .before .before .before .before .before .before .before .before .before .before .before .before in
@@ -45,16 +18,4 @@ returns c =
     )
 
 pub put-block-spec : {M : Type 1} → statement M
-put-block-spec =
-    tie.close
-    (tie.spec
-    slice-aggregate-put-facts
-    slice-aggregate-put-facts-2
-    put-facts-requires
-    put-energies-requires
-    slice-aggregate-put-tables
-    put-tables-requires
-    slice-aggregate-put
-    put-requires
-    same-length
-    returns)
+put-block-spec = tie.close (tie.spec (λ c. search needs) (λ c. search needs) (λ c κs. search needs) (λ c κs. search needs) (λ c. search needs) (λ c κs. search needs) (λ c. search needs) (λ c κs. search needs) (λ c. search needs) returns)

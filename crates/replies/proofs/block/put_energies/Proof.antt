@@ -9,27 +9,6 @@ use borrow.Author.Needs.{needs}
 use Rattle.replies.proofs.block.put_energies.Statement.{statement}
 use Rattle.replies.proofs.block.put_energies.Tie as tie
 
-put-energy-set-requires : tie.Need-put-energy-set-requires
-put-energy-set-requires c κs = search needs
-
-put-energy-set-requires-2 : tie.Need-put-energy-set-requires-2
-put-energy-set-requires-2 c κs = search needs
-
-put-energy-set-requires-3 : tie.Need-put-energy-set-requires-3
-put-energy-set-requires-3 c κs = search needs
-
-put-energy-set-requires-4 : tie.Need-put-energy-set-requires-4
-put-energy-set-requires-4 c κs = search needs
-
-total-of-requires : tie.Need-total-of-requires
-total-of-requires c κs = search needs
-
-put-energy-set-requires-5 : tie.Need-put-energy-set-requires-5
-put-energy-set-requires-5 c κs = search needs
-
-same-length : tie.Need-same-length
-same-length c = search needs
-
 returns : tie.Need-returns
 unfolding energySets energy
 returns c =
@@ -49,14 +28,4 @@ returns c =
     (omega (arith, e1 .0, e2 .0, e3 .0, e4 .0, e5 .0), rw (← sum .ensures) (five .held))
 
 pub put-energies-spec : {M : Type 1} → statement M
-put-energies-spec =
-    tie.close
-    (tie.spec
-    put-energy-set-requires
-    put-energy-set-requires-2
-    put-energy-set-requires-3
-    put-energy-set-requires-4
-    total-of-requires
-    put-energy-set-requires-5
-    same-length
-    returns)
+put-energies-spec = tie.close (tie.spec (λ c κs. search needs) (λ c κs. search needs) (λ c κs. search needs) (λ c κs. search needs) (λ c κs. search needs) (λ c κs. search needs) (λ c. search needs) returns)

@@ -8,21 +8,6 @@ use borrow.Author.Needs.{needs}
 use Rattle.replies.proofs.block.put_facts.Statement.{statement}
 use Rattle.replies.proofs.block.put_facts.Tie as tie
 
-put-serial-set-requires : tie.Need-put-serial-set-requires
-put-serial-set-requires c κs = search needs
-
-put-date-set-requires : tie.Need-put-date-set-requires
-put-date-set-requires c κs = search needs
-
-put-time-set-requires : tie.Need-put-time-set-requires
-put-time-set-requires c κs = search needs
-
-put-account-set-requires : tie.Need-put-account-set-requires
-put-account-set-requires c κs = search needs
-
-same-length : tie.Need-same-length
-same-length c = search needs
-
 returns : tie.Need-returns
 unfolding factSets
 returns c =
@@ -39,12 +24,4 @@ returns c =
     (omega (arith, first .0, second .0, third .0, fourth .0), four .held)
 
 pub put-facts-spec : {M : Type 1} → statement M
-put-facts-spec =
-    tie.close
-    (tie.spec
-    put-serial-set-requires
-    put-date-set-requires
-    put-time-set-requires
-    put-account-set-requires
-    same-length
-    returns)
+put-facts-spec = tie.close (tie.spec (λ c κs. search needs) (λ c κs. search needs) (λ c κs. search needs) (λ c κs. search needs) (λ c. search needs) returns)

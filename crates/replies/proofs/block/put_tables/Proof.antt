@@ -20,39 +20,12 @@ abbrev μ-loop : tie.MeasureT-loop
 loop-holds : tie.Need-loop-holds Inv-loop μ-loop
 loop-holds c = (omega arith, omega arith, refl, no-table (c .before .before .args .tables .now) (c .before .before .args .buf .now) (c .before .before .args .at))
 
-cast-from : tie.Need-cast-from Inv-loop μ-loop
-cast-from c = omega arith
-
-mul-from : tie.Need-mul-from Inv-loop μ-loop
-mul-from c = omega arith
-
-add-to : tie.Need-add-to Inv-loop μ-loop
-add-to c = omega arith
-
-add-t12 : tie.Need-add-t12 Inv-loop μ-loop
-add-t12 c = omega arith
-
-sub-put-table-set : tie.Need-sub-put-table-set Inv-loop μ-loop
-sub-put-table-set c = omega arith
-
-part-put-table-set-start : tie.Need-part-put-table-set-start Inv-loop μ-loop
-part-put-table-set-start c = omega arith
-
-part-put-table-set-end : tie.Need-part-put-table-set-end Inv-loop μ-loop
-part-put-table-set-end c = omega arith
-
 put-table-set-requires : tie.Need-put-table-set-requires Inv-loop μ-loop
 put-table-set-requires c κs =
     let start = c .before .before .before .before .before .before in
     let turn = c .before .before .before .loop in
     let long = part-long (start .args .tables .now) (turn .i) (omega (arith, start .pre .0, turn .inv .0, c .before .before .loop-test .taken)) in
     omega (arith, long, start .pre .1, turn .inv .1, turn .inv .2, c .before .before .loop-test .taken)
-
-add-i : tie.Need-add-i Inv-loop μ-loop
-add-i c = omega arith
-
-loop-less : tie.Need-loop-less Inv-loop μ-loop
-loop-less c = omega arith
 
 loop-again : tie.Need-loop-again Inv-loop μ-loop
 loop-again c =
@@ -79,22 +52,4 @@ returns c =
     (omega (arith, turn .inv .1), rw done at (turn .inv .3 .held))
 
 pub put-tables-spec : {M : Type 1} → statement M
-put-tables-spec =
-    tie.close
-    (tie.spec
-    Inv-loop
-    μ-loop
-    loop-holds
-    cast-from
-    mul-from
-    add-to
-    add-t12
-    sub-put-table-set
-    part-put-table-set-start
-    part-put-table-set-end
-    put-table-set-requires
-    add-i
-    loop-less
-    loop-again
-    same-length
-    returns)
+put-tables-spec = tie.close (tie.spec Inv-loop μ-loop loop-holds (λ c. omega arith) (λ c. omega arith) (λ c. omega arith) (λ c. omega arith) (λ c. omega arith) (λ c. omega arith) (λ c. omega arith) put-table-set-requires (λ c. omega arith) (λ c. omega arith) loop-again same-length returns)

@@ -18,29 +18,14 @@ Inv-loop buf₀ at n w left₀ i₀ buf left i = (w ≡ widthOf n) × (i ≤ w) 
 abbrev μ-loop : tie.MeasureT-loop
 μ-loop buf₀ at n w left₀ i₀ buf left i = i
 
-width-requires : tie.Need-width-requires Inv-loop μ-loop
-width-requires c κs = tt
-
 loop-holds : tie.Need-loop-holds Inv-loop μ-loop
 loop-holds c = (c .width .ensures, omega arith, refl, refl)
-
-sub-i : tie.Need-sub-i Inv-loop μ-loop
-sub-i c = omega arith
-
-cast-buf : tie.Need-cast-buf Inv-loop μ-loop
-cast-buf c = omega arith
-
-add-buf : tie.Need-add-buf Inv-loop μ-loop
-add-buf c = omega arith
 
 add-buf-2 : tie.Need-add-buf-2 Inv-loop μ-loop
 add-buf-2 c = omega (arith, length-digits (c .before .before .before .before .args .n))
 
 slice-write-buf : tie.Need-slice-write-buf Inv-loop μ-loop
 slice-write-buf c = omega (arith, length-digits (c .before .before .before .before .args .n))
-
-loop-less : tie.Need-loop-less Inv-loop μ-loop
-loop-less c = omega arith
 
 loop-again : tie.Need-loop-again Inv-loop μ-loop
 loop-again c =
@@ -50,9 +35,6 @@ loop-again c =
 
 add-result : tie.Need-add-result Inv-loop μ-loop
 add-result c = omega (arith, length-digits (c .before .before .before .before .args .n))
-
-same-length : tie.Need-same-length Inv-loop μ-loop
-same-length c = omega arith
 
 returns : tie.Need-returns Inv-loop μ-loop
 unfolding digitsOf
@@ -64,20 +46,4 @@ returns c =
     )
 
 pub put-spec : {M : Type 1} → statement M
-put-spec =
-    tie.close
-    (tie.spec
-    Inv-loop
-    μ-loop
-    width-requires
-    loop-holds
-    sub-i
-    cast-buf
-    add-buf
-    add-buf-2
-    slice-write-buf
-    loop-less
-    loop-again
-    add-result
-    same-length
-    returns)
+put-spec = tie.close (tie.spec Inv-loop μ-loop (λ c κs. tt) loop-holds (λ c. omega arith) (λ c. omega arith) (λ c. omega arith) add-buf-2 slice-write-buf (λ c. omega arith) loop-again add-result (λ c. omega arith) returns)

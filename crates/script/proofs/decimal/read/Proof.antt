@@ -8,17 +8,8 @@ use borrow.Author.Needs.{needs}
 use Rattle.script.proofs.decimal.read.Statement.{statement}
 use Rattle.script.proofs.decimal.read.Tie as tie
 
-all-between-requires : tie.Need-all-between-requires
-all-between-requires c κs = search needs
-
 returns : tie.Need-returns
 returns c = number-none (c .before .before .before .args .most) (c .before .before .before .args .s .now) _ (c .before .all-between .ensures) (c .if1 .taken)
-
-up-to-requires : tie.Need-up-to-requires
-up-to-requires c κs = search needs
-
-cast-t10 : tie.Need-cast-t10
-cast-t10 c = search needs
 
 returns-2 : tie.Need-returns-2
 returns-2 c =
@@ -33,5 +24,4 @@ returns-3 c =
     number-says (a .most) (a .s .now) _ (c .before .before .before .all-between .ensures) false (sym (u .same-side) ∙ lt-leb _ _ (c .if2 .left)) (c .before .before .if1 .left)
 
 pub read-spec : {M : Type 1} → statement M
-read-spec =
-    tie.close (tie.spec all-between-requires returns up-to-requires cast-t10 returns-2 returns-3)
+read-spec = tie.close (tie.spec (λ c κs. search needs) returns (λ c κs. search needs) (λ c. search needs) returns-2 returns-3)

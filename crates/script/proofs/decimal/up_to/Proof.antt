@@ -32,23 +32,8 @@ returns c =
     let over : a .most < L .n = omega arith in
     record { same-side = lt-leb (L .n) (a .most) over ∙ sym (lt-leb (valueOf s) (a .most) (omega arith)); exact = λ h. absurd (omega arith) }
 
-mul-n : tie.Need-mul-n Inv-loop μ-loop
-mul-n c = omega arith
-
-shared-slice-read-digit : tie.Need-shared-slice-read-digit Inv-loop μ-loop
-shared-slice-read-digit c = omega arith
-
-digit-requires : tie.Need-digit-requires Inv-loop μ-loop
-digit-requires c κs = tt
-
 add-n : tie.Need-add-n Inv-loop μ-loop
 add-n c = omega (arith, c .digit .ensures .1)
-
-add-i : tie.Need-add-i Inv-loop μ-loop
-add-i c = omega arith
-
-loop-less : tie.Need-loop-less Inv-loop μ-loop
-loop-less c = omega arith
 
 loop-again : tie.Need-loop-again Inv-loop μ-loop
 unfolding valueFrom
@@ -66,18 +51,4 @@ returns-2 c =
     record { same-side = ap (λ (k : ℕ). leb k (c .before .before .before .args .most)) whole; exact = λ h. whole }
 
 pub up-to-spec : {M : Type 1} → statement M
-up-to-spec =
-    tie.close
-    (tie.spec
-    Inv-loop
-    μ-loop
-    loop-holds
-    returns
-    mul-n
-    shared-slice-read-digit
-    digit-requires
-    add-n
-    add-i
-    loop-less
-    loop-again
-    returns-2)
+up-to-spec = tie.close (tie.spec Inv-loop μ-loop loop-holds returns (λ c. omega arith) (λ c. omega arith) (λ c κs. tt) add-n (λ c. omega arith) (λ c. omega arith) loop-again returns-2)

@@ -23,12 +23,6 @@ returns c =
     let L = c .before .before .loop in
     omega (arith, width-one (20 - L .w) (L .left) (c .if1 .taken))
 
-add-w : tie.Need-add-w Inv-loop μ-loop
-add-w c = omega arith
-
-loop-less : tie.Need-loop-less Inv-loop μ-loop
-loop-less c = omega arith
-
 loop-again : tie.Need-loop-again Inv-loop μ-loop
 loop-again c =
     let L = c .before .before .loop in
@@ -43,5 +37,4 @@ returns-2 c =
     omega (arith, none)
 
 pub width-spec : {M : Type 1} → statement M
-width-spec =
-    tie.close (tie.spec Inv-loop μ-loop loop-holds returns add-w loop-less loop-again returns-2)
+width-spec = tie.close (tie.spec Inv-loop μ-loop loop-holds returns (λ c. omega arith) (λ c. omega arith) loop-again returns-2)

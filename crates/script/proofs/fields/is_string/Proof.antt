@@ -7,12 +7,9 @@ use borrow.Author.Needs.{needs}
 use Rattle.script.proofs.fields.is_string.Statement.{statement}
 use Rattle.script.proofs.fields.is_string.Tie as tie
 
-all-hex-requires : tie.Need-all-hex-requires
-all-hex-requires c κs = search needs
-
 returns : tie.Need-returns
 unfolding stringGood
 returns c = rw (halves (length (c .before .before .args .f .now)) (c .before .before .args .size), c .all-hex .ensures)
 
 pub is-string-spec : {M : Type 1} → statement M
-is-string-spec = tie.close (tie.spec all-hex-requires returns)
+is-string-spec = tie.close (tie.spec (λ c κs. search needs) returns)

@@ -21,15 +21,6 @@ abbrev μ-loop : tie.MeasureT-loop
 loop-holds : tie.Need-loop-holds Inv-loop μ-loop
 loop-holds c = (omega arith, refl, omega (arith, c .before .before .before .before .pre .1), (refl, refl))
 
-mul-kind : tie.Need-mul-kind Inv-loop μ-loop
-mul-kind c = omega arith
-
-shared-slice-read-kind : tie.Need-shared-slice-read-kind Inv-loop μ-loop
-shared-slice-read-kind c = omega arith
-
-size-of-requires : tie.Need-size-of-requires Inv-loop μ-loop
-size-of-requires c κs = tt
-
 add-to : tie.Need-add-to Inv-loop μ-loop
 add-to c = omega (arith, room-next (c .before .before .before .before .before .before .before .before .args .form .now) (c .before .before .before .loop .k) (c .before .before .loop-test .taken), c .size-of .ensures)
 
@@ -38,12 +29,6 @@ mul-put-field c = omega (arith, c .before .before .before .before .before .befor
 
 shared-slice-read-put-field : tie.Need-shared-slice-read-put-field Inv-loop μ-loop
 shared-slice-read-put-field c = omega (arith, c .before .before .before .before .before .before .before .before .before .pre .0)
-
-sub-put-field : tie.Need-sub-put-field Inv-loop μ-loop
-sub-put-field c = omega arith
-
-part-put-field-start : tie.Need-part-put-field-start Inv-loop μ-loop
-part-put-field-start c = omega arith
 
 part-put-field-end : tie.Need-part-put-field-end Inv-loop μ-loop
 part-put-field-end c = omega (arith, room-next (c .before .before .before .before .before .before .before .before .before .args .form .now) (c .before .before .before .before .loop .k) (c .before .before .before .loop-test .taken), c .before .size-of .ensures)
@@ -60,12 +45,6 @@ put-field-requires c κs =
     let part : fieldText (getD form (L .k) 0) (getD ns (L .k) 0) (take (L .from + size - L .from) (drop (L .from) bytes)) ≡ fieldAt form ns bytes (L .k) (L .from) =
     ap (λ (k : ℕ). fieldText (getD form (L .k) 0) (getD ns (L .k) 0) (take k (drop (L .from) bytes))) n in
     omega (arith, ap length part, fits-next form ns bytes (a .buf .now) (a .at) (L .buf) (L .place) (L .k) (L .from) (L .inv .3) (c .before .before .before .before .before .loop-test .taken), c .before .before .before .before .before .before .before .before .before .before .before .pre .2, L .inv .1)
-
-add-k : tie.Need-add-k Inv-loop μ-loop
-add-k c = omega arith
-
-loop-less : tie.Need-loop-less Inv-loop μ-loop
-loop-less c = omega arith
 
 loop-again : tie.Need-loop-again Inv-loop μ-loop
 loop-again c =
@@ -87,9 +66,6 @@ loop-again c =
           (put .1 ∙ ap (stored (L .buf) (L .place)) part) (put .0 ∙ ap (λ (t : List ℕ). L .place + length t) part) (ap (λ (k : ℕ). L .from + k) (c .before .before .before .before .before .before .size-of .ensures)),
     )
 
-same-length : tie.Need-same-length Inv-loop μ-loop
-same-length c = omega arith
-
 returns : tie.Need-returns Inv-loop μ-loop
 returns c =
     let L = c .before .loop in
@@ -97,24 +73,4 @@ returns c =
     put-done (a .form .now) (a .numbers .now) (a .bytes .now) (a .buf .now) (a .at) (L .buf) (L .place) (L .k) (L .from) (L .inv .3) (c .loop-test .left)
 
 pub put-spec : {M : Type 1} → statement M
-put-spec =
-    tie.close
-    (tie.spec
-    Inv-loop
-    μ-loop
-    loop-holds
-    mul-kind
-    shared-slice-read-kind
-    size-of-requires
-    add-to
-    mul-put-field
-    shared-slice-read-put-field
-    sub-put-field
-    part-put-field-start
-    part-put-field-end
-    put-field-requires
-    add-k
-    loop-less
-    loop-again
-    same-length
-    returns)
+put-spec = tie.close (tie.spec Inv-loop μ-loop loop-holds (λ c. omega arith) (λ c. omega arith) (λ c κs. tt) add-to mul-put-field shared-slice-read-put-field (λ c. omega arith) (λ c. omega arith) part-put-field-end put-field-requires (λ c. omega arith) (λ c. omega arith) loop-again (λ c. omega arith) returns)

@@ -22,9 +22,6 @@ put-bytes-requires c κs =
     let h = rw (le-ltb _ _ (c .before .if1 .left), length-bytes (a .f .now)) at (c .before .before .before .before .pre) in
     h
 
-same-length : tie.Need-same-length
-same-length c = search needs
-
 returns-2 : tie.Need-returns-2
 unfolding fieldBytes isNumber
 returns-2 c =
@@ -32,4 +29,4 @@ returns-2 c =
     rw (le-ltb _ _ (c .before .before .before .before .if1 .left)) (c .before .before .put-bytes .ensures .0 ∙ ap (λ (k : ℕ). a .at + k) (sym (length-bytes (a .f .now))), c .before .before .put-bytes .ensures .1)
 
 pub put-bytes-spec : {M : Type 1} → statement M
-put-bytes-spec = tie.close (tie.spec returns put-bytes-requires same-length returns-2)
+put-bytes-spec = tie.close (tie.spec returns put-bytes-requires (λ c. search needs) returns-2)

@@ -14,9 +14,6 @@ use borrow.Author.Needs.{needs}
 use Rattle.script.proofs.fields.put_field.Statement.{statement}
 use Rattle.script.proofs.fields.put_field.Tie as tie
 
-slice-aggregate-put : tie.Need-slice-aggregate-put
-slice-aggregate-put c = search needs
-
 put-requires : tie.Need-put-requires
 unfolding fieldText
 put-requires c κs = omega (arith, c .before .before .before .before .pre)
@@ -26,9 +23,6 @@ unfolding fieldText isNumber
 put-requires-2 c κs =
     let h = rw (lt-ltb _ _ (c .before .if1 .taken)) at (c .before .before .before .before .before .before .before .before .before .pre) in
     omega (arith, h, c .before .before .before .before .put .ensures .0, c .before .before .before .before .put .kept .0)
-
-same-length : tie.Need-same-length
-same-length c = search needs
 
 returns : tie.Need-returns
 unfolding fieldText isNumber
@@ -45,9 +39,6 @@ put-requires-3 c κs =
     let h = rw (le-ltb _ _ (c .before .if1 .left)) at (c .before .before .before .before .before .before .before .before .before .pre) in
     omega (arith, h, length-hex (c .before .before .before .before .before .before .before .before .before .args .s .now), c .before .before .before .before .put .ensures .0, c .before .before .before .before .put .kept .0)
 
-same-length-2 : tie.Need-same-length-2
-same-length-2 c = search needs
-
 returns-2 : tie.Need-returns-2
 unfolding fieldText isNumber
 returns-2 c =
@@ -58,14 +49,4 @@ returns-2 c =
     )
 
 pub put-field-spec : {M : Type 1} → statement M
-put-field-spec =
-    tie.close
-    (tie.spec
-    slice-aggregate-put
-    put-requires
-    put-requires-2
-    same-length
-    returns
-    put-requires-3
-    same-length-2
-    returns-2)
+put-field-spec = tie.close (tie.spec (λ c. search needs) put-requires put-requires-2 (λ c. search needs) returns put-requires-3 (λ c. search needs) returns-2)

@@ -27,30 +27,12 @@ abbrev μ-loop : tie.MeasureT-loop
 loop-holds : tie.Need-loop-holds Inv-loop μ-loop
 loop-holds c = (omega arith, c .before .before .before .before .pre .0, refl, refl, omega (arith, c .before .before .before .before .pre .2), (refl, refl, refl))
 
-same-length : tie.Need-same-length Inv-loop μ-loop
-same-length c = omega arith
-
-same-length-2 : tie.Need-same-length-2 Inv-loop μ-loop
-same-length-2 c = omega arith
-
 returns : tie.Need-returns Inv-loop μ-loop
 returns c =
     let L = c .before .before .loop in
     let a = c .before .before .before .before .before .before .before .args in
     stopped (a .form .now) (a .s .now) (a .numbers .now) (a .bytes .now) (a .from) (L .numbers) (L .bytes) (L .at) (L .room) (L .k) (L .inv .5)
     (c .before .loop-test .taken) (field-missing _ (a .s .now) (L .at) (c .if1 .taken))
-
-add-start : tie.Need-add-start Inv-loop μ-loop
-add-start c = omega arith
-
-end-of-requires : tie.Need-end-of-requires Inv-loop μ-loop
-end-of-requires c κs = omega arith
-
-mul-kind : tie.Need-mul-kind Inv-loop μ-loop
-mul-kind c = omega arith
-
-shared-slice-read-kind : tie.Need-shared-slice-read-kind Inv-loop μ-loop
-shared-slice-read-kind c = omega arith
 
 sub-field : tie.Need-sub-field Inv-loop μ-loop
 sub-field c = omega (arith, c .before .end-of .ensures)
@@ -64,15 +46,6 @@ part-field-end c =
     let s = c .before .before .before .before .before .before .before .before .before .args .s .now in
     omega (arith, c .before .end-of .ensures, word-long (drop (L .at + 1) s), length-drop (L .at + 1) s)
 
-read-field-requires : tie.Need-read-field-requires Inv-loop μ-loop
-read-field-requires c κs = tt
-
-same-length-3 : tie.Need-same-length-3 Inv-loop μ-loop
-same-length-3 c = omega arith
-
-same-length-4 : tie.Need-same-length-4 Inv-loop μ-loop
-same-length-4 c = omega arith
-
 returns-2 : tie.Need-returns-2 Inv-loop μ-loop
 returns-2 c =
     let L = c .before .before .before .before .before .before .before .before .loop in
@@ -85,12 +58,6 @@ returns-2 c =
     stopped (a .form .now) s (a .numbers .now) (a .bytes .now) (a .from) (L .numbers) (L .bytes) (L .at) (L .room) (L .k) (L .inv .5)
     (c .before .before .before .before .before .before .before .loop-test .taken) (field-wrong kind s (L .at) f (c .before .before .before .before .before .before .if1 .left) w good)
 
-mul-numbers : tie.Need-mul-numbers Inv-loop μ-loop
-mul-numbers c = omega arith
-
-slice-write-numbers : tie.Need-slice-write-numbers Inv-loop μ-loop
-slice-write-numbers c = omega arith
-
 put-bytes-requires : tie.Need-put-bytes-requires Inv-loop μ-loop
 put-bytes-requires c κs =
     let L = c .before .before .before .before .before .before .before .before .before .loop in
@@ -101,12 +68,6 @@ put-bytes-requires c κs =
     let w : f ≡ word (drop (L .at + 1) s) = word-between s (L .at + 1) (c .before .before .before .before .before .before .end-of .result) (c .before .before .before .before .before .before .end-of .ensures) in
     let good : fieldGood kind f ≡ true = sym (read-good kind f) ∙ sym (ap (λ (r : Number). r .good) (c .before .before .before .read-field .ensures)) ∙ not-false _ (c .before .if2 .left) in
     omega (arith, read-long kind f good, room-next (a .form .now) (L .k) (c .before .before .before .before .before .before .before .before .loop-test .taken), L .inv .3, L .inv .4)
-
-add-k : tie.Need-add-k Inv-loop μ-loop
-add-k c = omega arith
-
-loop-less : tie.Need-loop-less Inv-loop μ-loop
-loop-less c = omega arith
 
 loop-again : tie.Need-loop-again Inv-loop μ-loop
 loop-again c =
@@ -128,12 +89,6 @@ loop-again c =
       kept _ _ _ (ap (λ (r : Number). r .value) (c .before .before .before .before .before .before .read-field .ensures) ∙ read-value kind f good) (put .1) (put .0),
     )
 
-same-length-5 : tie.Need-same-length-5 Inv-loop μ-loop
-same-length-5 c = omega arith
-
-same-length-6 : tie.Need-same-length-6 Inv-loop μ-loop
-same-length-6 c = omega arith
-
 returns-3 : tie.Need-returns-3 Inv-loop μ-loop
 returns-3 c =
     let L = c .before .loop in
@@ -141,32 +96,4 @@ returns-3 c =
     finished (a .form .now) (a .s .now) (a .numbers .now) (a .bytes .now) (a .from) (L .numbers) (L .bytes) (L .at) (L .room) (L .k) (L .inv .5) (c .loop-test .left)
 
 pub read-spec : {M : Type 1} → statement M
-read-spec =
-    tie.close
-    (tie.spec
-    Inv-loop
-    μ-loop
-    loop-holds
-    same-length
-    same-length-2
-    returns
-    add-start
-    end-of-requires
-    mul-kind
-    shared-slice-read-kind
-    sub-field
-    part-field-start
-    part-field-end
-    read-field-requires
-    same-length-3
-    same-length-4
-    returns-2
-    mul-numbers
-    slice-write-numbers
-    put-bytes-requires
-    add-k
-    loop-less
-    loop-again
-    same-length-5
-    same-length-6
-    returns-3)
+read-spec = tie.close (tie.spec Inv-loop μ-loop loop-holds (λ c. omega arith) (λ c. omega arith) returns (λ c. omega arith) (λ c κs. omega arith) (λ c. omega arith) (λ c. omega arith) sub-field part-field-start part-field-end (λ c κs. tt) (λ c. omega arith) (λ c. omega arith) returns-2 (λ c. omega arith) (λ c. omega arith) put-bytes-requires (λ c. omega arith) (λ c. omega arith) loop-again (λ c. omega arith) (λ c. omega arith) returns-3)

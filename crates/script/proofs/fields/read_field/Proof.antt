@@ -6,22 +6,13 @@ use borrow.Author.Needs.{needs}
 use Rattle.script.proofs.fields.read_field.Statement.{statement}
 use Rattle.script.proofs.fields.read_field.Tie as tie
 
-cast-read : tie.Need-cast-read
-cast-read c = search needs
-
-read-requires : tie.Need-read-requires
-read-requires c κs = search needs
-
 returns : tie.Need-returns
 unfolding fieldRead isNumber
 returns c = rw (lt-ltb _ _ (c .before .if1 .taken)) (c .read .ensures)
-
-is-string-requires : tie.Need-is-string-requires
-is-string-requires c κs = search needs
 
 returns-2 : tie.Need-returns-2
 unfolding fieldRead isNumber
 returns-2 c = rw (le-ltb _ _ (c .before .if1 .left), c .is-string .ensures)
 
 pub read-field-spec : {M : Type 1} → statement M
-read-field-spec = tie.close (tie.spec cast-read read-requires returns is-string-requires returns-2)
+read-field-spec = tie.close (tie.spec (λ c. search needs) (λ c κs. search needs) returns (λ c κs. search needs) returns-2)

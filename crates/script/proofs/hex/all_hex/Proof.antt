@@ -20,18 +20,6 @@ abbrev μ-loop : tie.MeasureT-loop
 loop-holds : tie.Need-loop-holds Inv-loop μ-loop
 loop-holds c = (omega arith, refl)
 
-shared-slice-read-is-hex : tie.Need-shared-slice-read-is-hex Inv-loop μ-loop
-shared-slice-read-is-hex c = omega arith
-
-is-hex-requires : tie.Need-is-hex-requires Inv-loop μ-loop
-is-hex-requires c κs = tt
-
-add-i : tie.Need-add-i Inv-loop μ-loop
-add-i c = omega arith
-
-loop-less : tie.Need-loop-less Inv-loop μ-loop
-loop-less c = omega arith
-
 loop-again : tie.Need-loop-again Inv-loop μ-loop
 loop-again c =
     let L = c .before .before .before in
@@ -44,15 +32,4 @@ returns : tie.Need-returns Inv-loop μ-loop
 returns c = every-end isHex (c .before .before .before .args .s .now) (c .before .loop .i) (c .before .loop .ok) _ (c .loop-test .left) (c .before .loop .inv .1)
 
 pub all-hex-spec : {M : Type 1} → statement M
-all-hex-spec =
-    tie.close
-    (tie.spec
-    Inv-loop
-    μ-loop
-    loop-holds
-    shared-slice-read-is-hex
-    is-hex-requires
-    add-i
-    loop-less
-    loop-again
-    returns)
+all-hex-spec = tie.close (tie.spec Inv-loop μ-loop loop-holds (λ c. omega arith) (λ c κs. tt) (λ c. omega arith) (λ c. omega arith) loop-again returns)

@@ -20,38 +20,11 @@ abbrev μ-loop : tie.MeasureT-loop
 loop-holds : tie.Need-loop-holds Inv-loop μ-loop
 loop-holds c = (omega arith, refl, ap (λ (k : ℕ). stored (c .before .before .args .buf .now) k (hexText (c .before .before .args .s .now))) (add-zero _))
 
-mul-place : tie.Need-mul-place Inv-loop μ-loop
-mul-place c = omega arith
-
-add-place : tie.Need-add-place Inv-loop μ-loop
-add-place c = omega arith
-
-shared-slice-read-digit : tie.Need-shared-slice-read-digit Inv-loop μ-loop
-shared-slice-read-digit c = omega arith
-
 digit-requires : tie.Need-digit-requires Inv-loop μ-loop
 digit-requires c κs = omega (arith, c .shared-slice-known2 .given (c .before .before .loop .i))
 
-slice-write-buf : tie.Need-slice-write-buf Inv-loop μ-loop
-slice-write-buf c = omega arith
-
-shared-slice-read-digit-2 : tie.Need-shared-slice-read-digit-2 Inv-loop μ-loop
-shared-slice-read-digit-2 c = omega arith
-
-digit-requires-2 : tie.Need-digit-requires-2 Inv-loop μ-loop
-digit-requires-2 c κs = omega arith
-
-add-buf : tie.Need-add-buf Inv-loop μ-loop
-add-buf c = omega arith
-
 slice-write-buf-2 : tie.Need-slice-write-buf-2 Inv-loop μ-loop
 slice-write-buf-2 c = simp length-set (omega arith)
-
-add-i : tie.Need-add-i Inv-loop μ-loop
-add-i c = omega arith
-
-loop-less : tie.Need-loop-less Inv-loop μ-loop
-loop-less c = omega arith
 
 loop-again : tie.Need-loop-again Inv-loop μ-loop
 unfolding stored
@@ -63,15 +36,6 @@ loop-again c =
     let e : a .at + (L .i + 1) * 2 ≡ a .at + L .i * 2 + 1 + 1 = omega arith in
     (omega arith, simp length-set (L .inv .1), rw (c .before .before .digit .ensures, c .digit2 .ensures, e) next)
 
-mul-result : tie.Need-mul-result Inv-loop μ-loop
-mul-result c = omega arith
-
-add-result : tie.Need-add-result Inv-loop μ-loop
-add-result c = omega arith
-
-same-length : tie.Need-same-length Inv-loop μ-loop
-same-length c = omega arith
-
 returns : tie.Need-returns Inv-loop μ-loop
 unfolding stored
 returns c =
@@ -80,25 +44,4 @@ returns c =
     (refl, rw (hex-end (a .s .now) (L .i) (c .loop-test .left)) at (L .inv .2))
 
 pub put-spec : {M : Type 1} → statement M
-put-spec =
-    tie.close
-    (tie.spec
-    Inv-loop
-    μ-loop
-    loop-holds
-    mul-place
-    add-place
-    shared-slice-read-digit
-    digit-requires
-    slice-write-buf
-    shared-slice-read-digit-2
-    digit-requires-2
-    add-buf
-    slice-write-buf-2
-    add-i
-    loop-less
-    loop-again
-    mul-result
-    add-result
-    same-length
-    returns)
+put-spec = tie.close (tie.spec Inv-loop μ-loop loop-holds (λ c. omega arith) (λ c. omega arith) (λ c. omega arith) digit-requires (λ c. omega arith) (λ c. omega arith) (λ c κs. omega arith) (λ c. omega arith) slice-write-buf-2 (λ c. omega arith) (λ c. omega arith) loop-again (λ c. omega arith) (λ c. omega arith) (λ c. omega arith) returns)

@@ -21,36 +21,6 @@ abbrev μ-loop : tie.MeasureT-loop
 loop-holds : tie.Need-loop-holds Inv-loop μ-loop
 loop-holds c = (refl, omega arith, refl, ap (λ (k : ℕ). stored (c .before .before .args .buf .now) k (bytesOf (c .before .before .args .s .now))) (add-zero _))
 
-mul-byte-of : tie.Need-mul-byte-of Inv-loop μ-loop
-mul-byte-of c = omega arith
-
-shared-slice-read-byte-of : tie.Need-shared-slice-read-byte-of Inv-loop μ-loop
-shared-slice-read-byte-of c = omega arith
-
-mul-byte-of-2 : tie.Need-mul-byte-of-2 Inv-loop μ-loop
-mul-byte-of-2 c = omega arith
-
-add-byte-of : tie.Need-add-byte-of Inv-loop μ-loop
-add-byte-of c = omega arith
-
-shared-slice-read-byte-of-2 : tie.Need-shared-slice-read-byte-of-2 Inv-loop μ-loop
-shared-slice-read-byte-of-2 c = omega arith
-
-byte-of-requires : tie.Need-byte-of-requires Inv-loop μ-loop
-byte-of-requires c κs = tt
-
-add-buf : tie.Need-add-buf Inv-loop μ-loop
-add-buf c = omega arith
-
-slice-write-buf : tie.Need-slice-write-buf Inv-loop μ-loop
-slice-write-buf c = omega arith
-
-add-i : tie.Need-add-i Inv-loop μ-loop
-add-i c = omega arith
-
-loop-less : tie.Need-loop-less Inv-loop μ-loop
-loop-less c = omega arith
-
 loop-again : tie.Need-loop-again Inv-loop μ-loop
 unfolding stored
 loop-again c =
@@ -61,12 +31,6 @@ loop-again c =
     let e : a .at + (L .i + 1) ≡ a .at + L .i + 1 = omega arith in
     (L .inv .0, omega arith, simp length-set (L .inv .2), rw (c .byte-of .ensures, e) next)
 
-add-result : tie.Need-add-result Inv-loop μ-loop
-add-result c = omega arith
-
-same-length : tie.Need-same-length Inv-loop μ-loop
-same-length c = omega arith
-
 returns : tie.Need-returns Inv-loop μ-loop
 unfolding stored
 returns c =
@@ -75,23 +39,4 @@ returns c =
     (omega arith, rw (bytes-end (a .s .now) (L .i) (omega arith)) at (L .inv .3))
 
 pub put-bytes-spec : {M : Type 1} → statement M
-put-bytes-spec =
-    tie.close
-    (tie.spec
-    Inv-loop
-    μ-loop
-    loop-holds
-    mul-byte-of
-    shared-slice-read-byte-of
-    mul-byte-of-2
-    add-byte-of
-    shared-slice-read-byte-of-2
-    byte-of-requires
-    add-buf
-    slice-write-buf
-    add-i
-    loop-less
-    loop-again
-    add-result
-    same-length
-    returns)
+put-bytes-spec = tie.close (tie.spec Inv-loop μ-loop loop-holds (λ c. omega arith) (λ c. omega arith) (λ c. omega arith) (λ c. omega arith) (λ c. omega arith) (λ c κs. tt) (λ c. omega arith) (λ c. omega arith) (λ c. omega arith) (λ c. omega arith) loop-again (λ c. omega arith) (λ c. omega arith) returns)
