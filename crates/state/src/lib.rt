@@ -2,11 +2,13 @@
 ghost use mathlib.Core.Path.{_≡_};
 ghost use Prim.Native.Nat.{_≤_};
 ghost use lib.ListN.{length};
-ghost use Rattle.state.specs.WellFormed.{limit, firstGood, heldGood, receiverGood, countersGood, tablesGood, factsGood, registersGood, wellFormed};
+ghost use Rattle.state.specs.WellFormed.{limit, firstGood, receiverGood, countersGood, tablesGood, factsGood, registersGood, wellFormed};
 ghost use Rattle.state.specs.Making.{meterOf, blankMeter, madeOf};
 use clock::Clock;
 use clock::Date;
 use clock::Time;
+
+mod places;
 
 // What was received of a line or frame so far.
 #[repr(C)]
@@ -74,15 +76,6 @@ fn first_good(mode: u8, count: u8, first: u8) -> bool
     (count == 0) | ((mode == 1) | (first == line::SOH))
 }
 
-// Whether there are 63 characters, all within 0 to 127, and 0 from the count on.
-fn held_good(held: &[u8], count: u8) -> bool
-    ensures { λ r. ⌜ r ≡ heldGood (now (held .entry)) count ⌝ }
-{
-    let n = count as usize;
-    (held.len() == 63)
-        & (text::all_between(held, 0, 127) & text::all_between(text::rest(held, n), 0, 0))
-}
-
 // Whether a receiver is well-formed in a mode.
 fn receiver_good(mode: u8, r: Receiver) -> bool
     ensures { λ x. ⌜ x ≡ receiverGood mode r ⌝ }
@@ -92,7 +85,7 @@ fn receiver_good(mode: u8, r: Receiver) -> bool
     if count <= limit_of(mode) {
         let first = held[0];
         let mark = !(count == 0) | !r.mark;
-        return (first_good(mode, count, first) & mark) & held_good(&held, count);
+        return (first_good(mode, count, first) & mark) & places::held_good(&held, count);
     }
     false
 }
@@ -118,15 +111,18 @@ fn facts_good(serial: &[u8], account: &[u8], password: &[u8], clock: Clock) -> b
         & (values::is_digits(password, 8) & clock::is_clock(clock))
 }
 
+// The tables come last and apart: they are most of the record, and what is read of it early has to be kept.
 fn registers_good(g: Registers) -> bool
     ensures { λ r. ⌜ r ≡ registersGood g ⌝ }
 {
     let serial = g.serial;
     let account = g.account;
     let password = g.password;
-    let tables = g.tables;
-    facts_good(&serial, &account, &password, g.clock)
-        & (counters_good(g.counters) & tables_good(&tables))
+    if facts_good(&serial, &account, &password, g.clock) & counters_good(g.counters) {
+        let tables = g.tables;
+        return tables_good(&tables);
+    }
+    false
 }
 
 // Whether a state is well-formed.
@@ -134,8 +130,11 @@ pub fn is_well_formed(m: Meter) -> bool
     ensures { λ r. ⌜ r ≡ wellFormed m ⌝ }
 {
     let r = m.receiver;
-    let g = m.registers;
-    (((m.mode <= 4) & (m.attempts <= 3)) & receiver_good(m.mode, r)) & registers_good(g)
+    if ((m.mode <= 4) & (m.attempts <= 3)) & receiver_good(m.mode, r) {
+        let g = m.registers;
+        return registers_good(g);
+    }
+    false
 }
 
 // A new meter: counters 0, attempts 0, all tables '1', mode 0, an empty receiver.

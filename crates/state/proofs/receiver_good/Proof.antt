@@ -1,7 +1,9 @@
 -- `state::receiver_good` meets its contract: each way out is the case of the definition that its tests name. Assumes nothing.
 use Rattle.state.specs.WellFormed.{receiverGood, markGood}
+use native.Mathlib.Omega.{arith}
 use borrow.Author.Tests.{le-leb, lt-leb}
 use borrow.Author.Needs.{needs}
+use Rattle.state.proofs.Limits.{limit-most}
 use Rattle.state.proofs.receiver_good.Statement.{statement}
 use Rattle.state.proofs.receiver_good.Tie as tie
 
@@ -18,7 +20,10 @@ slice-aggregate-held-good : tie.Need-slice-aggregate-held-good
 slice-aggregate-held-good c = search needs
 
 held-good-requires : tie.Need-held-good-requires
-held-good-requires c κs = search needs
+held-good-requires c κs =
+    let fits = c .before .before .before .if1 .taken in
+    let most = c .before .before .before .before .limit-of .ensures in
+    (search needs, omega (arith, fits, most, limit-most (c .before .before .before .before .before .before .args .mode)))
 
 returns : tie.Need-returns
 unfolding receiverGood markGood
