@@ -15,15 +15,24 @@ use Rattle.text.specs.Classes.{between}
 use Rattle.state.specs.Limits.{within}
 use Rattle.state.specs.WellFormed.{limit, heldGood}
 
--- a flag for those seen, with those that are left, says it of all
-module _ (s most : List ℕ) (i : ℕ) (ok whole : Bool) where
-  pub within-turn : i < length s → i < length most → (ok && within (drop i s) (drop i most)) ≡ whole → ((ok && leb (getD s i 0) (getD most i 0)) && within (drop (i + 1) s) (drop (i + 1) most)) ≡ whole
-  unfolding within
-  within-turn h k e = and-assoc ok _ _ ∙ (rw (left-next i s h, left-next i most k) at e)
+-- a flag for those seen in both parts, with those that are left, says it of all
+sorted : (ok x y p q : Bool) → ((ok && (x && y)) && (p && q)) ≡ (ok && ((x && p) && (y && q)))
+sorted true true true p q = refl
+sorted true true false true q = refl
+sorted true true false false q = refl
+sorted true false y p q = refl
+sorted false x y p q = refl
 
-  pub within-end : length s ≤ i → (ok && within (drop i s) (drop i most)) ≡ whole → ok ≡ whole
+module _ (a am b bm : List ℕ) (i : ℕ) (ok whole : Bool) where
+  pub within-turn : i < length a → i < length am → i < length b → i < length bm → (ok && (within (drop i a) (drop i am) && within (drop i b) (drop i bm))) ≡ whole
+      → ((ok && (leb (getD a i 0) (getD am i 0) && leb (getD b i 0) (getD bm i 0))) && (within (drop (i + 1) a) (drop (i + 1) am) && within (drop (i + 1) b) (drop (i + 1) bm))) ≡ whole
   unfolding within
-  within-end h e = sym (and-true ok) ∙ (rw (drop-of-length-le s h) at e)
+  within-turn ha hm hb hn e =
+      sorted ok (leb (getD a i 0) (getD am i 0)) (leb (getD b i 0) (getD bm i 0)) (within (drop (i + 1) a) (drop (i + 1) am)) (within (drop (i + 1) b) (drop (i + 1) bm)) ∙ (rw (left-next i a ha, left-next i am hm, left-next i b hb, left-next i bm hn) at e)
+
+  pub within-end : length a ≤ i → length b ≡ length a → (ok && (within (drop i a) (drop i am) && within (drop i b) (drop i bm))) ≡ whole → ok ≡ whole
+  unfolding within
+  within-end h l e = sym (and-true ok) ∙ (rw (drop-of-length-le a h, drop-of-length-le b {i = i} (omega (arith, h, l))) at e)
 
 again : (a b : Bool) → ((a && true) && (a && b)) ≡ (a && b)
 again true b = refl
@@ -93,10 +102,9 @@ limits-long = refl
 
 -- there is a limit for each place of either half
 pub halves-fit : (held : List ℕ) (count : ℕ) → length held ≡ 63 → count ≤ 63
-    → (length (take 32 held) ≤ length (drop (63 - count) limits)) × (length (drop 31 held) ≤ length (drop 31 (drop (63 - count) limits)))
+    → ((length (drop 31 held) ≡ length (take 32 held)) × (length (take 32 held) ≤ length (drop (63 - count) limits))) × (length (take 32 held) ≤ length (drop 31 (drop (63 - count) limits)))
 halves-fit held count h k =
-    let all : length limits ≡ 126 = limits-long in
-    rw (length-take 32 held, length-drop 31 held, length-drop 31 (drop (63 - count) limits), length-drop (63 - count) limits, h, all) (omega (arith, k), omega (arith, k))
+    rw (length-take 32 held, length-drop 31 held, length-drop 31 (drop (63 - count) limits), length-drop (63 - count) limits, h, limits-long) ((refl, omega (arith, k)), omega (arith, k))
 
 -- both halves of the places beside their limits
 pub over-places : (held : List ℕ) (count : ℕ) → length held ≡ 63 → count ≤ 63

@@ -1,161 +1,40 @@
 // The receiver's places: held characters are 0 to 127, and unused places hold 0.
 ghost use mathlib.Core.Path.{_≡_};
+ghost use mathlib.Core.Bool.{_&&_};
 ghost use Prim.Native.Nat.{_≤_};
 ghost use lib.ListN.{length};
 ghost use Rattle.state.specs.WellFormed.{heldGood};
 ghost use Rattle.state.specs.Limits.{within};
 
-// The most that a place may hold: 127 where a character is held, 0 where none is. The part from 63 - count on lies over the places.
-const MOST: [u8; 126] = [
-    127,
-    127,
-    127,
-    127,
-    127,
-    127,
-    127,
-    127,
-    127,
-    127,
-    127,
-    127,
-    127,
-    127,
-    127,
-    127,
-    127,
-    127,
-    127,
-    127,
-    127,
-    127,
-    127,
-    127,
-    127,
-    127,
-    127,
-    127,
-    127,
-    127,
-    127,
-    127,
-    127,
-    127,
-    127,
-    127,
-    127,
-    127,
-    127,
-    127,
-    127,
-    127,
-    127,
-    127,
-    127,
-    127,
-    127,
-    127,
-    127,
-    127,
-    127,
-    127,
-    127,
-    127,
-    127,
-    127,
-    127,
-    127,
-    127,
-    127,
-    127,
-    127,
-    127,
-    0,
-    0,
-    0,
-    0,
-    0,
-    0,
-    0,
-    0,
-    0,
-    0,
-    0,
-    0,
-    0,
-    0,
-    0,
-    0,
-    0,
-    0,
-    0,
-    0,
-    0,
-    0,
-    0,
-    0,
-    0,
-    0,
-    0,
-    0,
-    0,
-    0,
-    0,
-    0,
-    0,
-    0,
-    0,
-    0,
-    0,
-    0,
-    0,
-    0,
-    0,
-    0,
-    0,
-    0,
-    0,
-    0,
-    0,
-    0,
-    0,
-    0,
-    0,
-    0,
-    0,
-    0,
-    0,
-    0,
-    0,
-    0,
-    0,
-    0,
-    0,
-    0,
-    0,
-];
-
-// Whether no character is above the one that lies beside it.
-fn none_above(s: &[u8], most: &[u8]) -> bool
-    requires { ⌜ length (now s) ≤ length (now most) ⌝ }
-    ensures { λ r. ⌜ r ≡ within (now (s .entry)) (now (most .entry)) ⌝ }
+// Whether in two parts of one length no character is above the limit that lies beside it. Both go in one loop, which the compiler
+// then turns into vector code.
+fn none_above(a: &[u8], low: &[u8], b: &[u8], high: &[u8]) -> bool
+    requires { ⌜ ((length (now b) ≡ length (now a)) × (length (now a) ≤ length (now low))) × (length (now a) ≤ length (now high)) ⌝ }
+    ensures { λ r. ⌜ r ≡ (within (now (a .entry)) (now (low .entry)) && within (now (b .entry)) (now (high .entry))) ⌝ }
 {
     let mut ok = true;
     let mut i = 0;
-    while i < s.len() {
-        ok = ok & (s[i] <= most[i]);
+    while i < a.len() {
+        ok = ok & ((a[i] <= low[i]) & (b[i] <= high[i]));
         i += 1;
     }
     ok
 }
 
-// Whether 63 characters are within 0 to 127, and 0 from the count on: in two halves of 32 that share a place, since 32 is a
-// whole number of vectors and 63 is none.
+// Whether 63 characters are within 0 to 127, and 0 from the count on. The limits are 63 of 127 and 63 of 0, and those from 63 - count on
+// lie over the places. The parts have 32 places each and share one, since 63 is no whole number of vectors.
 pub fn held_good(held: &[u8], count: u8) -> bool
     requires { ⌜ (length (now held) ≡ 63) × (count ≤ 63) ⌝ }
     ensures { λ r. ⌜ r ≡ heldGood (now (held .entry)) count ⌝ }
 {
-    let all = MOST;
-    let most = text::rest(&all, 63 - count as usize);
-    none_above(text::first(held, 32), most) & none_above(text::rest(held, 31), text::rest(most, 31))
+    let most = text::rest(
+        b"\x7f\x7f\x7f\x7f\x7f\x7f\x7f\x7f\x7f\x7f\x7f\x7f\x7f\x7f\x7f\x7f\x7f\x7f\x7f\x7f\x7f\x7f\x7f\x7f\x7f\x7f\x7f\x7f\x7f\x7f\x7f\x7f\x7f\x7f\x7f\x7f\x7f\x7f\x7f\x7f\x7f\x7f\x7f\x7f\x7f\x7f\x7f\x7f\x7f\x7f\x7f\x7f\x7f\x7f\x7f\x7f\x7f\x7f\x7f\x7f\x7f\x7f\x7f\0\0\0\0\0\0\0\0\0\0\0\0\0\0\0\0\0\0\0\0\0\0\0\0\0\0\0\0\0\0\0\0\0\0\0\0\0\0\0\0\0\0\0\0\0\0\0\0\0\0\0\0\0\0\0\0\0\0\0\0\0\0\0",
+        63 - count as usize,
+    );
+    none_above(
+        text::first(held, 32),
+        most,
+        text::rest(held, 31),
+        text::rest(most, 31),
+    )
 }

@@ -1,8 +1,4 @@
--- `state::places::held_good` meets its contract: both halves beside their limits are the whole. Assumes nothing.
-use mathlib.Core.Path.{refl}
-use Prim.Native.Nat.{_-_}
-use native.Mathlib.Omega.{arith}
-use lib.ListN.{take, drop}
+-- `state::places::held_good` meets its contract: both parts beside their limits are the whole. Assumes nothing.
 use Rattle.state.proofs.Limits.{limits, over-places, halves-fit}
 use borrow.Author.Needs.{needs}
 use Rattle.state.proofs.places.held_good.Statement.{statement}
@@ -20,29 +16,23 @@ rest-requires c κs = search needs
 first-requires : tie.Need-first-requires
 first-requires c κs = search needs
 
-none-above-requires : tie.Need-none-above-requires
-unfolding limits
-none-above-requires c κs =
-    let a = c .before .before .before .before .args in
-    rw (c .first .ensures, c .before .rest .ensures) (halves-fit (a .held .now) (a .count) (c .before .before .before .before .pre .0) (c .before .before .before .before .pre .1) .0)
-
 rest-requires-2 : tie.Need-rest-requires-2
 rest-requires-2 c κs = search needs
 
 rest-requires-3 : tie.Need-rest-requires-3
 rest-requires-3 c κs = search needs
 
-none-above-requires-2 : tie.Need-none-above-requires-2
+none-above-requires : tie.Need-none-above-requires
 unfolding limits
-none-above-requires-2 c κs =
-    let a = c .before .before .before .before .before .before .before .args in
-    rw (c .before .rest2 .ensures, c .rest3 .ensures, c .before .before .before .before .rest .ensures) (halves-fit (a .held .now) (a .count) (c .before .before .before .before .before .before .before .pre .0) (c .before .before .before .before .before .before .before .pre .1) .1)
+none-above-requires c κs =
+    let start = c .before .before .before .before .before .before in
+    rw (c .before .rest2 .ensures, c .before .before .first .ensures, c .rest3 .ensures, c .before .before .before .rest .ensures) (halves-fit (start .args .held .now) (start .args .count) (start .pre .0) (start .pre .1))
 
 returns : tie.Need-returns
 unfolding limits
 returns c =
-    let a = c .before .before .before .before .before .before .before .before .args in
-    rw (c .before .before .before .none-above .ensures, c .none-above2 .ensures, c .before .before .before .before .first .ensures, c .before .rest3 .ensures, c .before .before .rest2 .ensures, c .before .before .before .before .before .rest .ensures) (over-places (a .held .now) (a .count) (c .before .before .before .before .before .before .before .before .pre .0) (c .before .before .before .before .before .before .before .before .pre .1))
+    let start = c .before .before .before .before .before .before .before in
+    rw (c .none-above .ensures, c .before .before .before .first .ensures, c .before .rest3 .ensures, c .before .before .rest2 .ensures, c .before .before .before .before .rest .ensures) (over-places (start .args .held .now) (start .args .count) (start .pre .0) (start .pre .1))
 
 pub held-good-spec : {M : Type 1} → statement M
 held-good-spec =
@@ -52,8 +42,7 @@ held-good-spec =
     sub-rest
     rest-requires
     first-requires
-    none-above-requires
     rest-requires-2
     rest-requires-3
-    none-above-requires-2
+    none-above-requires
     returns)

@@ -10,10 +10,10 @@ use Rattle.state.proofs.places.none_above.Statement.{statement}
 use Rattle.state.proofs.places.none_above.Tie as tie
 
 abbrev Inv-loop : tie.InvT-loop
-Inv-loop s most ok₀ i₀ ok i = (i ≤ length s) × ((ok && within (drop i s) (drop i most)) ≡ within s most)
+Inv-loop a am b bm ok₀ i₀ ok i = (i ≤ length a) × ((ok && (within (drop i a) (drop i am) && within (drop i b) (drop i bm))) ≡ (within a am && within b bm))
 
 abbrev μ-loop : tie.MeasureT-loop
-μ-loop s most ok₀ i₀ ok i = length s - i
+μ-loop a am b bm ok₀ i₀ ok i = length a - i
 
 loop-holds : tie.Need-loop-holds Inv-loop μ-loop
 loop-holds c = (omega arith, refl)
@@ -24,6 +24,12 @@ shared-slice-read-ok c = omega arith
 shared-slice-read-ok-2 : tie.Need-shared-slice-read-ok-2 Inv-loop μ-loop
 shared-slice-read-ok-2 c = omega arith
 
+shared-slice-read-ok-3 : tie.Need-shared-slice-read-ok-3 Inv-loop μ-loop
+shared-slice-read-ok-3 c = omega arith
+
+shared-slice-read-ok-4 : tie.Need-shared-slice-read-ok-4 Inv-loop μ-loop
+shared-slice-read-ok-4 c = omega arith
+
 add-i : tie.Need-add-i Inv-loop μ-loop
 add-i c = omega arith
 
@@ -32,14 +38,16 @@ loop-less c = omega arith
 
 loop-again : tie.Need-loop-again Inv-loop μ-loop
 loop-again c =
-    let at-loop = c .before .before .before in
+    let at-loop = c .before .before .before .before .before in
     let a = at-loop .before .args in
-    (omega arith, within-turn (a .s .now) (a .most .now) (at-loop .loop .i) (at-loop .loop .ok) _ (c .before .before .loop-test .taken) (omega arith) (at-loop .loop .inv .1))
+    let p = at-loop .before .pre in
+    let test = c .before .before .before .before .loop-test .taken in
+    (omega arith, within-turn (a .a .now) (a .low .now) (a .b .now) (a .high .now) (at-loop .loop .i) (at-loop .loop .ok) _ test (omega (arith, test, p .0 .1)) (omega (arith, test, p .0 .0)) (omega (arith, test, p .1)) (at-loop .loop .inv .1))
 
 returns : tie.Need-returns Inv-loop μ-loop
 returns c =
     let a = c .before .before .args in
-    within-end (a .s .now) (a .most .now) (c .before .loop .i) (c .before .loop .ok) _ (c .loop-test .left) (c .before .loop .inv .1)
+    within-end (a .a .now) (a .low .now) (a .b .now) (a .high .now) (c .before .loop .i) (c .before .loop .ok) _ (c .loop-test .left) (c .before .before .pre .0 .0) (c .before .loop .inv .1)
 
 pub none-above-spec : {M : Type 1} → statement M
 none-above-spec =
@@ -50,6 +58,8 @@ none-above-spec =
     loop-holds
     shared-slice-read-ok
     shared-slice-read-ok-2
+    shared-slice-read-ok-3
+    shared-slice-read-ok-4
     add-i
     loop-less
     loop-again
