@@ -1,0 +1,13 @@
+-- `listening::go_on` meets its contract: each way out is the case of the definition that its tests name. Assumes nothing.
+use borrow.Author.Needs.{needs}
+use Rattle.listening.proofs.go_on.Statement.{statement}
+use Rattle.listening.proofs.go_on.Tie as tie
+
+speed-of-requires : tie.Need-speed-of-requires
+speed-of-requires c κs = search needs
+
+returns : tie.Need-returns
+returns c = rw (c .speed-of .ensures)
+
+pub go-on-spec : {M : Type 1} → statement M
+go-on-spec = tie.close (tie.spec speed-of-requires returns)
