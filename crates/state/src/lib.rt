@@ -2,13 +2,11 @@
 ghost use mathlib.Core.Path.{_≡_};
 ghost use Prim.Native.Nat.{_≤_};
 ghost use lib.ListN.{length};
-ghost use Rattle.state.specs.WellFormed.{limit, firstGood, receiverGood, countersGood, tablesGood, factsGood, registersGood, wellFormed};
+ghost use Rattle.state.specs.WellFormed.{limit, firstGood, heldGood, receiverGood, countersGood, tablesGood, factsGood, registersGood, wellFormed};
 ghost use Rattle.state.specs.Making.{meterOf, blankMeter, madeOf};
 use clock::Clock;
 use clock::Date;
 use clock::Time;
-
-mod places;
 
 // What was received of a line or frame so far.
 #[repr(C)]
@@ -76,6 +74,23 @@ fn first_good(mode: u8, count: u8, first: u8) -> bool
     (count == 0) | ((mode == 1) | (first == line::SOH))
 }
 
+// Whether 63 characters are within 0 to 127, and 0 from the count on. As long as a place is below the count, `below` is 128 or more: it has
+// eight bits like the characters, so that the compiler tests many places at once.
+fn held_good(held: &[u8], count: u8) -> bool
+    requires { ⌜ (length (now held) ≡ 63) × (count ≤ 63) ⌝ }
+    ensures { λ r. ⌜ r ≡ heldGood (now (held .entry)) count ⌝ }
+{
+    let mut ok = true;
+    let mut below = count + 127;
+    let mut i = 0;
+    while i < held.len() {
+        ok = ok & ((held[i] <= 127) & ((128 <= below) | (held[i] == 0)));
+        below -= 1;
+        i += 1;
+    }
+    ok
+}
+
 // Whether a receiver is well-formed in a mode.
 fn receiver_good(mode: u8, r: Receiver) -> bool
     ensures { λ x. ⌜ x ≡ receiverGood mode r ⌝ }
@@ -85,7 +100,7 @@ fn receiver_good(mode: u8, r: Receiver) -> bool
     if count <= limit_of(mode) {
         let first = held[0];
         let mark = !(count == 0) | !r.mark;
-        return (first_good(mode, count, first) & mark) & places::held_good(&held, count);
+        return (first_good(mode, count, first) & mark) & held_good(&held, count);
     }
     false
 }
