@@ -63,7 +63,8 @@ pub fn receive_in_place(m: &mut Meter, b: u8, reply: &mut [u8]) -> Reply
         × (now (m .exit) ≡ character (now (m .entry)) (length (now (reply .entry))) b .next)
         × (now (reply .exit) ≡ holding (now (reply .entry)) (onWire (character (now (m .entry)) (length (now (reply .entry))) b .reply))) ⌝ }
 {
-    let heard = listening::listen(*m, b, reply.len());
+    let before = *m;
+    let heard = listening::listen(before, b, reply.len());
     if is_settled(heard) {
         m.receiver = receiver_of(heard);
         return short_reply(heard);

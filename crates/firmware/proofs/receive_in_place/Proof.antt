@@ -264,50 +264,50 @@ module _ {M : Type 1} (𝓤 : URA M) (H : Heap 𝓤) (A : Atoms 𝓤) (W : Given
         move ! (2 ∷ []) $ fsplit ! $ drop ! $ fsplit ! $ move ! (2 ∷ 3 ∷ 4 ∷ []) $
         -- [obs; the borrow; its token; what the slice owns; true; the slice's token]
         enter ! C Λ code.function (vptr b o ∷ vint w8 n ∷ s₁ ∷ []) _ $
-        alloc1 ! (λ l₀. alloc1 ! (λ l₁. alloc1 ! (λ l₂. alloc1 ! (λ l₃. alloc1 ! (λ l₄. alloc1 ! (λ l₅. alloc1 ! (λ l₆. alloc1 ! (λ l₇. alloc1 ! (λ l₈. alloc1 ! (λ l₉. alloc1 ! (λ l₁₀. alloc1 ! (λ l₁₁. alloc0 ! $ params1 ! $
-        pass1 ! (init ! 20 refl (tt, tt)) $ pass1 ! (init ! 18 refl (tt, record { fits = fits })) $ pass1 ! (init ! 16 refl (tt, (tt, (record { fits = room .0 }, tt)))) $ pass0 ! $
-        move ! (24 ∷ 25 ∷ 26 ∷ []) $ opens ! tt S.the-row {h = h} b o (λ vs. spelt ! S.the-row (Is S.the-row) (shows 𝓤 H A S.the-row) (LL.vals S.the-type S′.the-laws) (LL.tells S.the-type S′.the-laws) fullShare h vs b o $
+        alloc1 ! (λ l₀. alloc1 ! (λ l₁. alloc1 ! (λ l₂. alloc1 ! (λ l₃. alloc1 ! (λ l₄. alloc1 ! (λ l₅. alloc1 ! (λ l₆. alloc1 ! (λ l₇. alloc1 ! (λ l₈. alloc1 ! (λ l₉. alloc1 ! (λ l₁₀. alloc1 ! (λ l₁₁. alloc1 ! (λ l₁₂. alloc0 ! $ params1 ! $
+        pass1 ! (init ! 22 refl (tt, tt)) $ pass1 ! (init ! 20 refl (tt, record { fits = fits })) $ pass1 ! (init ! 18 refl (tt, (tt, (record { fits = room .0 }, tt)))) $ pass0 ! $
+        move ! (26 ∷ 27 ∷ 28 ∷ []) $ opens ! tt S.the-row {h = h} b o (λ vs. spelt ! S.the-row (Is S.the-row) (shows 𝓤 H A S.the-row) (LL.vals S.the-type S′.the-laws) (LL.tells S.the-type S′.the-laws) fullShare h vs b o $
         move ! (1 ∷ []) $ peeks ! S.the-row (Is S.the-row) (shows 𝓤 H A S.the-row) h (LL.vals S.the-type S′.the-laws h) (λ was. drop ! $
-        -- [the record's cell; the open borrow; obs; auth; _11 4; _10 6; _9 8; _8 10; _7 12; _6 14; _5 16; _4 18; _3 20; _2 22; _1 24; room for _0 26; what the slice owns 28; true; the slice's token 30]
-        assigns ! (of-opd ! (load ! (from ! (hop ! (look ! 24 refl) (stop !))) (look-raw ! 0 refl))) (from ! (stop !)) (init ! 14 refl (LL.lawful S.the-type S′.the-laws 𝓤 H A W .typed h _ was .0)) $
-        assigns ! (of-opd ! (load ! (from ! (fld ! refl (stop !))) (look-in ! 20 (sub ! 1 refl (whole !))))) (from ! (stop !)) (init ! 12 refl (tt, record { fits = room .0 })) $
+        -- [the record's cell; the open borrow; obs; auth; _12 4; _11 6; _10 8; _9 10; _8 12; _7 14; _6 16; _5 18; _4 20; _3 22; _2 24; _1 26; room for _0 28; what the slice owns 30; true; the slice's token 32]
+        assigns ! (of-opd ! (load ! (from ! (hop ! (look ! 26 refl) (stop !))) (look-raw ! 0 refl))) (from ! (stop !)) (init ! 20 refl (LL.lawful S.the-type S′.the-laws 𝓤 H A W .typed h _ was .0)) $
+        assigns ! (of-opd ! (load ! (from ! (fld ! refl (stop !))) (look-in ! 22 (sub ! 1 refl (whole !))))) (from ! (stop !)) (init ! 14 refl (tt, record { fits = room .0 })) $
         -- `listen`
         use0 W (raw (Listen 𝓤 H A at-mem run .pre to-listen)) (goes-listen (room .0) was) $
-        calls-at ! fm (Listen 𝓤 H A at-mem run) known-listen to-listen (and-then ! (load ! (from ! (stop !)) (look ! 15 refl)) (and-then ! (load ! (from ! (stop !)) (look ! 23 refl)) (and-then ! (load ! (from ! (stop !)) (look ! 13 refl)) (no-more !)))) (λ w. use1 W (later (some (λ (r : Heard). (‵ ftrue ⊛ ‵ (E.the-row .own r (w ∷ []))) ⊛ raw (ensured 𝓤 H A listen.ended (listen.clauses 𝓤 H A at-mem run) tt (h, (n, (length ys, tt))) tt r)))) (id⊢ 𝓤 _) $ await ! tt $ pick ! (λ r.
+        calls-at ! fm (Listen 𝓤 H A at-mem run) known-listen to-listen (and-then ! (load ! (from ! (stop !)) (look ! 21 refl)) (and-then ! (load ! (from ! (stop !)) (look ! 25 refl)) (and-then ! (load ! (from ! (stop !)) (look ! 15 refl)) (no-more !)))) (λ w. use1 W (later (some (λ (r : Heard). (‵ ftrue ⊛ ‵ (E.the-row .own r (w ∷ []))) ⊛ raw (ensured 𝓤 H A listen.ended (listen.clauses 𝓤 H A at-mem run) tt (h, (n, (length ys, tt))) tt r)))) (id⊢ 𝓤 _) $ await ! tt $ pick ! (λ r.
         split ! $ move ! (1 ∷ []) $ use1 W (raw (fact 𝓤 (r ≡ listened h (length ys) n))) (listen-says 𝓤 H A at-mem run h n (length ys) r) $ heard ! (r ≡ listened h (length ys) n) (λ e. split ! $ drop ! $
         peeks ! E.the-row (Is E.the-row) (shows 𝓤 H A E.the-row) r (w ∷ []) (λ is. land ! (from ! (stop !)) (init ! 19 refl (LL.lawful E.the-type E′.the-laws 𝓤 H A W .typed r _ is .0)) $
         -- `is_settled`
         use1 W (raw (Settled 𝓤 H A at-mem run .pre (to-settled r w))) (goes-settled r w) $
         calls-at ! fm (Settled 𝓤 H A at-mem run) known-settled (to-settled r w) (and-then ! (load ! (from ! (stop !)) (look ! 19 refl)) (no-more !)) (λ v. use1 W (later (some (λ (z : Bool). (‵ ftrue ⊛ ‵ (Boolean .own z (v ∷ []))) ⊛ raw (ensured 𝓤 H A settled.ended (settled.clauses 𝓤 H A at-mem run) tt (r, tt) tt z)))) (id⊢ 𝓤 _) $ await ! tt $ pick ! (λ z.
         split ! $ move ! (1 ∷ []) $ use1 W (raw (fact 𝓤 (z ≡ r .settled))) (settled-says 𝓤 H A at-mem run r z) $ heard ! (z ≡ r .settled) (λ ez. split ! $ drop ! $
-        facts ! Boolean (Is Boolean) (shows 𝓤 H A Boolean) z (v ∷ []) (λ is-z. land ! (from ! (stop !)) (init ! 10 refl (subst (λ (u : Val). T (hasTy tyBool u) × WT u) (sym (ap only is-z)) (tt, tt))) $
-        rewrite ! 10 (λ (u : Val). ‵ (fat fullShare tyBool l₈ 0 u)) (ap only is-z) refl $
-        first ! $ branches ! (load ! (from ! (stop !)) (look ! 10 refl))
+        facts ! Boolean (Is Boolean) (shows 𝓤 H A Boolean) z (v ∷ []) (λ is-z. land ! (from ! (stop !)) (init ! 12 refl (subst (λ (u : Val). T (hasTy tyBool u) × WT u) (sym (ap only is-z)) (tt, tt))) $
+        rewrite ! 12 (λ (u : Val). ‵ (fat fullShare tyBool l₈ 0 u)) (ap only is-z) refl $
+        first ! $ branches ! (load ! (from ! (stop !)) (look ! 12 refl))
         -- settled: `receiver_of`
         (λ on. owned ! E.the-row (Is E.the-row) (LL.makes E.the-type E′.the-plain 𝓤 H A) r (w ∷ []) is $ use1 W (raw (ReceiverOf 𝓤 H A at-mem run .pre (to-receiver r w))) (goes-receiver r w) $
         calls-at ! fm (ReceiverOf 𝓤 H A at-mem run) known-receiver (to-receiver r w) (and-then ! (load ! (from ! (stop !)) (look ! 19 refl)) (no-more !)) (λ c. use1 W (later (some (λ (k : Receiver). (‵ ftrue ⊛ ‵ (R.the-row .own k (c ∷ []))) ⊛ raw (ensured 𝓤 H A receiver.ended (receiver.clauses 𝓤 H A at-mem run) tt (r, tt) tt k)))) (id⊢ 𝓤 _) $ await ! tt $ pick ! (λ k.
         split ! $ move ! (1 ∷ []) $ use1 W (raw (fact 𝓤 (k ≡ r .receiver))) (receiver-says 𝓤 H A at-mem run r k) $ heard ! (k ≡ r .receiver) (λ ek. split ! $ drop ! $
-        peeks ! R.the-row (Is R.the-row) (shows 𝓤 H A R.the-row) k (c ∷ []) (λ is-k. land ! (from ! (stop !)) (init ! 9 refl (LL.lawful R.the-type R′.the-laws 𝓤 H A W .typed k _ is-k .0)) $
+        peeks ! R.the-row (Is R.the-row) (shows 𝓤 H A R.the-row) k (c ∷ []) (λ is-k. land ! (from ! (stop !)) (init ! 11 refl (LL.lawful R.the-type R′.the-laws 𝓤 H A W .typed k _ is-k .0)) $
         -- the receiver is stored, and the borrow is closed at the record with it
-        assigns ! (of-opd ! (load ! (from ! (stop !)) (look ! 9 refl))) (from ! (hop ! (look ! 25 refl) (fld ! refl (stop !)))) (store-in ! 1 (behind ! (sub ! 2 refl (whole !))) (LL.lawful R.the-type R′.the-laws 𝓤 H A W .typed k _ is-k .0)) $
+        assigns ! (of-opd ! (load ! (from ! (stop !)) (look ! 11 refl))) (from ! (hop ! (look ! 27 refl) (fld ! refl (stop !)))) (store-in ! 1 (behind ! (sub ! 2 refl (whole !))) (LL.lawful R.the-type R′.the-laws 𝓤 H A W .typed k _ is-k .0)) $
         drop ! $ owned ! S.the-row (Is S.the-row) (LL.makes S.the-type S′.the-plain 𝓤 H A) (withReceiver h k) _ (made k c is-k was) $ move ! (1 ∷ 0 ∷ []) $ closes ! tt S.the-row (withReceiver h k) (mach c ∷ []) b o $
         -- `short_reply`
         owned ! E.the-row (Is E.the-row) (LL.makes E.the-type E′.the-plain 𝓤 H A) r (w ∷ []) is $ use1 W (raw (Short 𝓤 H A at-mem run .pre (to-short r w))) (goes-short r w) $
         calls-at ! fm (Short 𝓤 H A at-mem run) known-short (to-short r w) (and-then ! (load ! (from ! (stop !)) (look ! 18 refl)) (no-more !)) (λ u. use1 W (later (some (λ (t : Reply). (‵ ftrue ⊛ ‵ (P.the-row .own t (u ∷ []))) ⊛ raw (ensured 𝓤 H A short.ended (short.clauses 𝓤 H A at-mem run) tt (r, tt) tt t)))) (id⊢ 𝓤 _) $ await ! tt $ pick ! (λ t.
         split ! $ move ! (1 ∷ []) $ use1 W (raw (fact 𝓤 (t ≡ settledReply r))) (short-says 𝓤 H A at-mem run r t) $ heard ! (t ≡ settledReply r) (λ et. split ! $ drop ! $
-        peeks ! P.the-row (Is P.the-row) (shows 𝓤 H A P.the-row) t (u ∷ []) (λ is-t. land ! (from ! (stop !)) (init ! 26 refl (LL.lawful P.the-type P′.the-laws 𝓤 H A W .typed t _ is-t .0)) $
-        returns-within ! Post refl (look ! 26 refl) $ forget ! 8 refl $ forget ! 10 refl $ forget ! 12 refl $ forget ! 14 refl $ forget ! 18 refl $ forget ! 20 refl $ forget ! 22 refl $ forget ! 24 refl $ forget ! 26 refl $
-        move ! (26 ∷ 27 ∷ []) $ free1 ! $ move ! (24 ∷ 25 ∷ []) $ free1 ! $ move ! (22 ∷ 23 ∷ []) $ free1 ! $ move ! (20 ∷ 21 ∷ []) $ free1 ! $ move ! (18 ∷ 19 ∷ []) $ free1 ! $ move ! (16 ∷ 17 ∷ []) $ free1 ! $ move ! (14 ∷ 15 ∷ []) $ free1 ! $ move ! (12 ∷ 13 ∷ []) $ free1 ! $ move ! (10 ∷ 11 ∷ []) $ free1 ! $ move ! (8 ∷ 9 ∷ []) $ free1 ! $ move ! (6 ∷ 7 ∷ []) $ free1 ! $ move ! (4 ∷ 5 ∷ []) $ free1 ! $ free0 ! $
+        peeks ! P.the-row (Is P.the-row) (shows 𝓤 H A P.the-row) t (u ∷ []) (λ is-t. land ! (from ! (stop !)) (init ! 28 refl (LL.lawful P.the-type P′.the-laws 𝓤 H A W .typed t _ is-t .0)) $
+        returns-within ! Post refl (look ! 28 refl) $ forget ! 10 refl $ forget ! 12 refl $ forget ! 14 refl $ forget ! 18 refl $ forget ! 20 refl $ forget ! 22 refl $ forget ! 24 refl $ forget ! 26 refl $ forget ! 28 refl $
+        move ! (28 ∷ 29 ∷ []) $ free1 ! $ move ! (26 ∷ 27 ∷ []) $ free1 ! $ move ! (24 ∷ 25 ∷ []) $ free1 ! $ move ! (22 ∷ 23 ∷ []) $ free1 ! $ move ! (20 ∷ 21 ∷ []) $ free1 ! $ move ! (18 ∷ 19 ∷ []) $ free1 ! $ move ! (16 ∷ 17 ∷ []) $ free1 ! $ move ! (14 ∷ 15 ∷ []) $ free1 ! $ move ! (12 ∷ 13 ∷ []) $ free1 ! $ move ! (10 ∷ 11 ∷ []) $ free1 ! $ move ! (8 ∷ 9 ∷ []) $ free1 ! $ move ! (6 ∷ 7 ∷ []) $ free1 ! $ move ! (4 ∷ 5 ∷ []) $ free1 ! $ free0 ! $
         move ! (4 ∷ []) $ use1 W (‵ (finally u8 γ₁ ys)) gives-up $ keep ! (1 ∷ 2 ∷ 3 ∷ 4 ∷ 6 ∷ 0 ∷ []) $
         by ! (exits t u (withReceiver h k) ys (said-settled h n ys r t k e (sym ez ∙ is-true z on) ek et) refl))))))))))
         -- left to the meter
         (λ off. skips ! $ exec ! C Λ _ body.t-6 (atRet _ Post) $ let left = left-is h (length ys) n (ap (λ (a : Heard). a .settled) (sym e) ∙ (sym ez ∙ is-false z off)) in
-        assigns ! (of-opd ! (load ! (from ! (hop ! (look ! 24 refl) (stop !))) (look-raw ! 0 refl))) (from ! (stop !)) (store ! 14 refl (LL.lawful S.the-type S′.the-laws 𝓤 H A W .typed h _ was .0)) $
-        assigns ! (addr ! (from ! (fld ! refl (hop ! (look-in ! 20 (sub ! 0 refl (whole !))) (stop !))))) (from ! (stop !)) (init ! 6 refl (tt, tt)) $
-        assigns ! (agg ! (and-then ! (load ! (from ! (stop !)) (look ! 6 refl)) (and-then ! (load ! (from ! (fld ! refl (stop !))) (look-in ! 20 (sub ! 1 refl (whole !)))) (no-more !)))) (from ! (stop !)) (init ! 4 refl (tt, (tt, (record { fits = room .0 }, tt)))) $
+        assigns ! (of-opd ! (load ! (from ! (hop ! (look ! 26 refl) (stop !))) (look-raw ! 0 refl))) (from ! (stop !)) (init ! 8 refl (LL.lawful S.the-type S′.the-laws 𝓤 H A W .typed h _ was .0)) $
+        assigns ! (addr ! (from ! (fld ! refl (hop ! (look-in ! 22 (sub ! 0 refl (whole !))) (stop !))))) (from ! (stop !)) (init ! 6 refl (tt, tt)) $
+        assigns ! (agg ! (and-then ! (load ! (from ! (stop !)) (look ! 6 refl)) (and-then ! (load ! (from ! (fld ! refl (stop !))) (look-in ! 22 (sub ! 1 refl (whole !)))) (no-more !)))) (from ! (stop !)) (init ! 4 refl (tt, (tt, (record { fits = room .0 }, tt)))) $
         -- `take`
-        move ! (30 ∷ 28 ∷ []) $ use2 W (raw (Take 𝓤 H A at-mem run .pre to-take)) (goes-take was left) $
-        calls-at ! fm (Take 𝓤 H A at-mem run) known-take to-take (and-then ! (load ! (from ! (stop !)) (look ! 15 refl)) (and-then ! (load ! (from ! (stop !)) (look ! 23 refl)) (and-then ! (load ! (from ! (stop !)) (look ! 5 refl)) (no-more !)))) (λ w₁.
+        move ! (32 ∷ 30 ∷ []) $ use2 W (raw (Take 𝓤 H A at-mem run .pre to-take)) (goes-take was left) $
+        calls-at ! fm (Take 𝓤 H A at-mem run) known-take to-take (and-then ! (load ! (from ! (stop !)) (look ! 9 refl)) (and-then ! (load ! (from ! (stop !)) (look ! 25 refl)) (and-then ! (load ! (from ! (stop !)) (look ! 5 refl)) (no-more !)))) (λ w₁.
         use1 W (later (some (λ (a : Answer). ((‵ (flft κ₁ q₁) ⊛ ‵ ftrue) ⊛ ‵ (N.the-row .own a (w₁ ∷ []))) ⊛ raw (ensured 𝓤 H A take.ended (take.clauses 𝓤 H A at-mem run) (κ₁, tt) (h, (n, (y, tt))) tt a)))) (id⊢ 𝓤 _) $ await ! tt $ pick ! (λ a.
         split ! $ move ! (1 ∷ []) $ use1 W (some (λ (zs : Unit {0} × (Unit {0} × (List ℕ × Unit {0}))). ‵ (lasts take.ended (κ₁, tt) (h, (n, (y, tt))) zs) ⊛ (raw (fact 𝓤 (a ≡ answerOf (taken h n))) ⊛ raw (fact 𝓤 (zs .1 .1 .0 ≡ holding ys (onWire (taken h n .reply))))))) (id⊢ 𝓤 _) $ pick ! (λ zs.
         split ! $ move ! (1 ∷ []) $ split ! $ heard ! (a ≡ answerOf (taken h n)) (λ ea. heard ! (zs .1 .1 .0 ≡ holding ys (onWire (taken h n .reply))) (λ ezs.
@@ -319,18 +319,18 @@ module _ {M : Type 1} (𝓤 : URA M) (H : Heap 𝓤) (A : Atoms 𝓤) (W : Given
         use1 W (raw (Next 𝓤 H A at-mem run .pre (to-next a w₁))) (goes-next a w₁) $
         calls-at ! fm (Next 𝓤 H A at-mem run) known-next (to-next a w₁) (and-then ! (load ! (from ! (stop !)) (look ! 22 refl)) (no-more !)) (λ d. use1 W (later (some (λ (s : Meter). (‵ ftrue ⊛ ‵ (S.the-row .own s (d ∷ []))) ⊛ raw (ensured 𝓤 H A next.ended (next.clauses 𝓤 H A at-mem run) tt (a, tt) tt s)))) (id⊢ 𝓤 _) $ await ! tt $ pick ! (λ s.
         split ! $ move ! (1 ∷ []) $ use1 W (raw (fact 𝓤 (s ≡ a .next))) (next-says 𝓤 H A at-mem run a s) $ heard ! (s ≡ a .next) (λ es. split ! $ drop ! $
-        peeks ! S.the-row (Is S.the-row) (shows 𝓤 H A S.the-row) s (d ∷ []) (λ is-s. land ! (from ! (stop !)) (store ! 20 refl (LL.lawful S.the-type S′.the-laws 𝓤 H A W .typed s _ is-s .0)) $
+        peeks ! S.the-row (Is S.the-row) (shows 𝓤 H A S.the-row) s (d ∷ []) (λ is-s. land ! (from ! (stop !)) (store ! 14 refl (LL.lawful S.the-type S′.the-laws 𝓤 H A W .typed s _ is-s .0)) $
         -- the next state is stored, and the borrow is closed at it
-        assigns ! (of-opd ! (load ! (from ! (stop !)) (look ! 20 refl))) (from ! (hop ! (look ! 30 refl) (stop !))) (store-raw ! 6 refl (LL.lawful S.the-type S′.the-laws 𝓤 H A W .typed s _ is-s .0)) $
+        assigns ! (of-opd ! (load ! (from ! (stop !)) (look ! 14 refl))) (from ! (hop ! (look ! 32 refl) (stop !))) (store-raw ! 6 refl (LL.lawful S.the-type S′.the-laws 𝓤 H A W .typed s _ is-s .0)) $
         move ! (6 ∷ 0 ∷ 7 ∷ 8 ∷ 9 ∷ []) $ closes ! tt S.the-row s (d ∷ []) b o $
         -- `reply_of`
         owned ! N.the-row (Is N.the-row) (LL.makes N.the-type N′.the-plain 𝓤 H A) a (w₁ ∷ []) is-a $ use1 W (raw (ReplyOf 𝓤 H A at-mem run .pre (to-reply a w₁))) (goes-reply a w₁) $
         calls-at ! fm (ReplyOf 𝓤 H A at-mem run) known-reply (to-reply a w₁) (and-then ! (load ! (from ! (stop !)) (look ! 21 refl)) (no-more !)) (λ u. use1 W (later (some (λ (t : Reply). (‵ ftrue ⊛ ‵ (P.the-row .own t (u ∷ []))) ⊛ raw (ensured 𝓤 H A reply.ended (reply.clauses 𝓤 H A at-mem run) tt (a, tt) tt t)))) (id⊢ 𝓤 _) $ await ! tt $ pick ! (λ t.
         split ! $ move ! (1 ∷ []) $ use1 W (raw (fact 𝓤 (t ≡ replyTo a))) (reply-says 𝓤 H A at-mem run a t) $ heard ! (t ≡ replyTo a) (λ et. split ! $ drop ! $
-        peeks ! P.the-row (Is P.the-row) (shows 𝓤 H A P.the-row) t (u ∷ []) (λ is-t. land ! (from ! (stop !)) (init ! 31 refl (LL.lawful P.the-type P′.the-laws 𝓤 H A W .typed t _ is-t .0)) $
-        returns ! (look ! 31 refl) $ forget ! 9 refl $ forget ! 11 refl $ forget ! 15 refl $ forget ! 17 refl $ forget ! 19 refl $ forget ! 21 refl $ forget ! 23 refl $ forget ! 25 refl $ forget ! 27 refl $ forget ! 29 refl $ forget ! 31 refl $
-        move ! (31 ∷ 32 ∷ []) $ free1 ! $ move ! (29 ∷ 30 ∷ []) $ free1 ! $ move ! (27 ∷ 28 ∷ []) $ free1 ! $ move ! (25 ∷ 26 ∷ []) $ free1 ! $ move ! (23 ∷ 24 ∷ []) $ free1 ! $ move ! (21 ∷ 22 ∷ []) $ free1 ! $ move ! (19 ∷ 20 ∷ []) $ free1 ! $ move ! (17 ∷ 18 ∷ []) $ free1 ! $ move ! (15 ∷ 16 ∷ []) $ free1 ! $ move ! (13 ∷ 14 ∷ []) $ free1 ! $ move ! (11 ∷ 12 ∷ []) $ free1 ! $ move ! (9 ∷ 10 ∷ []) $ free1 ! $ free0 ! $
-        keep ! (0 ∷ 1 ∷ 2 ∷ 3 ∷ 4 ∷ 5 ∷ []) $ by ! (exits t u s (zs .1 .1 .0) (said h n ys (zs .1 .1 .0) a t s (left .all) ea ezs es et) l)))))))))))))))))))))))))))))))))))))))
+        peeks ! P.the-row (Is P.the-row) (shows 𝓤 H A P.the-row) t (u ∷ []) (λ is-t. land ! (from ! (stop !)) (init ! 33 refl (LL.lawful P.the-type P′.the-laws 𝓤 H A W .typed t _ is-t .0)) $
+        returns ! (look ! 33 refl) $ forget ! 9 refl $ forget ! 11 refl $ forget ! 13 refl $ forget ! 17 refl $ forget ! 19 refl $ forget ! 21 refl $ forget ! 23 refl $ forget ! 25 refl $ forget ! 27 refl $ forget ! 29 refl $ forget ! 31 refl $ forget ! 33 refl $
+        move ! (33 ∷ 34 ∷ []) $ free1 ! $ move ! (31 ∷ 32 ∷ []) $ free1 ! $ move ! (29 ∷ 30 ∷ []) $ free1 ! $ move ! (27 ∷ 28 ∷ []) $ free1 ! $ move ! (25 ∷ 26 ∷ []) $ free1 ! $ move ! (23 ∷ 24 ∷ []) $ free1 ! $ move ! (21 ∷ 22 ∷ []) $ free1 ! $ move ! (19 ∷ 20 ∷ []) $ free1 ! $ move ! (17 ∷ 18 ∷ []) $ free1 ! $ move ! (15 ∷ 16 ∷ []) $ free1 ! $ move ! (13 ∷ 14 ∷ []) $ free1 ! $ move ! (11 ∷ 12 ∷ []) $ free1 ! $ move ! (9 ∷ 10 ∷ []) $ free1 ! $ free0 ! $
+        keep ! (0 ∷ 1 ∷ 2 ∷ 3 ∷ 4 ∷ 5 ∷ []) $ by ! (exits t u s (zs .1 .1 .0) (said h n ys (zs .1 .1 .0) a t s (left .all) ea ezs es et) l))))))))))))))))))))))))))))))))))))))))
 
 module _ {M : Type 1} (𝓤 : URA M) (H : Heap 𝓤) (A : Atoms 𝓤) (W : Given 𝓤 H A) (at-mem : Memory → SProp 𝓤) (run : Routine → Fun 𝓤) where
   walks : (C : Calls 𝓤 H) (Λ : Loops 𝓤 H) → FmC 𝓤 H (W .laws) C → Triple 𝓤 (C #listening·listen) (Listen 𝓤 H A at-mem run) → Triple 𝓤 (C #firmware·is-settled) (Settled 𝓤 H A at-mem run) → Triple 𝓤 (C #firmware·receiver-of) (ReceiverOf 𝓤 H A at-mem run) → Triple 𝓤 (C #firmware·short-reply) (Short 𝓤 H A at-mem run) → Triple 𝓤 (C #meter·take) (Take 𝓤 H A at-mem run) → Triple 𝓤 (C #firmware·next-of) (Next 𝓤 H A at-mem run) → Triple 𝓤 (C #firmware·reply-of) (ReplyOf 𝓤 H A at-mem run)
