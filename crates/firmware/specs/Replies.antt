@@ -2,6 +2,7 @@
 use lib.ListN.{length}
 use Rattle.meter.specs.Outcomes.{Outcome}
 use Rattle.meter.specs.declared.Answer.{Answer}
+use Rattle.listening.specs.declared.Heard.{Heard}
 use Rattle.firmware.specs.declared.Reply.{Reply}
 
 abbrev pub replyTo : Answer → Reply
@@ -10,3 +11,7 @@ replyTo a = record { number = a .number; length = a .length; speed = a .speed }
 -- the number, the reply's length and its speed
 abbrev pub replyOf : Outcome → Reply
 replyOf o = record { number = o .number; length = length (o .reply); speed = o .speed }
+
+-- a settled character has none
+abbrev pub settledReply : Heard → Reply
+settledReply h = record { number = h .number; length = 0; speed = h .speed }

@@ -5,9 +5,11 @@ ghost use lib.ListN.{length};
 ghost use Rattle.text.specs.Writing.{holding};
 ghost use Rattle.frames.specs.Frames.{onWire};
 ghost use Rattle.meter.specs.Character.{character};
-ghost use Rattle.firmware.specs.Replies.{replyTo, replyOf};
+ghost use Rattle.firmware.specs.Replies.{replyTo, replyOf, settledReply};
+use listening::Heard;
 use meter::Answer;
 use state::Meter;
+use state::Receiver;
 
 // What is left of an answer once its next state lies in the record.
 pub struct Reply {
@@ -32,13 +34,42 @@ fn next_of(a: Answer) -> Meter
     a.next
 }
 
-// A received character; the record becomes the next state.
+fn is_settled(h: Heard) -> bool
+    ensures { λ r. ⌜ r ≡ h .settled ⌝ }
+{
+    h.settled
+}
+
+fn receiver_of(h: Heard) -> Receiver
+    ensures { λ r. ⌜ r ≡ h .receiver ⌝ }
+{
+    h.receiver
+}
+
+// A settled character has no reply.
+fn short_reply(h: Heard) -> Reply
+    ensures { λ r. ⌜ r ≡ settledReply h ⌝ }
+{
+    Reply {
+        number: h.number,
+        length: 0,
+        speed: h.speed,
+    }
+}
+
+// A received character; the record becomes the next state. Most characters change its receiver alone, and the rest of it is not copied.
 pub fn receive_in_place(m: &mut Meter, b: u8, reply: &mut [u8]) -> Reply
     ensures { λ r. ⌜ (r ≡ replyOf (character (now (m .entry)) (length (now (reply .entry))) b))
         × (now (m .exit) ≡ character (now (m .entry)) (length (now (reply .entry))) b .next)
         × (now (reply .exit) ≡ holding (now (reply .entry)) (onWire (character (now (m .entry)) (length (now (reply .entry))) b .reply))) ⌝ }
 {
-    let a = meter::receive(*m, b, reply);
+    let before = *m;
+    let heard = listening::listen(before, b, reply.len());
+    if is_settled(heard) {
+        m.receiver = receiver_of(heard);
+        return short_reply(heard);
+    }
+    let a = meter::take(*m, b, reply);
     *m = next_of(a);
     reply_of(a)
 }

@@ -6,10 +6,10 @@ use mathlib.Core.List.{List, [], _∷_}
 use Prim.Native.Nat.{ℕ, zero, suc, _+_, _-_, _<_, _≤_}
 use native.Mathlib.Omega.{arith}
 use native.Mathlib.Numerals.{add-one}
-use borrow.Author.Tests.{leb-true, leb-false, eqb-true, eqb-false, eq-eqb, ne-eqb, le-leb}
-use lib.Dec.{eqb, leb}
+use borrow.Author.Tests.{leb-true, leb-false, eqb-true, eqb-false, eq-eqb, ne-eqb, le-leb, lt-ltb, le-ltb, ltb-true, ltb-false}
+use lib.Dec.{eqb, leb, ltb}
 use lib.ListN.{length, drop, getD, set, replicate}
-use lib.Seq.{drop-set-lt, drop-drop, getD-set-other}
+use lib.Seq.{drop-set-lt, drop-drop, getD-set-other, set-getD}
 use Rattle.line.specs.Runs.{every}
 use Rattle.line.proofs.Runs.{and-left, and-right, and-both}
 use Rattle.text.specs.Classes.{between}
@@ -97,3 +97,28 @@ restart-first mode count last c e = go (eqb mode 0) (eqb mode 1) e
     go true q h = unfold listening in (listened (eqb c 47) refl (eqb count 0) (eqb c 10) (leb 31 count) h)
     go false true h = refl
     go false false h = unfold framing in (framed (not (eqb count 0) && eqb last 3) (eqb c 1) refl (eqb count 0) (leb 63 count) h)
+
+-- no place is passed yet, or this one is
+pub put-none : (s t : List ℕ) (place : ℕ) → s ≡ cond (ltb place 0) t s
+put-none s t place = rw (le-ltb place 0 (omega arith))
+
+pub put-done : (s t : List ℕ) (place i : ℕ) → place < i → cond (ltb place i) t s ≡ t
+put-done s t place i h = rw (lt-ltb place i h)
+
+-- a place is passed: before it all is as it was, after it the character stands there
+pub put-turn : (s₀ s : List ℕ) (place c i ahead : ℕ) → ahead + i ≡ place + 128 → s ≡ cond (ltb place i) (set s₀ place c) s₀
+    → set s i (cond (eqb ahead 128) c (getD s i 0)) ≡ cond (ltb place (i + 1)) (set s₀ place c) s₀
+put-turn s₀ s place c i ahead e was = go (eqb ahead 128) refl
+  where
+    go : (b : Bool) → eqb ahead 128 ≡ b → set s i (cond b c (getD s i 0)) ≡ cond (ltb place (i + 1)) (set s₀ place c) s₀
+    go true h =
+        let here : i ≡ place = omega (arith, e, eqb-true ahead 128 h) in
+        let before : s ≡ s₀ = rw (le-ltb place i (omega (arith, here))) at was in
+        rw (before, here, lt-ltb place (place + 1) (omega arith))
+    go false h =
+        let other : i ≡ place → ⊥ = λ (z : i ≡ place). eqb-false ahead 128 h (omega (arith, e, z)) in
+        set-getD s i 0 ∙ was ∙ ap (λ (b : Bool). cond b (set s₀ place c) s₀) (passed other (ltb place i) refl)
+      where
+        passed : (i ≡ place → ⊥) → (b : Bool) → ltb place i ≡ b → ltb place i ≡ ltb place (i + 1)
+        passed other true a = a ∙ sym (lt-ltb place (i + 1) (omega (arith, ltb-true place i a)))
+        passed other false a = a ∙ sym (le-ltb place (i + 1) (omega (arith, other, ltb-false place i a)))

@@ -1,7 +1,8 @@
 // Receiving: what one character means to the receiver, and the receiver after it.
 ghost use mathlib.Core.Path.{_≡_};
+ghost use mathlib.Core.Bool.{cond};
 ghost use Prim.Native.Nat.{_<_, _-_};
-ghost use lib.ListN.{length, take, getD};
+ghost use lib.ListN.{length, take, getD, set};
 ghost use Rattle.hearing.specs.Hearing.{listening, confirming, framing, hearing};
 ghost use Rattle.hearing.specs.Receivers.{keptReceiver, restartedReceiver, lastHeld};
 ghost use Rattle.state.specs.Making.{emptyReceiver};
@@ -104,17 +105,39 @@ pub fn last_held(r: Receiver) -> u8
     text::at(&held, (count - 1) as usize)
 }
 
+fn chosen(first: bool, a: u8, b: u8) -> u8
+    ensures { λ r. ⌜ r ≡ cond first a b ⌝ }
+{
+    if first { a } else { b }
+}
+
+// Puts a character in a place. All places are written, many at once: a byte stored alone and read next with those around it makes the
+// processor wait. At the place `ahead` is 128; it has eight bits like the characters.
+fn put_at(held: &mut [u8], at: u8, c: u8)
+    requires { ⌜ (length (now held) ≡ 63) × (at < 63) ⌝ }
+    ensures { λ _. ⌜ now (held .exit) ≡ set (now (held .entry)) at c ⌝ }
+{
+    let mut ahead = at + 128;
+    let mut i = 0;
+    while i < held.len() {
+        held[i] = chosen(ahead == 128, c, held[i]);
+        ahead -= 1;
+        i += 1;
+    }
+}
+
 // The receiver with one character more.
 pub fn keep(r: Receiver, c: u8, damaged: bool) -> Receiver
     requires { ⌜ r .count < 63 ⌝ }
     ensures { λ x. ⌜ x ≡ keptReceiver r c damaged ⌝ }
 {
-    let mut next = r;
-    let at = r.count as usize;
-    next.held[at] = c;
-    next.count = r.count + 1;
-    next.mark = r.mark | damaged;
-    next
+    let mut held = r.held;
+    put_at(&mut held, r.count, c);
+    Receiver {
+        held,
+        count: r.count + 1,
+        mark: r.mark | damaged,
+    }
 }
 
 // The receiver with this character alone.

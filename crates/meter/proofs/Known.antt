@@ -1,17 +1,17 @@
 -- What is known of a well-formed meter where the code needs it. Assumes nothing.
 use mathlib.Core.Path.{_≡_, refl, sym, ap, _∙_}
-use mathlib.Core.Bool.{Bool, true, false, cond, _&&_}
+use mathlib.Core.Bool.{Bool, true, _&&_}
 use Prim.Native.Nat.{ℕ, _+_, _-_, _≤_, _<_}
 use native.Mathlib.Omega.{arith}
 use borrow.Author.Tests.{leb-true}
-use lib.Dec.{eqb, leb}
+use lib.Dec.{leb}
 use lib.ListN.{length, take, drop, length-drop}
 use lib.Seq.{length-take-le}
 use Rattle.line.proofs.Runs.{and-left, and-right}
 use Rattle.text.specs.Classes.{between}
 use Rattle.values.specs.Registers.{goodTable}
 use Rattle.state.specs.declared.Meter.{Meter}
-use Rattle.state.specs.WellFormed.{limit, countersGood, wellFormed}
+use Rattle.state.specs.WellFormed.{countersGood, wellFormed}
 use Rattle.state.proofs.Facts.{formed, formed-registers, Long, long}
 use Rattle.replies.specs.Shown.{Lengths}
 use Rattle.changes.specs.Zones.{CountersFit}
@@ -22,15 +22,6 @@ piece-long m h a n r = length-take-le n (drop a (m .receiver .held)) (omega (ari
 
 pub lengths : (m : Meter) → wellFormed m ≡ true → Lengths 24 (m .registers)
 lengths m h = let l = long m h in record { serial = l .serial; account = l .account; rows = l .tables }
-
-pub limit-most : (mode : ℕ) → limit mode ≤ 63
-unfolding limit
-limit-most mode = pick (eqb mode 0) (eqb mode 1)
-  where
-    pick : (a b : Bool) → cond a 31 (cond b 5 63) ≤ 63
-    pick true b = omega arith
-    pick false true = omega arith
-    pick false false = omega arith
 
 pub table-low : (n : ℕ) → goodTable 24 n ≡ true → 1 ≤ n
 unfolding goodTable between

@@ -5,17 +5,11 @@ ghost use lib.ListN.{length};
 ghost use Rattle.text.specs.Writing.{holding};
 ghost use Rattle.frames.specs.Frames.{onWire};
 ghost use Rattle.replies.specs.Fixed.{accepted, refused};
-ghost use Rattle.meter.specs.Outcomes.{answerOf, speedOf, fallen, silent, unheard, nak, ack};
+ghost use Rattle.meter.specs.Outcomes.{answerOf, fallen, silent, unheard, nak, ack};
 use crate::Answer;
+use crate::speed_of;
 use changes::in_mode;
 use state::Meter;
-
-// Speed identifier 0 in modes 0 and 1, else 5.
-pub fn speed_of(mode: u8) -> u8
-    ensures { λ r. ⌜ r ≡ speedOf mode ⌝ }
-{
-    if 2 <= mode { 5 } else { 0 }
-}
 
 // No reply; the speed is the next state's.
 pub fn quiet(number: u8, next: Meter) -> Answer

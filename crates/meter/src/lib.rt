@@ -6,7 +6,7 @@ ghost use lib.ListN.{length};
 ghost use Rattle.text.specs.Writing.{holding};
 ghost use Rattle.frames.specs.Frames.{onWire};
 ghost use Rattle.state.specs.WellFormed.{wellFormed};
-ghost use Rattle.meter.specs.Outcomes.{Outcome, answerOf, silent, unheard};
+ghost use Rattle.meter.specs.Outcomes.{Outcome, answerOf, speedOf, silent, unheard};
 ghost use Rattle.meter.specs.Character.{symbol, taken, character};
 ghost use Rattle.meter.specs.Events.{afterSilence, silence, tick, pulse, powerUp};
 use changes::in_mode;
@@ -27,8 +27,15 @@ pub struct Answer {
     pub next: Meter,
 }
 
+// Speed identifier 0 in modes 0 and 1, else 5.
+pub fn speed_of(mode: u8) -> u8
+    ensures { λ r. ⌜ r ≡ speedOf mode ⌝ }
+{
+    if 2 <= mode { 5 } else { 0 }
+}
+
 // A character of a wire byte; a damaged one is taken as 0.
-fn symbol_of(b: u8) -> u8
+pub fn symbol_of(b: u8) -> u8
     ensures { λ r. ⌜ r ≡ symbol b ⌝ }
 {
     if line::damaged(b) {
@@ -38,7 +45,7 @@ fn symbol_of(b: u8) -> u8
 }
 
 // A character, taken by a well-formed meter with room for any reply.
-fn take(m: Meter, b: u8, reply: &mut [u8]) -> Answer
+pub fn take(m: Meter, b: u8, reply: &mut [u8]) -> Answer
     requires { ⌜ (wellFormed m ≡ true) × (2048 ≤ length (now reply)) ⌝ }
     ensures result { λ r. ⌜ r ≡ answerOf (taken m b) ⌝ }
     ensures held { λ _. ⌜ now (reply .exit) ≡ holding (now (reply .entry)) (onWire (taken m b .reply)) ⌝ }

@@ -7,7 +7,7 @@ use borrow.Author.Tests.{leb-true, le-leb, eqb-true}
 use lib.Dec.{eqb, leb}
 use lib.ListN.{length, drop, getD}
 use Rattle.line.specs.Runs.{every}
-use Rattle.line.proofs.Runs.{and-left, and-right, and-both, chosen}
+use Rattle.line.proofs.Runs.{and-left, and-right, and-assoc, chosen}
 use Rattle.text.specs.Classes.{between}
 use Rattle.clock.specs.Seconds.{realClock}
 use Rattle.clock.specs.declared.Clock.{Clock}
@@ -17,6 +17,13 @@ use Rattle.state.specs.declared.Counters.{Counters}
 use Rattle.state.specs.declared.Registers.{Registers}
 use Rattle.state.specs.declared.Meter.{Meter}
 use Rattle.state.specs.WellFormed.{limit, firstGood, markGood, heldGood, receiverGood, countersGood, tablesGood, factsGood, registersGood, wellFormed}
+
+-- what is asked only after two tests have passed, and what has failed before it
+pub then-all : (a b c : Bool) → (a && b) ≡ true → c ≡ (a && (b && c))
+then-all a b c h = rw (← and-assoc a b c, h)
+
+pub then-none : (a b c : Bool) → (a && b) ≡ false → false ≡ (a && (b && c))
+then-none a b c h = rw (← and-assoc a b c, h)
 
 pub record Formed (m : Meter) : Type 0 where
   pub mode : m .mode ≤ 4

@@ -74,13 +74,21 @@ fn first_good(mode: u8, count: u8, first: u8) -> bool
     (count == 0) | ((mode == 1) | (first == line::SOH))
 }
 
-// Whether there are 63 characters, all within 0 to 127, and 0 from the count on.
+// Whether 63 characters are within 0 to 127, and 0 from the count on. As long as a place is below the count, `below` is 128 or more: it has
+// eight bits like the characters, so that the compiler tests many places at once.
 fn held_good(held: &[u8], count: u8) -> bool
+    requires { ⌜ (length (now held) ≡ 63) × (count ≤ 63) ⌝ }
     ensures { λ r. ⌜ r ≡ heldGood (now (held .entry)) count ⌝ }
 {
-    let n = count as usize;
-    (held.len() == 63)
-        & (text::all_between(held, 0, 127) & text::all_between(text::rest(held, n), 0, 0))
+    let mut ok = true;
+    let mut below = count + 127;
+    let mut i = 0;
+    while i < held.len() {
+        ok = ok & ((held[i] <= 127) & ((128 <= below) | (held[i] == 0)));
+        below -= 1;
+        i += 1;
+    }
+    ok
 }
 
 // Whether a receiver is well-formed in a mode.
@@ -118,15 +126,18 @@ fn facts_good(serial: &[u8], account: &[u8], password: &[u8], clock: Clock) -> b
         & (values::is_digits(password, 8) & clock::is_clock(clock))
 }
 
+// The tables come last and apart: they are most of the record, and what is read of it early has to be kept.
 fn registers_good(g: Registers) -> bool
     ensures { λ r. ⌜ r ≡ registersGood g ⌝ }
 {
     let serial = g.serial;
     let account = g.account;
     let password = g.password;
-    let tables = g.tables;
-    facts_good(&serial, &account, &password, g.clock)
-        & (counters_good(g.counters) & tables_good(&tables))
+    if facts_good(&serial, &account, &password, g.clock) & counters_good(g.counters) {
+        let tables = g.tables;
+        return tables_good(&tables);
+    }
+    false
 }
 
 // Whether a state is well-formed.
@@ -134,8 +145,11 @@ pub fn is_well_formed(m: Meter) -> bool
     ensures { λ r. ⌜ r ≡ wellFormed m ⌝ }
 {
     let r = m.receiver;
-    let g = m.registers;
-    (((m.mode <= 4) & (m.attempts <= 3)) & receiver_good(m.mode, r)) & registers_good(g)
+    if ((m.mode <= 4) & (m.attempts <= 3)) & receiver_good(m.mode, r) {
+        let g = m.registers;
+        return registers_good(g);
+    }
+    false
 }
 
 // A new meter: counters 0, attempts 0, all tables '1', mode 0, an empty receiver.

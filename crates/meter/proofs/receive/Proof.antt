@@ -8,42 +8,20 @@ use borrow.Author.Needs.{needs}
 use Rattle.meter.proofs.receive.Statement.{statement}
 use Rattle.meter.proofs.receive.Tie as tie
 
-unheard-with-requires : tie.Need-unheard-with-requires
-unheard-with-requires c κs = search needs
-
 returns : tie.Need-returns
 unfolding character holding
 returns c = (rw (lt-ltb _ _ (c .before .if1 .taken), c .unheard-with .ensures), rw (lt-ltb _ _ (c .before .if1 .taken)))
 
-is-well-formed-requires : tie.Need-is-well-formed-requires
-is-well-formed-requires c κs = search needs
-
 take-requires : tie.Need-take-requires
 take-requires c κs = (sym (c .before .before .is-well-formed .ensures) ∙ c .before .if2 .taken, omega arith)
-
-same-length : tie.Need-same-length
-same-length c = search needs
 
 returns-2 : tie.Need-returns-2
 unfolding character holding
 returns-2 c = (rw (le-ltb _ _ (c .before .before .before .before .before .before .if1 .left), ← c .before .before .before .before .before .is-well-formed .ensures, c .before .before .before .before .if2 .taken, c .before .before .take .ensures .0), rw (le-ltb _ _ (c .before .before .before .before .before .before .if1 .left), ← c .before .before .before .before .before .is-well-formed .ensures, c .before .before .before .before .if2 .taken) (c .before .before .take .ensures .1))
-
-unheard-with-requires-2 : tie.Need-unheard-with-requires-2
-unheard-with-requires-2 c κs = search needs
 
 returns-3 : tie.Need-returns-3
 unfolding character holding
 returns-3 c = (rw (le-ltb _ _ (c .before .before .before .if1 .left), ← c .before .before .is-well-formed .ensures, c .before .if2 .left, c .unheard-with2 .ensures), rw (le-ltb _ _ (c .before .before .before .if1 .left), ← c .before .before .is-well-formed .ensures, c .before .if2 .left))
 
 pub receive-spec : {M : Type 1} → statement M
-receive-spec =
-    tie.close
-    (tie.spec
-    unheard-with-requires
-    returns
-    is-well-formed-requires
-    take-requires
-    same-length
-    returns-2
-    unheard-with-requires-2
-    returns-3)
+receive-spec = tie.close (tie.spec (λ c κs. search needs) returns (λ c κs. search needs) take-requires (λ c. search needs) returns-2 (λ c κs. search needs) returns-3)

@@ -4,19 +4,13 @@ use borrow.Author.Needs.{needs}
 use Rattle.meter.proofs.symbol_of.Statement.{statement}
 use Rattle.meter.proofs.symbol_of.Tie as tie
 
-damaged-requires : tie.Need-damaged-requires
-damaged-requires c κs = search needs
-
 returns : tie.Need-returns
 unfolding symbol
 returns c = rw (← c .before .damaged .ensures, c .if1 .taken)
-
-character-requires : tie.Need-character-requires
-character-requires c κs = search needs
 
 returns-2 : tie.Need-returns-2
 unfolding symbol
 returns-2 c = rw (← c .before .before .damaged .ensures, c .before .if1 .left, c .character .ensures)
 
 pub symbol-of-spec : {M : Type 1} → statement M
-symbol-of-spec = tie.close (tie.spec damaged-requires returns character-requires returns-2)
+symbol-of-spec = tie.close (tie.spec (λ c κs. search needs) returns (λ c κs. search needs) returns-2)

@@ -1,9 +1,17 @@
 -- `state::receiver_good` meets its contract: each way out is the case of the definition that its tests name. Assumes nothing.
 use Rattle.state.specs.WellFormed.{receiverGood, markGood}
+use native.Mathlib.Omega.{arith}
 use borrow.Author.Tests.{le-leb, lt-leb}
 use borrow.Author.Needs.{needs}
+use Rattle.state.proofs.Limits.{limit-most}
 use Rattle.state.proofs.receiver_good.Statement.{statement}
 use Rattle.state.proofs.receiver_good.Tie as tie
+
+held-good-requires : tie.Need-held-good-requires
+held-good-requires c κs =
+    let fits = c .before .before .before .if1 .taken in
+    let most = c .before .before .before .before .limit-of .ensures in
+    (search needs, omega (arith, fits, most, limit-most (c .before .before .before .before .before .before .args .mode)))
 
 returns : tie.Need-returns
 unfolding receiverGood markGood
@@ -14,4 +22,4 @@ unfolding receiverGood markGood
 returns-2 c = rw (← c .before .limit-of .ensures, lt-leb _ _ (c .if1 .left))
 
 pub receiver-good-spec : {M : Type 1} → statement M
-receiver-good-spec = tie.close (tie.spec (λ c κs. search needs) (λ c. search needs) (λ c κs. search needs) (λ c. search needs) (λ c κs. search needs) returns returns-2)
+receiver-good-spec = tie.close (tie.spec (λ c κs. search needs) (λ c. search needs) (λ c κs. search needs) (λ c. search needs) held-good-requires returns returns-2)

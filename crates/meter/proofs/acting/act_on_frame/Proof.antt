@@ -4,24 +4,6 @@ use borrow.Author.Needs.{needs}
 use Rattle.meter.proofs.acting.act_on_frame.Statement.{statement}
 use Rattle.meter.proofs.acting.act_on_frame.Tie as tie
 
-slice-aggregate-first : tie.Need-slice-aggregate-first
-slice-aggregate-first c = search needs
-
-cast-first : tie.Need-cast-first
-cast-first c = search needs
-
-first-requires : tie.Need-first-requires
-first-requires c κs = search needs
-
-decide-requires : tie.Need-decide-requires
-decide-requires c κs = search needs
-
-act-requires : tie.Need-act-requires
-act-requires c κs = search needs
-
-same-length : tie.Need-same-length
-same-length c = search needs
-
 returns : tie.Need-returns
 unfolding holding
 returns c =
@@ -30,13 +12,4 @@ returns c =
     (rw (c .before .before .act .ensures .0, chosen, shown), (rw (chosen, shown) at (c .before .before .act .ensures .1)))
 
 pub act-on-frame-spec : {M : Type 1} → statement M
-act-on-frame-spec =
-    tie.close
-    (tie.spec
-    slice-aggregate-first
-    cast-first
-    first-requires
-    decide-requires
-    act-requires
-    same-length
-    returns)
+act-on-frame-spec = tie.close (tie.spec (λ c. search needs) (λ c. search needs) (λ c κs. search needs) (λ c κs. search needs) (λ c κs. search needs) (λ c. search needs) returns)

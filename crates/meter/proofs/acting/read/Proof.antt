@@ -5,18 +5,9 @@ use borrow.Author.Needs.{needs}
 use Rattle.meter.proofs.acting.read.Statement.{statement}
 use Rattle.meter.proofs.acting.read.Tie as tie
 
-answer-requires : tie.Need-answer-requires
-answer-requires c κs = search needs
-
-in-mode-requires : tie.Need-in-mode-requires
-in-mode-requires c κs = search needs
-
-same-length : tie.Need-same-length
-same-length c = search needs
-
 returns : tie.Need-returns
 unfolding acted holding
 returns c = (rw (c .in-mode .ensures, c .before .before .before .answer .ensures .0), (c .before .before .before .answer .ensures .1))
 
 pub read-spec : {M : Type 1} → statement M
-read-spec = tie.close (tie.spec answer-requires in-mode-requires same-length returns)
+read-spec = tie.close (tie.spec (λ c κs. search needs) (λ c κs. search needs) (λ c. search needs) returns)

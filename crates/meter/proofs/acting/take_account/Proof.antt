@@ -5,37 +5,13 @@ use borrow.Author.Needs.{needs}
 use Rattle.meter.proofs.acting.take_account.Statement.{statement}
 use Rattle.meter.proofs.acting.take_account.Tie as tie
 
-slice-aggregate-rest : tie.Need-slice-aggregate-rest
-slice-aggregate-rest c = search needs
-
-rest-requires : tie.Need-rest-requires
-rest-requires c κs = search needs
-
-first-requires : tie.Need-first-requires
-first-requires c κs = search needs
-
 ten-requires : tie.Need-ten-requires
 ten-requires c κs =
     let start = c .before .before .before .before .before .before in
     rw (c .first .ensures, c .before .rest .ensures) (piece-long (start .args .m) (start .pre) 6 10 (omega arith))
 
-with-account-requires : tie.Need-with-account-requires
-with-account-requires c κs = search needs
-
-with-registers-requires : tie.Need-with-registers-requires
-with-registers-requires c κs = search needs
-
 returns : tie.Need-returns
 returns c = rw (c .with-registers .ensures, c .before .with-account .ensures, c .before .before .ten .ensures, c .before .before .before .first .ensures, c .before .before .before .before .rest .ensures)
 
 pub take-account-spec : {M : Type 1} → statement M
-take-account-spec =
-    tie.close
-    (tie.spec
-    slice-aggregate-rest
-    rest-requires
-    first-requires
-    ten-requires
-    with-account-requires
-    with-registers-requires
-    returns)
+take-account-spec = tie.close (tie.spec (λ c. search needs) (λ c κs. search needs) (λ c κs. search needs) ten-requires (λ c κs. search needs) (λ c κs. search needs) returns)

@@ -3,14 +3,8 @@ use borrow.Author.Needs.{needs}
 use Rattle.meter.proofs.acting.take_clock.Statement.{statement}
 use Rattle.meter.proofs.acting.take_clock.Tie as tie
 
-with-clock-requires : tie.Need-with-clock-requires
-with-clock-requires c κs = search needs
-
-with-registers-requires : tie.Need-with-registers-requires
-with-registers-requires c κs = search needs
-
 returns : tie.Need-returns
 returns c = rw (c .with-registers .ensures, c .before .with-clock .ensures)
 
 pub take-clock-spec : {M : Type 1} → statement M
-take-clock-spec = tie.close (tie.spec with-clock-requires with-registers-requires returns)
+take-clock-spec = tie.close (tie.spec (λ c κs. search needs) (λ c κs. search needs) returns)

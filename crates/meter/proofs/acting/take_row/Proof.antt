@@ -5,37 +5,13 @@ use borrow.Author.Needs.{needs}
 use Rattle.meter.proofs.acting.take_row.Statement.{statement}
 use Rattle.meter.proofs.acting.take_row.Tie as tie
 
-slice-aggregate-rest : tie.Need-slice-aggregate-rest
-slice-aggregate-rest c = search needs
-
-rest-requires : tie.Need-rest-requires
-rest-requires c κs = search needs
-
-first-requires : tie.Need-first-requires
-first-requires c κs = search needs
-
 with-row-requires : tie.Need-with-row-requires
 with-row-requires c κs =
     let start = c .before .before .before .before .before .before .before in
     (start .pre .1, rw (c .first .ensures, c .before .rest .ensures) (piece-long (start .args .m) (start .pre .0) 9 24 (omega arith)))
 
-with-tables-requires : tie.Need-with-tables-requires
-with-tables-requires c κs = search needs
-
-with-registers-requires : tie.Need-with-registers-requires
-with-registers-requires c κs = search needs
-
 returns : tie.Need-returns
 returns c = rw (c .with-registers .ensures, c .before .with-tables .ensures, c .before .before .with-row .ensures, c .before .before .before .first .ensures, c .before .before .before .before .rest .ensures)
 
 pub take-row-spec : {M : Type 1} → statement M
-take-row-spec =
-    tie.close
-    (tie.spec
-    slice-aggregate-rest
-    rest-requires
-    first-requires
-    with-row-requires
-    with-tables-requires
-    with-registers-requires
-    returns)
+take-row-spec = tie.close (tie.spec (λ c. search needs) (λ c κs. search needs) (λ c κs. search needs) with-row-requires (λ c κs. search needs) (λ c κs. search needs) returns)

@@ -8,42 +8,12 @@ use borrow.Author.Needs.{needs}
 use Rattle.meter.proofs.acting.try_password.Statement.{statement}
 use Rattle.meter.proofs.acting.try_password.Tie as tie
 
-refuse-requires : tie.Need-refuse-requires
-refuse-requires c κs = search needs
-
-same-length : tie.Need-same-length
-same-length c = search needs
-
 returns : tie.Need-returns
 unfolding tried holding
 returns c = (rw (eq-eqb _ _ (c .before .before .before .before .if1 .taken), c .before .before .refuse .ensures .0), rw (eq-eqb _ _ (c .before .before .before .before .if1 .taken)) (c .before .before .refuse .ensures .1))
 
-slice-aggregate-rest : tie.Need-slice-aggregate-rest
-slice-aggregate-rest c = search needs
-
-rest-requires : tie.Need-rest-requires
-rest-requires c κs = search needs
-
-first-requires : tie.Need-first-requires
-first-requires c κs = search needs
-
-slice-aggregate-same : tie.Need-slice-aggregate-same
-slice-aggregate-same c = search needs
-
-same-requires : tie.Need-same-requires
-same-requires c κs = search needs
-
-with-attempts-requires : tie.Need-with-attempts-requires
-with-attempts-requires c κs = search needs
-
-in-mode-requires : tie.Need-in-mode-requires
-in-mode-requires c κs = search needs
-
 accept-requires : tie.Need-accept-requires
 accept-requires c κs = omega (arith, c .before .before .before .before .before .before .before .before .before .before .before .before .before .before .before .pre .1)
-
-same-length-2 : tie.Need-same-length-2
-same-length-2 c = search needs
 
 returns-2 : tie.Need-returns-2
 unfolding tried holding
@@ -54,38 +24,9 @@ add-with-attempts c =
     let start = c .before .before .before .before .before .before .before .before .before .before .before .before in
     omega (arith, formed (start .args .m) (start .pre .0) .attempts)
 
-with-attempts-requires-2 : tie.Need-with-attempts-requires-2
-with-attempts-requires-2 c κs = search needs
-
-refuse-requires-2 : tie.Need-refuse-requires-2
-refuse-requires-2 c κs = search needs
-
-same-length-3 : tie.Need-same-length-3
-same-length-3 c = search needs
-
 returns-3 : tie.Need-returns-3
 unfolding tried holding
 returns-3 c = (rw (ne-eqb _ _ (c .before .before .before .before .before .before .before .before .before .before .before .if1 .left), ← c .before .before .before .before .before .before .before .before .before .rest .ensures, ← c .before .before .before .before .before .before .before .before .first .ensures, ← c .before .before .before .before .before .before .same .ensures, c .before .before .before .before .before .if2 .left, c .before .before .refuse2 .ensures .0, c .before .before .before .before .with-attempts2 .ensures), rw (ne-eqb _ _ (c .before .before .before .before .before .before .before .before .before .before .before .if1 .left), ← c .before .before .before .before .before .before .before .before .before .rest .ensures, ← c .before .before .before .before .before .before .before .before .first .ensures, ← c .before .before .before .before .before .before .same .ensures, c .before .before .before .before .before .if2 .left) (c .before .before .refuse2 .ensures .1))
 
 pub try-password-spec : {M : Type 1} → statement M
-try-password-spec =
-    tie.close
-    (tie.spec
-    refuse-requires
-    same-length
-    returns
-    slice-aggregate-rest
-    rest-requires
-    first-requires
-    slice-aggregate-same
-    same-requires
-    with-attempts-requires
-    in-mode-requires
-    accept-requires
-    same-length-2
-    returns-2
-    add-with-attempts
-    with-attempts-requires-2
-    refuse-requires-2
-    same-length-3
-    returns-3)
+try-password-spec = tie.close (tie.spec (λ c κs. search needs) (λ c. search needs) returns (λ c. search needs) (λ c κs. search needs) (λ c κs. search needs) (λ c. search needs) (λ c κs. search needs) (λ c κs. search needs) (λ c κs. search needs) accept-requires (λ c. search needs) returns-2 add-with-attempts (λ c κs. search needs) (λ c κs. search needs) (λ c. search needs) returns-3)

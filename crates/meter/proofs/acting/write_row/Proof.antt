@@ -7,48 +7,19 @@ use borrow.Author.Needs.{needs}
 use Rattle.meter.proofs.acting.write_row.Statement.{statement}
 use Rattle.meter.proofs.acting.write_row.Tie as tie
 
-is-table-requires : tie.Need-is-table-requires
-is-table-requires c κs = search needs
-
 take-row-requires : tie.Need-take-row-requires
 take-row-requires c κs =
     let start = c .before .before .before in
     let good = sym (c .before .is-table .ensures) ∙ c .if1 .taken in
     (start .pre .0, (table-low (start .args .t .0) good, table-high (start .args .t .0) good))
 
-in-mode-requires : tie.Need-in-mode-requires
-in-mode-requires c κs = search needs
-
-accept-requires : tie.Need-accept-requires
-accept-requires c κs = search needs
-
-same-length : tie.Need-same-length
-same-length c = search needs
-
 returns : tie.Need-returns
 unfolding acted holding
 returns c = (rw (← c .before .before .before .before .before .before .before .is-table .ensures, c .before .before .before .before .before .before .if1 .taken, c .before .before .accept .ensures .0, c .before .before .before .before .in-mode .ensures, c .before .before .before .before .before .take-row .ensures), rw (← c .before .before .before .before .before .before .before .is-table .ensures, c .before .before .before .before .before .before .if1 .taken) (c .before .before .accept .ensures .1))
-
-refuse-requires : tie.Need-refuse-requires
-refuse-requires c κs = search needs
-
-same-length-2 : tie.Need-same-length-2
-same-length-2 c = search needs
 
 returns-2 : tie.Need-returns-2
 unfolding acted holding
 returns-2 c = (rw (← c .before .before .before .before .before .is-table .ensures, c .before .before .before .before .if1 .left, c .before .before .refuse .ensures .0), rw (← c .before .before .before .before .before .is-table .ensures, c .before .before .before .before .if1 .left) (c .before .before .refuse .ensures .1))
 
 pub write-row-spec : {M : Type 1} → statement M
-write-row-spec =
-    tie.close
-    (tie.spec
-    is-table-requires
-    take-row-requires
-    in-mode-requires
-    accept-requires
-    same-length
-    returns
-    refuse-requires
-    same-length-2
-    returns-2)
+write-row-spec = tie.close (tie.spec (λ c κs. search needs) take-row-requires (λ c κs. search needs) (λ c κs. search needs) (λ c. search needs) returns (λ c κs. search needs) (λ c. search needs) returns-2)

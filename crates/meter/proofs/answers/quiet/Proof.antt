@@ -3,11 +3,8 @@ use borrow.Author.Needs.{needs}
 use Rattle.meter.proofs.answers.quiet.Statement.{statement}
 use Rattle.meter.proofs.answers.quiet.Tie as tie
 
-speed-of-requires : tie.Need-speed-of-requires
-speed-of-requires c κs = search needs
-
 returns : tie.Need-returns
 returns c = rw (c .speed-of .ensures)
 
 pub quiet-spec : {M : Type 1} → statement M
-quiet-spec = tie.close (tie.spec speed-of-requires returns)
+quiet-spec = tie.close (tie.spec (λ c κs. search needs) returns)

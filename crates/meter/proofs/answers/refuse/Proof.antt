@@ -4,22 +4,9 @@ use borrow.Author.Needs.{needs}
 use Rattle.meter.proofs.answers.refuse.Statement.{statement}
 use Rattle.meter.proofs.answers.refuse.Tie as tie
 
-refuse-requires : tie.Need-refuse-requires
-refuse-requires c κs = search needs
-
-fall-requires : tie.Need-fall-requires
-fall-requires c κs = search needs
-
-in-mode-requires : tie.Need-in-mode-requires
-in-mode-requires c κs = search needs
-
-same-length : tie.Need-same-length
-same-length c = search needs
-
 returns : tie.Need-returns
 unfolding holding
 returns c = (rw (c .in-mode .ensures, c .before .fall .ensures, c .before .before .before .before .refuse .ensures .0), (c .before .before .before .before .refuse .ensures .1))
 
 pub refuse-spec : {M : Type 1} → statement M
-refuse-spec =
-    tie.close (tie.spec refuse-requires fall-requires in-mode-requires same-length returns)
+refuse-spec = tie.close (tie.spec (λ c κs. search needs) (λ c κs. search needs) (λ c κs. search needs) (λ c. search needs) returns)

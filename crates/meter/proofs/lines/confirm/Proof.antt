@@ -10,38 +10,14 @@ use borrow.Author.Needs.{needs}
 use Rattle.meter.proofs.lines.confirm.Statement.{statement}
 use Rattle.meter.proofs.lines.confirm.Tie as tie
 
-in-mode-requires : tie.Need-in-mode-requires
-in-mode-requires c κs = search needs
-
-quiet-requires : tie.Need-quiet-requires
-quiet-requires c κs = search needs
-
 returns : tie.Need-returns
 unfolding confirmed holding
 returns c = (rw (c .before .before .if1 .taken, c .quiet .ensures, c .before .in-mode .ensures), rw (c .before .before .if1 .taken))
-
-slice-aggregate-first : tie.Need-slice-aggregate-first
-slice-aggregate-first c = search needs
-
-cast-first : tie.Need-cast-first
-cast-first c = search needs
-
-first-requires : tie.Need-first-requires
-first-requires c κs = search needs
-
-wants-block-requires : tie.Need-wants-block-requires
-wants-block-requires c κs = search needs
 
 data-block-requires : tie.Need-data-block-requires
 data-block-requires c κs =
     let start = c .before .before .before .before .before .before .before .before .before .before .before .before in
     (lengths (start .args .m) (start .pre .0), start .pre .1)
-
-in-mode-requires-2 : tie.Need-in-mode-requires-2
-in-mode-requires-2 c κs = search needs
-
-same-length : tie.Need-same-length
-same-length c = search needs
 
 returns-2 : tie.Need-returns-2
 unfolding confirmed holding
@@ -50,52 +26,13 @@ returns-2 c =
     let long = block-long (start .args .m .registers) (lengths (start .args .m) (start .pre .0)) in
     (rw (c .before .before .before .before .before .before .before .before .before .before .before .if1 .left, ← c .before .before .before .before .before .before .before .before .first .ensures, ← c .before .before .before .before .before .before .before .wants-block .ensures, c .before .before .before .before .before .before .if2 .taken, c .in-mode2 .ensures, c .before .before .before .data-block .ensures .0, long), rw (c .before .before .before .before .before .before .before .before .before .before .before .if1 .left, ← c .before .before .before .before .before .before .before .before .first .ensures, ← c .before .before .before .before .before .before .before .wants-block .ensures, c .before .before .before .before .before .before .if2 .taken) (c .before .before .before .data-block .ensures .1))
 
-wants-program-requires : tie.Need-wants-program-requires
-wants-program-requires c κs = search needs
-
-ask-password-requires : tie.Need-ask-password-requires
-ask-password-requires c κs = search needs
-
-in-mode-requires-3 : tie.Need-in-mode-requires-3
-in-mode-requires-3 c κs = search needs
-
-same-length-2 : tie.Need-same-length-2
-same-length-2 c = search needs
-
 returns-3 : tie.Need-returns-3
 unfolding confirmed holding passwordAsk frameOf closed bracketed
 returns-3 c = (rw (c .before .before .before .before .before .before .before .before .before .before .before .before .if1 .left, ← c .before .before .before .before .before .before .before .before .before .first .ensures, ← c .before .before .before .before .before .before .before .before .wants-block .ensures, c .before .before .before .before .before .before .before .if2 .left, ← c .before .before .before .before .before .before .wants-program .ensures, c .before .before .before .before .before .if3 .taken, c .in-mode3 .ensures, c .before .before .before .ask-password .ensures .0), rw (c .before .before .before .before .before .before .before .before .before .before .before .before .if1 .left, ← c .before .before .before .before .before .before .before .before .before .first .ensures, ← c .before .before .before .before .before .before .before .before .wants-block .ensures, c .before .before .before .before .before .before .before .if2 .left, ← c .before .before .before .before .before .before .wants-program .ensures, c .before .before .before .before .before .if3 .taken) (c .before .before .before .ask-password .ensures .1))
-
-in-mode-requires-4 : tie.Need-in-mode-requires-4
-in-mode-requires-4 c κs = search needs
-
-quiet-requires-2 : tie.Need-quiet-requires-2
-quiet-requires-2 c κs = search needs
 
 returns-4 : tie.Need-returns-4
 unfolding confirmed holding
 returns-4 c = (rw (c .before .before .before .before .before .before .before .before .before .if1 .left, ← c .before .before .before .before .before .before .first .ensures, ← c .before .before .before .before .before .wants-block .ensures, c .before .before .before .before .if2 .left, ← c .before .before .before .wants-program .ensures, c .before .before .if3 .left, c .quiet2 .ensures, c .before .in-mode4 .ensures), rw (c .before .before .before .before .before .before .before .before .before .if1 .left, ← c .before .before .before .before .before .before .first .ensures, ← c .before .before .before .before .before .wants-block .ensures, c .before .before .before .before .if2 .left, ← c .before .before .before .wants-program .ensures, c .before .before .if3 .left))
 
 pub confirm-spec : {M : Type 1} → statement M
-confirm-spec =
-    tie.close
-    (tie.spec
-    in-mode-requires
-    quiet-requires
-    returns
-    slice-aggregate-first
-    cast-first
-    first-requires
-    wants-block-requires
-    data-block-requires
-    in-mode-requires-2
-    same-length
-    returns-2
-    wants-program-requires
-    ask-password-requires
-    in-mode-requires-3
-    same-length-2
-    returns-3
-    in-mode-requires-4
-    quiet-requires-2
-    returns-4)
+confirm-spec = tie.close (tie.spec (λ c κs. search needs) (λ c κs. search needs) returns (λ c. search needs) (λ c. search needs) (λ c κs. search needs) (λ c κs. search needs) data-block-requires (λ c κs. search needs) (λ c. search needs) returns-2 (λ c κs. search needs) (λ c κs. search needs) (λ c κs. search needs) (λ c. search needs) returns-3 (λ c κs. search needs) (λ c κs. search needs) returns-4)

@@ -7,38 +7,6 @@ use Rattle.meter.proofs.lines.our_line.Lts as lts
 use Rattle.text.proofs.put.Reads as put-reads
 use Rattle.values.proofs.writing.put_serial.Reads as put-serial-reads
 
--- src/lines.rt:23:23
-slice-aggregate-put : tie.Need-slice-aggregate-put
-slice-aggregate-put c = search needs
-
--- src/lines.rt:23:38
-slice-aggregate-put-2 : tie.Need-slice-aggregate-put-2
-slice-aggregate-put-2 c = search needs
-
--- src/lines.rt:23:9
-put-requires : tie.Need-put-requires
-put-requires c κs = search needs
-
--- src/lines.rt:24:41
-slice-aggregate-put-serial : tie.Need-slice-aggregate-put-serial
-slice-aggregate-put-serial c = search needs
-
--- src/lines.rt:24:9
-put-serial-requires : tie.Need-put-serial-requires
-put-serial-requires c κs = search needs
-
--- src/lines.rt:25:15
-slice-aggregate-put-3 : tie.Need-slice-aggregate-put-3
-slice-aggregate-put-3 c = search needs
-
--- src/lines.rt:25:30
-slice-aggregate-put-4 : tie.Need-slice-aggregate-put-4
-slice-aggregate-put-4 c = search needs
-
--- src/lines.rt:25:5
-put-requires-2 : tie.Need-put-requires-2
-put-requires-2 c κs = search needs
-
 -- src/lines.rt:18:1
 returns : tie.Need-returns
 returns c =
@@ -49,15 +17,4 @@ returns c =
     our-line-put (start .args .serial .now) _ _ _ _ _ (serial-long (start .args .serial .now) (start .pre)) (first .0) (first .1) (second .0) (second .1) (third .1)
 
 pub our-line-spec : {M : Type 1} → statement M
-our-line-spec =
-    tie.close
-    (tie.spec
-    slice-aggregate-put
-    slice-aggregate-put-2
-    put-requires
-    slice-aggregate-put-serial
-    put-serial-requires
-    slice-aggregate-put-3
-    slice-aggregate-put-4
-    put-requires-2
-    returns)
+our-line-spec = tie.close (tie.spec (λ c. search needs) (λ c. search needs) (λ c κs. search needs) (λ c. search needs) (λ c κs. search needs) (λ c. search needs) (λ c. search needs) (λ c κs. search needs) returns)

@@ -4,14 +4,8 @@ use borrow.Author.Needs.{needs}
 use Rattle.meter.proofs.lines.wants_program.Statement.{statement}
 use Rattle.meter.proofs.lines.wants_program.Tie as tie
 
-slice-aggregate-same : tie.Need-slice-aggregate-same
-slice-aggregate-same c = search needs
-
-same-requires : tie.Need-same-requires
-same-requires c κs = search needs
-
 returns : tie.Need-returns
 returns c = rw (c .same .ensures) (program-by-held _ _)
 
 pub wants-program-spec : {M : Type 1} → statement M
-wants-program-spec = tie.close (tie.spec slice-aggregate-same same-requires returns)
+wants-program-spec = tie.close (tie.spec (λ c. search needs) (λ c κs. search needs) returns)

@@ -4,37 +4,13 @@ use borrow.Author.Needs.{needs}
 use Rattle.meter.proofs.passing.power_up.Statement.{statement}
 use Rattle.meter.proofs.passing.power_up.Tie as tie
 
-is-well-formed-requires : tie.Need-is-well-formed-requires
-is-well-formed-requires c κs = search needs
-
-in-mode-requires : tie.Need-in-mode-requires
-in-mode-requires c κs = search needs
-
-with-attempts-requires : tie.Need-with-attempts-requires
-with-attempts-requires c κs = search needs
-
-quiet-requires : tie.Need-quiet-requires
-quiet-requires c κs = search needs
-
 returns : tie.Need-returns
 unfolding powerUp
 returns c = rw (← c .before .before .before .before .is-well-formed .ensures, c .before .before .before .if1 .taken, c .quiet .ensures, c .before .with-attempts .ensures, c .before .before .in-mode .ensures)
-
-unheard-with-requires : tie.Need-unheard-with-requires
-unheard-with-requires c κs = search needs
 
 returns-2 : tie.Need-returns-2
 unfolding powerUp
 returns-2 c = rw (← c .before .before .is-well-formed .ensures, c .before .if1 .left, c .unheard-with .ensures)
 
 pub power-up-spec : {M : Type 1} → statement M
-power-up-spec =
-    tie.close
-    (tie.spec
-    is-well-formed-requires
-    in-mode-requires
-    with-attempts-requires
-    quiet-requires
-    returns
-    unheard-with-requires
-    returns-2)
+power-up-spec = tie.close (tie.spec (λ c κs. search needs) (λ c κs. search needs) (λ c κs. search needs) (λ c κs. search needs) returns (λ c κs. search needs) returns-2)

@@ -8,43 +8,21 @@ use borrow.Author.Needs.{needs}
 use Rattle.meter.proofs.passing.take_pulse.Statement.{statement}
 use Rattle.meter.proofs.passing.take_pulse.Tie as tie
 
-unheard-with-requires : tie.Need-unheard-with-requires
-unheard-with-requires c κs = search needs
-
 returns : tie.Need-returns
 unfolding pulse
 returns c = rw (lt-ltb _ _ (c .before .if1 .taken), c .unheard-with .ensures)
-
-is-well-formed-requires : tie.Need-is-well-formed-requires
-is-well-formed-requires c κs = search needs
 
 count-pulse-requires : tie.Need-count-pulse-requires
 count-pulse-requires c κs =
     (counters-fit (c .before .before .before .args .m) (sym (c .before .is-well-formed .ensures) ∙ c .if2 .taken), omega arith)
 
-quiet-requires : tie.Need-quiet-requires
-quiet-requires c κs = search needs
-
 returns-2 : tie.Need-returns-2
 unfolding pulse
 returns-2 c = rw (le-ltb _ _ (c .before .before .before .before .if1 .left), ← c .before .before .before .is-well-formed .ensures, c .before .before .if2 .taken, c .quiet .ensures, c .before .count-pulse .ensures)
-
-unheard-with-requires-2 : tie.Need-unheard-with-requires-2
-unheard-with-requires-2 c κs = search needs
 
 returns-3 : tie.Need-returns-3
 unfolding pulse
 returns-3 c = rw (le-ltb _ _ (c .before .before .before .if1 .left), ← c .before .before .is-well-formed .ensures, c .before .if2 .left, c .unheard-with2 .ensures)
 
 pub take-pulse-spec : {M : Type 1} → statement M
-take-pulse-spec =
-    tie.close
-    (tie.spec
-    unheard-with-requires
-    returns
-    is-well-formed-requires
-    count-pulse-requires
-    quiet-requires
-    returns-2
-    unheard-with-requires-2
-    returns-3)
+take-pulse-spec = tie.close (tie.spec (λ c κs. search needs) returns (λ c κs. search needs) count-pulse-requires (λ c κs. search needs) returns-2 (λ c κs. search needs) returns-3)

@@ -1,8 +1,8 @@
--- `meter::answers::speed_of` meets its contract: each way out is the case of the definition that its tests name. Assumes nothing.
+-- `meter::speed_of` meets its contract: each way out is the case of the definition that its tests name. Assumes nothing.
 use Rattle.meter.specs.Outcomes.{speedOf}
 use borrow.Author.Tests.{le-leb, lt-leb}
-use Rattle.meter.proofs.answers.speed_of.Statement.{statement}
-use Rattle.meter.proofs.answers.speed_of.Tie as tie
+use Rattle.meter.proofs.speed_of.Statement.{statement}
+use Rattle.meter.proofs.speed_of.Tie as tie
 
 returns : tie.Need-returns
 unfolding speedOf
