@@ -1,0 +1,3 @@
+pub mod Differing
+pub mod Lines
+pub mod Values

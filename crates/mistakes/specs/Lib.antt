@@ -1,0 +1,4 @@
+pub mod RuledOut
+pub mod Samples
+pub mod Lines
+pub mod Values
