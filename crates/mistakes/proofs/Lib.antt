@@ -1,3 +1,4 @@
 pub mod Differing
 pub mod Lines
 pub mod Values
+pub mod Sending

@@ -2,3 +2,4 @@ pub mod RuledOut
 pub mod Samples
 pub mod Lines
 pub mod Values
+pub mod Sending
