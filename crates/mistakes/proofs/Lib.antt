@@ -2,3 +2,4 @@ pub mod Differing
 pub mod Lines
 pub mod Values
 pub mod Sending
+pub mod Receiving
