@@ -57,10 +57,10 @@ pub record Changes : Type 0 where
   pub «with_counters» : RuledOut (withCounters used noCounters) used × RuledOut (withCounters used noCounters) (withCounters used (record { t1 = 0; t2 = 2; t3 = 4; t4 = 8 }))
   -- zeros; one character too far on
   pub ten : RuledOut serial (replicate 10 48) × RuledOut serial (drop 1 serial ++ (0 ∷ []))
-  -- the row in the next table; its first character alone
+  -- the row of table 7 in table 8; its first character alone
   pub «with_row» : RuledOut (stored (replicate 576 49) 144 twos) (stored (replicate 576 49) 168 twos)
       × RuledOut (stored (replicate 576 49) 144 twos) (stored (replicate 576 49) 144 (50 ∷ []))
-  -- a Saturday's table on a working day, and the other way round
+  -- a working day's table on a Saturday; a Saturday's on a Monday
   pub «table_for» : RuledOut (tableFor (dateOf 2000 1 1)) 1 × RuledOut (tableFor (dateOf 2000 1 3)) 13
   -- the zone of the hour before; the character for its number
   pub «zone_in» : RuledOut (zoneIn (withTables used (stored (replicate 576 49) 300 (50 ∷ [])))) 1
