@@ -4,3 +4,4 @@ pub mod Values
 pub mod Sending
 pub mod Receiving
 pub mod Events
+pub mod Commands
