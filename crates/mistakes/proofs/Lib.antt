@@ -5,3 +5,4 @@ pub mod Sending
 pub mod Receiving
 pub mod Events
 pub mod Commands
+pub mod Replying
