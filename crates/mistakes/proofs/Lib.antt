@@ -6,3 +6,4 @@ pub mod Receiving
 pub mod Events
 pub mod Commands
 pub mod Replying
+pub mod Posts
