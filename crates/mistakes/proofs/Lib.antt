@@ -7,3 +7,4 @@ pub mod Events
 pub mod Commands
 pub mod Replying
 pub mod Posts
+pub mod Deliveries

@@ -93,7 +93,7 @@ no-twice p =
     no-rest-here 24 7 (drop 36 twice) few (λ h. computed .again) (λ h e. omega (arith, computed .again-first, ap (λ (s : List ℕ). getD s 0 0) e)) (first .back (post-rest 24 twice p))
 
 -- the posts, and their entries
-pub post-of : (tables : ℕ) (es : List Entry) → goodEntries tables es ≡ true → IsPost tables (postText es)
+abbrev pub post-of : (tables : ℕ) (es : List Entry) → goodEntries tables es ≡ true → IsPost tables (postText es)
 post-of tables es g = record { entries = es; good = g; spelt = refl }
 
 pub entries-of : (es : List Entry) → goodEntries 24 es ≡ true → (p : IsPost 24 (postText es)) → p .entries ≡ es

@@ -1,6 +1,6 @@
 -- The wrong answers for `frames`, `state`, `datasets` and `replies` are ruled out, by computing. Assumes nothing.
-use mathlib.Core.Path.{refl}
-use mathlib.Core.Bool.{cond}
+use mathlib.Core.Path.{_≡_, refl}
+use mathlib.Core.Bool.{true}
 use Prim.Native.Nat.{ℕ}
 use lib.Count.{ones}
 use lib.ListN.{getD}
@@ -26,6 +26,7 @@ use Rattle.replies.specs.Shown.{total, energy, rowOf}
 use Rattle.replies.specs.Answers.{askedSets, askedData}
 use Rattle.replies.specs.Block.{factSets, energySets, tableSets, blockSets, blockData}
 use Rattle.replies.specs.Fixed.{passwordAsk}
+use Rattle.changes.specs.Changes.{inMode}
 use Rattle.mistakes.specs.Samples.{serial, account, password, twos, newMeter, used}
 use Rattle.mistakes.specs.Sending.{Frames, States, Sets, Replies}
 use Rattle.mistakes.proofs.Differing.{seen, number, flag, byte}
@@ -34,15 +35,24 @@ pub frames : Frames
 unfolding ones seven sent bccOf holding closed sealed
 frames = record { seal = (byte 4 refl, byte 5 refl); send = (byte 1 refl, byte 0 refl) }
 
-pub states : States
+-- the states, and that a new meter in programming mode is well-formed
+computed : States × (wellFormed (inMode newMeter 4) ≡ true)
 unfolding every between isDigit isLetter decimal leap thirty daysIn realDate realTime realClock goodDigits isAccountCharacter goodAccount limit firstGood heldGood markGood receiverGood countersGood tablesGood factsGood registersGood wellFormed madeOf serial account password newMeter
-states =
-    record {
-      «limit_of» = (number refl, number refl);
-      «is_well_formed» = (flag refl, flag refl);
-      blank = (seen (λ (m : Meter). m .attempts) refl, seen (λ (m : Meter). getD (m .registers .account) 0 0) refl);
-      make = (seen (λ (r : Made). r .number) refl, seen (λ (r : Made). getD (r .meter .registers .serial) 0 0) refl);
-    }
+computed = (
+  record {
+    «limit_of» = (number refl, number refl);
+    «is_well_formed» = (flag refl, flag refl);
+    blank = (seen (λ (m : Meter). m .attempts) refl, seen (λ (m : Meter). getD (m .registers .account) 0 0) refl);
+    make = (seen (λ (r : Made). r .number) refl, seen (λ (r : Made). getD (r .meter .registers .serial) 0 0) refl);
+  },
+  refl,
+)
+
+pub states : States
+states = computed .0
+
+pub ready-formed : wellFormed (inMode newMeter 4) ≡ true
+ready-formed = computed .1
 
 pub sets : Sets
 unfolding stored decimal layoutText serialText tableText dateText timeText counterText dataSet serial account twos
