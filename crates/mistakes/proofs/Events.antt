@@ -48,9 +48,9 @@ events = (
     receive-sign-on = (seen (λ (a : Answer). a .speed) refl, seen (λ (a : Answer). a .next .mode) refl);
     receive-restart = (seen (λ (a : Answer). cond (a .next .receiver .mark) 1 0) refl, seen (λ (a : Answer). a .next .receiver .count) refl);
     receive-refused = (seen (λ (a : Answer). a .number) refl, seen (λ (a : Answer). a .number) refl);
+    «hear_nothing» = (seen (λ (a : Answer). a .length) refl, seen (λ (a : Answer). a .speed) refl);
   },
   record {
-    «hear_nothing» = (seen (λ (a : Answer). a .length) refl, seen (λ (a : Answer). a .speed) refl);
     «pass_second» = (seen (λ (a : Answer). a .next .registers .clock .time .second) refl, seen (λ (a : Answer). a .number) refl);
     «take_pulse» = (seen (λ (a : Answer). a .next .registers .counters .t1) refl, seen (λ (a : Answer). a .number) refl);
     «power_up» = (seen (λ (a : Answer). a .next .attempts) refl, seen (λ (a : Answer). a .next .mode) refl);

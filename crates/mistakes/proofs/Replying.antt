@@ -31,7 +31,7 @@ use Rattle.reader.specs.declared.Placed.{Placed}
 use Rattle.reader.specs.Walking.{placeAfter}
 use Rattle.headlink.specs.Telling.{valueNumber}
 use Rattle.mistakes.specs.Samples.{serial, twos}
-use Rattle.mistakes.specs.Replying.{block, misSummed, twoSets, Blocks, Sets, Fields}
+use Rattle.mistakes.specs.Replying.{block, misSummed, twoSets, Blocks, Sets, Readers, Walks, Fields}
 use Rattle.mistakes.proofs.Differing.{seen, number, byte, long}
 
 pub blocks : Blocks
@@ -44,16 +44,21 @@ blocks =
       part = (long refl, long refl);
     }
 
-pub sets : Sets
+pub sets : Sets × Readers × Walks
 unfolding every between isDigit isLetter isPrintable isAddress isValue ofKind leading startsWith3 isSet addressLength valueLength setHere setRead placeAfter dataSet twoSets
-sets =
-    record {
-      «next_set» = (seen (λ (r : SetRead). r .next) refl, seen (λ (r : SetRead). r .next) refl);
-      new = (number refl, number refl);
-      next = (λ r d a e. seen (λ (x : SetRead). x .next) refl (e ∙ (λ i. setRead (d i) (a i))), λ r d a e. number refl (ap (λ (x : Reader). x .at) e ∙ (λ i. setRead (d i) (a i) .next)));
-      «read_at» = (seen (λ (r : SetRead). r .next) refl, seen (λ (r : SetRead). r .number) refl);
-      «set_after» = (seen (λ (p : Placed). p .start) refl, seen (λ (p : Placed). p .start) refl);
-    }
+sets = (
+  record {
+    «next_set» = (seen (λ (r : SetRead). r .next) refl, seen (λ (r : SetRead). r .next) refl);
+  },
+  record {
+    new = (number refl, number refl);
+    next = (λ r d a e. seen (λ (x : SetRead). x .next) refl (e ∙ (λ i. setRead (d i) (a i))), λ r d a e. number refl (ap (λ (x : Reader). x .at) e ∙ (λ i. setRead (d i) (a i) .next)));
+  },
+  record {
+    «read_at» = (seen (λ (r : SetRead). r .next) refl, seen (λ (r : SetRead). r .number) refl);
+    «set_after» = (seen (λ (p : Placed). p .start) refl, seen (λ (p : Placed). p .start) refl);
+  },
+)
 
 pub fields : Fields
 unfolding every holding between isDigit isLetter matching decimal valueFrom valueOf numberAt layoutText pattern agrees fits leap thirty daysIn realDate realTime isAccountCharacter goodAccount goodRow serialText dateText timeText counterText dateRead timeRead counterRead serialRead accountRead rowRead valueNumber serial twos

@@ -25,7 +25,7 @@ use Rattle.values.specs.Texts.{serialText, tableText, dateText, timeText, clock
 use Rattle.values.specs.Reading.{dateRead, timeRead, clockRead, counterRead, tableRead}
 use Rattle.values.specs.Serials.{serialRead, accountRead, rowRead}
 use Rattle.mistakes.specs.Samples.{serial}
-use Rattle.mistakes.specs.Values.{Clock, Rules, Reading, Writing}
+use Rattle.mistakes.specs.Values.{Clock, Rules, Reading, Characters, Writing}
 use Rattle.mistakes.proofs.Differing.{seen, number, flag, byte}
 
 pub clock : Clock
@@ -53,19 +53,22 @@ rules =
       «is_zone» = (flag refl, flag refl);
     }
 
-pub reading : Reading
+pub reading : Reading × Characters
 unfolding every between isDigit isLetter matching decimal valueFrom valueOf numberAt layoutText pattern agrees fits leap thirty daysIn realDate realTime realClock isAccountCharacter goodAccount goodRow goodTable serialText clockText counterText dateRead timeRead clockRead counterRead tableRead serialRead accountRead rowRead serial
-reading =
-    record {
-      «read_date» = (seen (λ (r : DateRead). cond (r .ok) 1 0) refl, seen (λ (r : DateRead). r .date .year) refl);
-      «read_time» = (seen (λ (r : TimeRead). cond (r .ok) 1 0) refl, seen (λ (r : TimeRead). r .time .second) refl);
-      «read_clock» = (seen (λ (r : ClockRead). cond (r .ok) 1 0) refl, seen (λ (r : ClockRead). r .clock .date .month) refl);
-      «read_counter» = (seen (λ (r : CounterRead). r .wh) refl, seen (λ (r : CounterRead). cond (r .ok) 1 0) refl);
-      «read_table» = (seen (λ (r : TableRead). cond (r .ok) 1 0) refl, seen (λ (r : TableRead). cond (r .ok) 1 0) refl);
-      «read_serial» = (seen (λ (r : SerialRead). getD (r .serial) 3 0) refl, seen (λ (r : SerialRead). cond (r .ok) 1 0) refl);
-      «read_account» = (seen (λ (r : AccountRead). cond (r .ok) 1 0) refl, seen (λ (r : AccountRead). getD (r .account) 0 0) refl);
-      «read_row» = (seen (λ (r : RowRead). cond (r .ok) 1 0) refl, seen (λ (r : RowRead). getD (r .row) 0 0) refl);
-    }
+reading = (
+  record {
+    «read_date» = (seen (λ (r : DateRead). cond (r .ok) 1 0) refl, seen (λ (r : DateRead). r .date .year) refl);
+    «read_time» = (seen (λ (r : TimeRead). cond (r .ok) 1 0) refl, seen (λ (r : TimeRead). r .time .second) refl);
+    «read_clock» = (seen (λ (r : ClockRead). cond (r .ok) 1 0) refl, seen (λ (r : ClockRead). r .clock .date .month) refl);
+    «read_counter» = (seen (λ (r : CounterRead). r .wh) refl, seen (λ (r : CounterRead). cond (r .ok) 1 0) refl);
+    «read_table» = (seen (λ (r : TableRead). cond (r .ok) 1 0) refl, seen (λ (r : TableRead). cond (r .ok) 1 0) refl);
+  },
+  record {
+    «read_serial» = (seen (λ (r : SerialRead). getD (r .serial) 3 0) refl, seen (λ (r : SerialRead). cond (r .ok) 1 0) refl);
+    «read_account» = (seen (λ (r : AccountRead). cond (r .ok) 1 0) refl, seen (λ (r : AccountRead). getD (r .account) 0 0) refl);
+    «read_row» = (seen (λ (r : RowRead). cond (r .ok) 1 0) refl, seen (λ (r : RowRead). getD (r .row) 0 0) refl);
+  },
+)
 
 pub writing : Writing
 unfolding stored decimal layoutText serialText tableText dateText timeText clockText counterText serial

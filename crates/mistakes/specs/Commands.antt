@@ -28,6 +28,7 @@ room = replicate 64 0
 unfoldable pub broken : List ℕ
 broken = replicate 23 49 ++ (41 ∷ [])
 
+-- of `commands`
 pub record Commands : Type 0 where
   -- no parity; the CR LF not counted
   pub «sign_on» : NotLeft room true (onWire signOn) (holding room signOn) × NotAnswered room true (onWire signOn) 1 3

@@ -41,6 +41,7 @@ signedOn = character (heldIn 0 (47 ∷ 63 ∷ 33 ∷ 13 ∷ [])) 2048 (sent 10)
 unfoldable pub restarted : Outcome
 restarted = character (withReceiver (inMode newMeter 2) (record { held = 1 ∷ replicate 62 0; count = 2; mark = true })) 2048 (sent 1)
 
+-- of `meter`
 pub record Receiving : Type 0 where
   -- NAK to a good write; ACK to it, and the old tables
   pub receive : RuledOut (answerOf toldAll) (answerOf (nak 9 told)) × RuledOut (answerOf toldAll) (answerOf (ack (inMode newMeter 4)))
@@ -61,11 +62,12 @@ pub record Receiving : Type 0 where
   -- a malformed state said before a short buffer; a character taken in a short buffer
   pub receive-refused : RuledOut (answerOf (character (withAttempts newMeter 4) 2047 47)) (answerOf (unheard 14 (withAttempts newMeter 4)))
       × RuledOut (answerOf (character newMeter 2047 (sent 47))) (answerOf (silent 0 (withReceiver newMeter (restartedReceiver 47))))
-
-pub record Passing : Type 0 where
   -- no NAK in mode 1; NAK at speed 5
   pub «hear_nothing» : RuledOut (answerOf (silence (inMode newMeter 1) 2048)) (answerOf (silent 1 newMeter))
       × RuledOut (answerOf (silence (inMode newMeter 1) 2048)) (answerOf (saying 1 5 refused newMeter))
+
+-- of `meter::passing`
+pub record Passing : Type 0 where
   -- a clock that stands; a malformed state's clock that goes on
   pub «pass_second» : RuledOut (answerOf (tick newMeter)) (answerOf (silent 1 newMeter))
       × RuledOut (answerOf (tick (withAttempts newMeter 4)))
@@ -79,7 +81,7 @@ pub record Passing : Type 0 where
   pub «power_up» : RuledOut (answerOf (powerUp (withAttempts newMeter 3))) (answerOf (silent 1 (withAttempts newMeter 3)))
       × RuledOut (answerOf (powerUp (inMode newMeter 4))) (answerOf (silent 1 (inMode newMeter 4)))
 
--- the number, length and speed; the state that is lent; the C call's four parts are those of the other two
+-- of `firmware`
 pub record Lent : Type 0 where
   -- no reply to a good write; the lent state as it was
   pub «receive_in_place» : RuledOut (replyOf toldAll) (record { number = 1; length = 0; speed = 5 }) × RuledOut (toldAll .next) told

@@ -11,6 +11,7 @@ use Rattle.text.specs.Classes.{between, isDigit, sameText}
 use Rattle.text.specs.Layout.{agrees, fits}
 use Rattle.mistakes.specs.RuledOut.{RuledOut}
 
+-- of `line`
 pub record Line : Type 0 where
   -- an even byte called damaged; a parity that leaves the top bit out
   pub damaged : RuledOut (damagedAt 65) true × RuledOut (damagedAt 193) false
@@ -25,6 +26,7 @@ pub record Line : Type 0 where
   -- the first byte changed alone; the first byte's wire byte in every place
   pub «put_parity» : RuledOut (map sent (97 ∷ 98 ∷ [])) (225 ∷ 98 ∷ []) × RuledOut (map sent (97 ∷ 98 ∷ [])) (225 ∷ 225 ∷ [])
 
+-- of `text`
 pub record Text : Type 0 where
   -- the text's length for the place after it; the text at the front, whatever the place
   pub put : RuledOut (1 + length {A = ℕ} (65 ∷ 66 ∷ [])) 2 × RuledOut (stored (0 ∷ 0 ∷ 0 ∷ 0 ∷ []) 1 (65 ∷ 66 ∷ [])) (65 ∷ 66 ∷ 0 ∷ 0 ∷ [])

@@ -34,6 +34,7 @@ bracketed = postText (entry 7 broken ∷ [])
 abbrev pub lastAlone : List ℕ
 lastAlone = 33 ∷ 13 ∷ 10 ∷ []
 
+-- of `post`
 pub record Checks : Type 0 where
   -- a post refused, at whatever place; a '1' below table 24 as the beginning of a line
   pub check : ((place : ℕ) → CheckedAs 24 (postText one) 20 place → ⊥) × (CheckedAs 24 (lineText 24 twos ++ (49 ∷ [])) 20 37 → ⊥)
@@ -42,6 +43,7 @@ pub record Checks : Type 0 where
   -- table 7 of 6 accepted; table 7 of 7 refused
   pub «check_of» : (CheckedAs 6 (postText one) 1 0 → ⊥) × ((place : ℕ) → CheckedAs 7 (postText one) 20 place → ⊥)
 
+-- of `export`
 pub record Exports : Type 0 where
   -- 21 before 20; the frame's beginning written, and then 21
   pub export : ((place : ℕ) → ExportedAs 24 lastAlone [] 21 0 place [] → ⊥)
@@ -57,6 +59,7 @@ pub record Exports : Type 0 where
 abbrev pub ready : Meter
 ready = inMode newMeter 4
 
+-- of `delivery`
 pub record Deliveries : Type 0 where
   -- an acknowledgement for each byte; the old tables
   pub feed : RuledOut (acknowledgements (answered ready full (framesOf one))) 36 × RuledOut (left ready full (framesOf one)) ready

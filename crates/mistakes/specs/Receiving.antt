@@ -18,6 +18,7 @@ use Rattle.changes.specs.Zones.{tableFor, zoneIn, counted}
 use Rattle.mistakes.specs.RuledOut.{RuledOut}
 use Rattle.mistakes.specs.Samples.{clockAt, noon, serial, twos, newMeter, used, heldIn}
 
+-- of `hearing`
 pub record Hearings : Type 0 where
   -- a BCC that is SOH as a new frame; a '/' within a line held
   pub hear : RuledOut (hearing 2 5 3 1) Restart × RuledOut (hearing 0 3 63 47) Hold
@@ -31,11 +32,13 @@ pub record Hearings : Type 0 where
   -- a mark on an empty receiver; a SOH already held
   pub empty : RuledOut emptyReceiver (record { held = replicate 63 0; count = 0; mark = true }) × RuledOut emptyReceiver (restartedReceiver 1)
 
+-- of `deciding`
 pub record Decisions : Type 0 where
   -- three digits as a password, which would count an attempt; a write in the mode that only reads
   pub decide : RuledOut (verdict 2 (take 10 (frameOf P1 (bracketed (49 ∷ 50 ∷ 51 ∷ [])))) false (getD (frameOf P1 (bracketed (49 ∷ 50 ∷ 51 ∷ []))) 10 0)) Password
       × RuledOut (verdict 3 (take 35 (frameOf W1 (setTable 7 twos))) false (getD (frameOf W1 (setTable 7 twos)) 35 0)) (WriteTable (record { 0 = 7 }))
 
+-- of `changes`
 pub record Changes : Type 0 where
   -- the old receiver; the mode given up with it
   pub «with_receiver» : RuledOut (withReceiver (inMode newMeter 4) (restartedReceiver 1)) (inMode newMeter 4)

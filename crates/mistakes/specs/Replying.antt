@@ -38,6 +38,7 @@ partIn s = take (partOf s .length) (drop (partOf s .start) s)
 unfoldable pub twoSets : List ℕ
 twoSets = dataSet (65 ∷ []) (49 ∷ []) ++ (dataSet (66 ∷ []) (50 ∷ 50 ∷ []) ++ (33 ∷ 13 ∷ 10 ∷ []))
 
+-- of `blocks`
 pub record Blocks : Type 0 where
   -- a damaged byte stripped; the bytes before it written, and then 24
   pub strip : ((after : List ℕ) → Strips (193 ∷ []) (0 ∷ []) (record { number = 1; length = 1 }) after → ⊥)
@@ -49,21 +50,28 @@ pub record Blocks : Type 0 where
   -- the ETX in the part; the data of a block with a wrong BCC
   pub part : RuledOut (partIn block) (72 ∷ 3 ∷ []) × RuledOut (partIn misSummed) (72 ∷ [])
 
+-- of `reading`
 pub record Sets : Type 0 where
   -- on at the end; the next line after a set that does not close
   pub «next_set» : RuledOut (setRead twoSets 13) (endAt 16) × RuledOut (setRead (65 ∷ 40 ∷ 49 ∷ 13 ∷ 10 ∷ []) 0) (record { number = 25; «address_length» = 0; «value_length» = 0; next = 5; place = 0 })
+
+-- of `reader::Reader`
+pub record Readers : Type 0 where
   -- a place in the middle of a line; the end of the data
   pub new : RuledOut {A = ℕ} 0 1 × RuledOut 0 (length twoSets)
   -- the first set again; a place further at the end
   pub next : ((r : Reader) → now (r .«data») ≡ twoSets → r .at ≡ 6 → RuledOut (yields r) (setAt 0 1 1))
       × ((r : Reader) → now (r .«data») ≡ twoSets → r .at ≡ 13 → RuledOut (moved r) (record { «data» = r .«data»; at = 16 }))
+
+-- of `reader`
+pub record Walks : Type 0 where
   -- the set counted without its line end; a value of 33 characters
   pub «read_at» : RuledOut (setRead twoSets 0) (record { number = 1; «address_length» = 1; «value_length» = 1; next = 4; place = 0 })
       × RuledOut (setRead (dataSet (65 ∷ []) (replicate 33 49)) 0) (setAt 0 1 33)
   -- the first set again; past the last line to the end of the data
   pub «set_after» : RuledOut (setAfter twoSets 1) (record { start = 0; set = setAt 0 1 1 }) × RuledOut (setAfter twoSets 3) (record { start = 16; set = endAt 16 })
 
--- a value as a number and, in a lent buffer, its characters
+-- of `headlink::fields`
 pub record Fields : Type 0 where
   -- 1 for a serial without its space; ten digits in nine bytes
   pub «dirgemist_head_value_serial» : ((after : List ℕ) → Tells (replicate 10 9) 10 (serialRead serial .ok) (serialRead serial .serial) 1 after → ⊥)

@@ -19,6 +19,7 @@ use Rattle.changes.specs.Changes.{withReceiver, withAttempts, withRegisters, wi
 use Rattle.mistakes.specs.RuledOut.{RuledOut}
 use Rattle.mistakes.specs.Samples.{noon, serial, account, password, twos, newMeter, used}
 
+-- of `frames`
 pub record Frames : Type 0 where
   -- SOH summed into the BCC; the byte past the frame cleared
   pub seal : RuledOut (holding (1 ∷ 66 ∷ 48 ∷ 0 ∷ 0 ∷ 9 ∷ []) (onWire (sealed (take 3 (1 ∷ 66 ∷ 48 ∷ 0 ∷ 0 ∷ 9 ∷ []))))) (129 ∷ 66 ∷ 48 ∷ 3 ∷ 240 ∷ 9 ∷ [])
@@ -27,6 +28,7 @@ pub record Frames : Type 0 where
   pub send : RuledOut (onWire (take 1 (97 ∷ 98 ∷ [])) ++ drop 1 (97 ∷ 98 ∷ [])) (225 ∷ 226 ∷ [])
       × RuledOut (onWire (take 1 (97 ∷ 98 ∷ [])) ++ drop 1 (97 ∷ 98 ∷ [])) (97 ∷ 98 ∷ [])
 
+-- of `state`
 pub record States : Type 0 where
   -- a 32nd character in mode 0; the sixth of a confirmation
   pub «limit_of» : RuledOut (limit 0) 32 × RuledOut (limit 1) 6
@@ -40,6 +42,7 @@ pub record States : Type 0 where
   pub make : RuledOut (madeOf account account password noon) (record { number = 1; meter = meterOf account account password noon })
       × RuledOut (madeOf account account password noon) (record { number = 15; meter = meterOf account account password noon })
 
+-- of `datasets`
 pub record Sets : Type 0 where
   -- the date's address; no CR LF
   pub «put_time_set» : RuledOut (stored (replicate 17 0) 0 (lineOf (timeSet (timeOf 1 2 3)))) (dataSet (dateSet (dateOf 2001 2 3) .address) (timeText (timeOf 1 2 3)))
@@ -60,6 +63,7 @@ pub record Sets : Type 0 where
   pub «put_table_set» : RuledOut (stored (replicate 36 0) 0 (lineOf (tableSet 7 twos))) (lineOf (tableSet 8 twos))
       × RuledOut (stored (replicate 36 0) 0 (lineOf (tableSet 7 twos))) (lineOf (tableSet 7 (take 23 twos)) ++ (0 ∷ []))
 
+-- of `replies`
 pub record Replies : Type 0 where
   -- no parity; no CR LF
   pub identify : RuledOut (holding (replicate 19 0) (onWire identification)) identification

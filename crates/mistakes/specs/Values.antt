@@ -15,6 +15,7 @@ use Rattle.values.specs.Serials.{serialRead, accountRead, rowRead}
 use Rattle.mistakes.specs.RuledOut.{RuledOut}
 use Rattle.mistakes.specs.Samples.{clockAt, serial, account}
 
+-- of `clock`
 pub record Clock : Type 0 where
   -- leap years one year late; a whole century never one
   pub «is_leap» : RuledOut (leap 2001) true × RuledOut (leap 2000) false
@@ -32,7 +33,7 @@ pub record Clock : Type 0 where
   -- a Saturday as the last day, 6; a 1 March that forgets the leap day
   pub «day_of_week» : RuledOut (weekday (dateOf 2000 1 1)) 6 × RuledOut (weekday (dateOf 2000 3 1)) 1
 
--- what is asked of a value
+-- of `values`
 pub record Rules : Type 0 where
   -- any number of digits; ':' among them
   pub «is_digits» : RuledOut (goodDigits 8 (replicate 7 49)) true × RuledOut (goodDigits 2 (49 ∷ 58 ∷ [])) true
@@ -47,7 +48,7 @@ pub record Rules : Type 0 where
   -- zone 0, which would be the total; no zone 4
   pub «is_zone» : RuledOut (goodZone 0) true × RuledOut (goodZone 4) false
 
--- texts that are read
+-- of `values::reading`
 pub record Reading : Type 0 where
   -- 01-02-29 as a date; the year 0 for 00-02-29
   pub «read_date» : RuledOut (dateRead (48 ∷ 49 ∷ 45 ∷ 48 ∷ 50 ∷ 45 ∷ 50 ∷ 57 ∷ [])) (record { ok = true; date = dateOf 2001 2 29 })
@@ -64,6 +65,9 @@ pub record Reading : Type 0 where
   -- 25 of 24 tables; table 00
   pub «read_table» : RuledOut (tableRead 24 (50 ∷ 53 ∷ [])) (record { ok = true; table = record { 0 = 25 } })
       × RuledOut (tableRead 24 (48 ∷ 48 ∷ [])) (record { ok = true; table = record { 0 = 0 } })
+
+-- of `values::characters`
+pub record Characters : Type 0 where
   -- the space handed out with the digits; a serial without its space
   pub «read_serial» : RuledOut (serialRead (serialText serial)) (record { ok = true; serial = decimal 3 123 ++ (32 ∷ decimal 6 456789) })
       × RuledOut (serialRead serial) (record { ok = true; serial = serial })
@@ -74,7 +78,7 @@ pub record Reading : Type 0 where
   pub «read_row» : RuledOut (rowRead (replicate 24 53)) (record { ok = true; row = replicate 24 53 })
       × RuledOut (rowRead (replicate 24 53)) (record { ok = false; row = replicate 24 53 })
 
--- values that are written
+-- of `values::writing`
 pub record Writing : Type 0 where
   -- no space after three digits; the space after four
   pub «put_serial» : RuledOut (stored (replicate 11 0) 0 (serialText serial)) (serial ++ (0 ∷ []))
