@@ -1,6 +1,6 @@
 -- The wrong answers for `commands` are ruled out, by the two equations of a builder's promise. Assumes nothing.
 use mathlib.Core.Path.{_≡_, refl}
-use mathlib.Core.Bool.{Bool, false, cond}
+use mathlib.Core.Bool.{Bool, false}
 use mathlib.Core.List.{List}
 use Prim.Native.Nat.{ℕ}
 use lib.Count.{ones}
@@ -21,7 +21,7 @@ use Rattle.frames.specs.Frames.{closed, frameOf, bareFrame}
 use Rattle.frames.specs.Commands.{bracketed, askClock, askSerial, askAccount, askEnergy, askTable, setClock, setAccount, setTable}
 use Rattle.frames.specs.Session.{signOn, signOnTo, confirmation, enterData, passwordData}
 use Rattle.commands.specs.declared.Built.{Built}
-use Rattle.commands.specs.Building.{goodChoice, builtIn, keptOr, Builds}
+use Rattle.commands.specs.Building.{goodChoice, builtIn, keptOr}
 use Rattle.mistakes.specs.Samples.{serial, password}
 use Rattle.mistakes.specs.Commands.{NotAnswered, NotLeft, broken, Commands}
 use Rattle.mistakes.proofs.Differing.{seen, byte}

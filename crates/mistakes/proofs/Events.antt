@@ -1,7 +1,6 @@
 -- The wrong answers for `meter` and `firmware` are ruled out, by computing. Assumes nothing.
 use mathlib.Core.Path.{refl}
 use mathlib.Core.Bool.{cond}
-use Prim.Native.Nat.{ℕ}
 use lib.Count.{ones}
 use lib.ListN.{getD}
 use Rattle.line.specs.Characters.{damagedAt, seven, sent}

@@ -1,9 +1,9 @@
 -- The wrong answers for `post` and `export` are ruled out: each text is a post or strays from every post, by computing. Assumes nothing.
-use mathlib.Core.Path.{_≡_, refl, sym, ap, _∙_}
-use mathlib.Core.Bool.{true, false}
+use mathlib.Core.Path.{_≡_, refl, ap, _∙_}
+use mathlib.Core.Bool.{true}
 use mathlib.Core.List.{List, [], _∷_, _++_}
 use mathlib.Core.Logic.{inl, inr}
-use Prim.Native.Nat.{ℕ, _+_, _*_, _≤_, _<_}
+use Prim.Native.Nat.{ℕ, _<_}
 use native.Mathlib.Omega.{arith}
 use lib.Count.{ones}
 use lib.ListN.{length, getD, take, drop, replicate}
@@ -22,11 +22,10 @@ use Rattle.post.specs.Grammar.{Entry, IsPost, lineText, linesText, lastLine, po
 use Rattle.post.specs.Place.{CheckedAs}
 use Rattle.post.specs.Columns.{lowest, highest, columnFits, columnsFit, numberOf, mayFollow, pick, nextNumber}
 use Rattle.post.specs.Rest.{Passed}
-use Rattle.post.proofs.Places.{Stands, passed-none, passed-more, no-rest-here}
+use Rattle.post.proofs.Places.{passed-none, passed-more, no-rest-here}
 use Rattle.post.proofs.Reading.{one-reading, post-rest}
 use Rattle.post.proofs.Answers.{one-answer, answers-post}
 use Rattle.export.specs.Frames.{entryFrame, framesOf, Done, NoRoom, NoPost, ExportedAs}
-use Rattle.facts.specs.Facts.{Facts, Answers}
 use Rattle.facts.proofs.Facts.{facts}
 use Rattle.mistakes.specs.Samples.{twos}
 use Rattle.mistakes.specs.Commands.{broken}

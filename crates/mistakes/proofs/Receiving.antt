@@ -1,7 +1,7 @@
 -- The wrong answers for `hearing`, `deciding` and `changes` are ruled out, by computing. Assumes nothing.
 use mathlib.Core.Path.{refl}
 use mathlib.Core.Bool.{cond}
-use Prim.Native.Nat.{ℕ, _+_}
+use Prim.Native.Nat.{ℕ}
 use lib.ListN.{getD}
 use Rattle.line.specs.Characters.{seven}
 use Rattle.line.specs.Checksum.{bccOf}

@@ -1,10 +1,6 @@
 -- The wrong answers for `blocks`, `reading`, `reader` and `headlink` are ruled out, by computing. Assumes nothing.
-use mathlib.Core.Path.{_≡_, refl, ap, _∙_}
-use mathlib.Core.Bool.{Bool, false, cond}
-use mathlib.Core.List.{List}
-use Prim.Native.Nat.{ℕ}
+use mathlib.Core.Path.{refl, ap, _∙_}
 use lib.Count.{ones}
-use lib.ListN.{getD}
 use Rattle.line.specs.Characters.{damagedAt, seven, undamagedAll}
 use Rattle.line.specs.Checksum.{bccOf}
 use Rattle.line.specs.Runs.{every}

@@ -1,7 +1,6 @@
 -- The wrong answers for `frames`, `state`, `datasets` and `replies` are ruled out, by computing. Assumes nothing.
 use mathlib.Core.Path.{_≡_, refl}
 use mathlib.Core.Bool.{true}
-use Prim.Native.Nat.{ℕ}
 use lib.Count.{ones}
 use lib.ListN.{getD}
 use Rattle.line.specs.Characters.{seven, sent}

@@ -2,7 +2,7 @@
 use mathlib.Core.Bool.{Bool, true, _&&_}
 use mathlib.Core.List.{List, [], _∷_, _++_}
 use Prim.Native.Nat.{ℕ}
-use lib.ListN.{take, replicate}
+use lib.ListN.{replicate}
 use Rattle.text.specs.Writing.{holding}
 use Rattle.clock.specs.Seconds.{realClock}
 use Rattle.values.specs.Registers.{goodSerial, goodPassword, goodAccount, goodRow, goodTable, goodZone}
@@ -11,7 +11,7 @@ use Rattle.frames.specs.Commands.{B0, P0, P1, R1, W1, bracketed, askClock, askS
 use Rattle.frames.specs.Session.{signOn, signOnTo, confirmation, enterData, passwordData}
 use Rattle.commands.specs.declared.Built.{Built}
 use Rattle.commands.specs.Building.{goodChoice, Builds}
-use Rattle.mistakes.specs.Samples.{clockAt, serial, account, password, twos}
+use Rattle.mistakes.specs.Samples.{clockAt, serial, password}
 
 -- a builder never answers so, whatever it leaves in the buffer
 abbrev pub NotAnswered : List ℕ → Bool → List ℕ → ℕ → ℕ → Type 0

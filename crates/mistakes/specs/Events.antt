@@ -1,14 +1,12 @@
 -- Two wrong answers for each call of `meter` and `firmware`, and some that document 01 warns of.
-use mathlib.Core.Bool.{true, false}
-use mathlib.Core.List.{List, [], _∷_}
-use Prim.Native.Nat.{ℕ}
+use mathlib.Core.Bool.{true}
+use mathlib.Core.List.{[], _∷_}
 use lib.ListN.{length, getD, take, replicate}
 use Rattle.line.specs.Characters.{sent}
 use Rattle.text.specs.Writing.{holding}
 use Rattle.frames.specs.Frames.{frameOf, onWire}
 use Rattle.frames.specs.Commands.{P1, W1, bracketed, setTable}
 use Rattle.state.specs.declared.Meter.{Meter}
-use Rattle.state.specs.Making.{emptyReceiver}
 use Rattle.replies.specs.Fixed.{accepted, refused, identification}
 use Rattle.hearing.specs.Receivers.{restartedReceiver}
 use Rattle.changes.specs.Changes.{withReceiver, inMode, withAttempts, withRegisters, withClock, withCounters}

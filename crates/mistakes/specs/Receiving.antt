@@ -1,7 +1,6 @@
 -- Two wrong answers for each call of `hearing`, `deciding` and `changes`.
 use mathlib.Core.Bool.{true, false}
-use mathlib.Core.List.{List, [], _∷_, _++_}
-use Prim.Native.Nat.{ℕ}
+use mathlib.Core.List.{[], _∷_, _++_}
 use lib.ListN.{getD, take, drop, set, replicate}
 use Rattle.text.specs.Writing.{stored}
 use Rattle.clock.specs.Seconds.{dateOf}
@@ -16,7 +15,7 @@ use Rattle.deciding.specs.Verdict.{verdict}
 use Rattle.changes.specs.Changes.{withReceiver, inMode, withAttempts, withRegisters, withClock, withAccount, withTables, withCounters}
 use Rattle.changes.specs.Zones.{tableFor, zoneIn, counted}
 use Rattle.mistakes.specs.RuledOut.{RuledOut}
-use Rattle.mistakes.specs.Samples.{clockAt, noon, serial, twos, newMeter, used, heldIn}
+use Rattle.mistakes.specs.Samples.{clockAt, serial, twos, newMeter, used, heldIn}
 
 -- of `hearing`
 pub record Hearings : Type 0 where

@@ -1,11 +1,9 @@
 -- Two wrong answers for each call of `blocks`, `reading` and `reader`, and for the values that `headlink` hands to C.
 use mathlib.Core.Path.{_≡_}
-use mathlib.Core.Bool.{true, false}
 use mathlib.Core.List.{List, [], _∷_, _++_}
 use Prim.Native.Nat.{ℕ}
 use denote.Ref.{now}
 use lib.ListN.{length, take, drop, replicate}
-use Rattle.text.specs.Writing.{holding}
 use Rattle.clock.specs.Seconds.{dateOf, timeOf}
 use Rattle.values.specs.Texts.{serialText, dateText, timeText, counterText}
 use Rattle.values.specs.Reading.{dateRead, timeRead, counterRead}
@@ -15,7 +13,7 @@ use Rattle.datasets.specs.Sets.{dataSet}
 use Rattle.blocks.specs.declared.Stripped.{Stripped}
 use Rattle.blocks.specs.Stripping.{Strips}
 use Rattle.blocks.specs.Parts.{partOf, Within}
-use Rattle.reading.specs.Sets.{endAt, malformedAt, setAt, setRead}
+use Rattle.reading.specs.Sets.{endAt, setAt, setRead}
 use Rattle.reader.specs.declared.Reader.{Reader}
 use Rattle.reader.specs.Walking.{yields, moved, setAfter}
 use Rattle.headlink.specs.Telling.{valueNumber, Tells}

@@ -1,8 +1,7 @@
 -- Two wrong answers for each call of `frames`, `state`, `datasets` and `replies`.
-use mathlib.Core.Bool.{true, false}
-use mathlib.Core.List.{List, [], _∷_, _++_}
-use Prim.Native.Nat.{ℕ, _+_}
-use lib.ListN.{length, getD, take, drop, replicate}
+use mathlib.Core.Bool.{true}
+use mathlib.Core.List.{[], _∷_, _++_}
+use lib.ListN.{take, drop, replicate}
 use Rattle.text.specs.Writing.{stored, holding}
 use Rattle.clock.specs.Seconds.{dateOf, timeOf}
 use Rattle.values.specs.Texts.{serialText, timeText, dateText}

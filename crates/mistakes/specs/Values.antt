@@ -1,7 +1,6 @@
 -- Two wrong answers for each call of `clock` and `values`.
 use mathlib.Core.Bool.{true, false}
-use mathlib.Core.List.{List, [], _∷_, _++_}
-use Prim.Native.Nat.{ℕ}
+use mathlib.Core.List.{[], _∷_, _++_}
 use lib.ListN.{replicate}
 use Rattle.text.specs.Writing.{stored}
 use Rattle.text.specs.Decimal.{decimal}
