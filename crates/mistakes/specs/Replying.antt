@@ -55,7 +55,7 @@ pub record Sets : Type 0 where
 
 -- of `reader::Reader`
 pub record Readers : Type 0 where
-  -- a place in the middle of a line; the end of the data
+  -- of the place, which is to be 0: the middle of a line; the end of the data
   pub new : RuledOut {A = ℕ} 0 1 × RuledOut 0 (length twoSets)
   -- the first set again; a place further at the end
   pub next : ((r : Reader) → now (r .«data») ≡ twoSets → r .at ≡ 6 → RuledOut (yields r) (setAt 0 1 1))
