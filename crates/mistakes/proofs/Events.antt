@@ -1,0 +1,61 @@
+-- The wrong answers for `meter` and `firmware` are ruled out, by computing. Assumes nothing.
+use mathlib.Core.Path.{refl}
+use mathlib.Core.Bool.{cond}
+use lib.Count.{ones}
+use lib.ListN.{getD}
+use Rattle.line.specs.Characters.{damagedAt, seven, sent}
+use Rattle.line.specs.Checksum.{bccOf}
+use Rattle.line.specs.Runs.{every}
+use Rattle.text.specs.Writing.{stored, holding}
+use Rattle.text.specs.Classes.{between, isDigit, isLetter, isPrintable, matching, sameText}
+use Rattle.text.specs.Decimal.{decimal, valueFrom, valueOf, numberAt}
+use Rattle.text.specs.Layout.{layoutText, pattern, agrees, fits}
+use Rattle.clock.specs.Dates.{leap, thirty, daysIn, realDate, realTime}
+use Rattle.clock.specs.Seconds.{realClock, nextSecond}
+use Rattle.clock.specs.Weekday.{daysBefore, dayNumber, weekday}
+use Rattle.values.specs.Registers.{goodDigits, isAccountCharacter, goodAccount, goodRow, goodTable}
+use Rattle.values.specs.Texts.{tableText}
+use Rattle.values.specs.Reading.{tableRead}
+use Rattle.frames.specs.Frames.{closed, frameOf}
+use Rattle.frames.specs.Commands.{bracketed, setTable}
+use Rattle.frames.specs.Session.{signOn}
+use Rattle.state.specs.declared.Meter.{Meter}
+use Rattle.state.specs.WellFormed.{limit, firstGood, heldGood, markGood, receiverGood, countersGood, tablesGood, factsGood, registersGood, wellFormed}
+use Rattle.hearing.specs.Hearing.{hearing, listening, confirming, framing}
+use Rattle.deciding.specs.Shape.{startGood, bareShape, content, framedShape}
+use Rattle.deciding.specs.Telling.{enclosed, inner, tableTold, told as toldBy}
+use Rattle.deciding.specs.Verdict.{entry, bareVerdict, framedVerdict, shapeVerdict, verdict}
+use Rattle.changes.specs.Zones.{tableFor, zoneIn, counted}
+use Rattle.meter.specs.declared.Answer.{Answer}
+use Rattle.meter.specs.Outcomes.{speedOf, fallen}
+use Rattle.meter.specs.Acting.{tried, acted}
+use Rattle.meter.specs.SignOn.{signsOnBy}
+use Rattle.meter.specs.Character.{symbol, lineEnded, confirmed, heard, taken, character}
+use Rattle.meter.specs.Events.{afterSilence, silence, tick, pulse, powerUp}
+use Rattle.firmware.specs.declared.Reply.{Reply}
+use Rattle.mistakes.specs.Samples.{serial, account, password, twos, newMeter, heldIn}
+use Rattle.mistakes.specs.Events.{told, toldAll, shortPassword, shortTried, signedOn, restarted, Receiving, Passing, Lent}
+use Rattle.mistakes.proofs.Differing.{seen, number, byte}
+
+pub events : Receiving × Passing × Lent
+unfolding ones damagedAt seven sent bccOf every stored holding between isDigit isLetter isPrintable matching sameText decimal valueFrom valueOf numberAt layoutText pattern agrees fits leap thirty daysIn realDate realTime realClock goodDigits isAccountCharacter goodAccount goodRow goodTable tableText tableRead closed frameOf bracketed setTable signOn limit firstGood heldGood markGood receiverGood countersGood tablesGood factsGood registersGood wellFormed hearing listening confirming framing startGood bareShape content framedShape enclosed inner tableTold toldBy entry bareVerdict framedVerdict shapeVerdict verdict speedOf fallen tried acted signsOnBy symbol lineEnded confirmed heard taken character serial account password twos newMeter heldIn told toldAll shortPassword shortTried signedOn restarted daysBefore dayNumber weekday nextSecond tableFor zoneIn counted afterSilence silence tick pulse powerUp
+events = (
+  record {
+    receive = (seen (λ (a : Answer). a .number) refl, seen (λ (a : Answer). getD (a .next .registers .tables) 144 0) refl);
+    receive-reply = (byte 0 refl, byte 1 refl);
+    receive-password = (seen (λ (a : Answer). a .next .attempts) refl, seen (λ (a : Answer). a .next .mode) refl);
+    receive-sign-on = (seen (λ (a : Answer). a .speed) refl, seen (λ (a : Answer). a .next .mode) refl);
+    receive-restart = (seen (λ (a : Answer). cond (a .next .receiver .mark) 1 0) refl, seen (λ (a : Answer). a .next .receiver .count) refl);
+    receive-refused = (seen (λ (a : Answer). a .number) refl, seen (λ (a : Answer). a .number) refl);
+    «hear_nothing» = (seen (λ (a : Answer). a .length) refl, seen (λ (a : Answer). a .speed) refl);
+  },
+  record {
+    «pass_second» = (seen (λ (a : Answer). a .next .registers .clock .time .second) refl, seen (λ (a : Answer). a .number) refl);
+    «take_pulse» = (seen (λ (a : Answer). a .next .registers .counters .t1) refl, seen (λ (a : Answer). a .number) refl);
+    «power_up» = (seen (λ (a : Answer). a .next .attempts) refl, seen (λ (a : Answer). a .next .mode) refl);
+  },
+  record {
+    «receive_in_place» = (seen (λ (r : Reply). r .length) refl, seen (λ (m : Meter). m .receiver .count) refl);
+    «dirgemist_meter_receive» = (number refl, number refl);
+  },
+)

@@ -1,0 +1,12 @@
+pub mod Differing
+pub mod Lines
+pub mod Values
+pub mod Sending
+pub mod Receiving
+pub mod Events
+pub mod Commands
+pub mod Replying
+pub mod Posts
+pub mod Deliveries
+pub mod Bench
+pub mod Playing

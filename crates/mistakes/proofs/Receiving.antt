@@ -1,0 +1,87 @@
+-- The wrong answers for `hearing`, `deciding` and `changes` are ruled out, by computing. Assumes nothing.
+use mathlib.Core.Path.{refl}
+use mathlib.Core.Bool.{cond}
+use Prim.Native.Nat.{ℕ}
+use lib.ListN.{getD}
+use Rattle.line.specs.Characters.{seven}
+use Rattle.line.specs.Checksum.{bccOf}
+use Rattle.line.specs.Runs.{every}
+use Rattle.text.specs.Writing.{stored}
+use Rattle.text.specs.Classes.{between, isDigit, isPrintable, matching, sameText}
+use Rattle.text.specs.Decimal.{decimal}
+use Rattle.text.specs.Layout.{layoutText, agrees, fits}
+use Rattle.clock.specs.Dates.{leap}
+use Rattle.clock.specs.Weekday.{daysBefore, dayNumber, weekday}
+use Rattle.values.specs.Texts.{tableText}
+use Rattle.frames.specs.Frames.{closed, frameOf}
+use Rattle.frames.specs.Commands.{bracketed, setTable}
+use Rattle.state.specs.declared.Receiver.{Receiver}
+use Rattle.state.specs.declared.Counters.{Counters}
+use Rattle.state.specs.declared.Registers.{Registers}
+use Rattle.state.specs.declared.Meter.{Meter}
+use Rattle.hearing.specs.declared.Hearing.{Hearing}
+use Rattle.hearing.specs.declared.Hearing.the-variants.{Drop, Hold, Restart, Empty, Line, Confirm, Frame, TooLong}
+use Rattle.hearing.specs.Hearing.{hearing, listening, confirming, framing}
+use Rattle.deciding.specs.declared.Verdict.{Verdict}
+use Rattle.deciding.specs.declared.Verdict.the-variants.{Refuse, Leave, Enter, Password, Read, WriteClock, WriteAccount, WriteTable}
+use Rattle.deciding.specs.Shape.{startGood, bareShape, content, framedShape}
+use Rattle.deciding.specs.Verdict.{entry, bareVerdict, framedVerdict, shapeVerdict, verdict}
+use Rattle.changes.specs.Zones.{tableFor, zoneIn, counted}
+use Rattle.mistakes.specs.Samples.{serial, account, twos, newMeter, used, heldIn}
+use Rattle.mistakes.specs.Receiving.{Hearings, Decisions, Changes}
+use Rattle.mistakes.proofs.Differing.{seen, number, byte}
+
+-- each case as a number
+unfoldable hearingCase : Hearing → ℕ
+hearingCase Drop = 0
+hearingCase Hold = 1
+hearingCase Restart = 2
+hearingCase Empty = 3
+hearingCase Line = 4
+hearingCase Confirm = 5
+hearingCase Frame = 6
+hearingCase TooLong = 7
+
+unfoldable verdictCase : Verdict → ℕ
+verdictCase (Refuse n) = n
+verdictCase Leave = 100
+verdictCase Enter = 101
+verdictCase Password = 102
+verdictCase (Read a) = 103
+verdictCase (WriteClock c) = 104
+verdictCase WriteAccount = 105
+verdictCase (WriteTable t) = 106
+
+pub hearings : Hearings
+unfolding hearing listening confirming framing hearingCase stored newMeter heldIn
+hearings =
+    record {
+      hear = (seen hearingCase refl, seen hearingCase refl);
+      «last_held» = (number refl, number refl);
+      keep = (seen (λ (r : Receiver). cond (r .mark) 1 0) refl, seen (λ (r : Receiver). r .count) refl);
+      restart = (seen (λ (r : Receiver). cond (r .mark) 1 0) refl, seen (λ (r : Receiver). r .count) refl);
+      empty = (seen (λ (r : Receiver). cond (r .mark) 1 0) refl, seen (λ (r : Receiver). r .count) refl);
+    }
+
+pub decisions : Decisions
+unfolding seven bccOf every between isDigit isPrintable matching sameText decimal layoutText agrees fits tableText closed frameOf bracketed setTable startGood bareShape content framedShape entry bareVerdict framedVerdict shapeVerdict verdict verdictCase twos
+decisions = record { decide = (seen verdictCase refl, seen verdictCase refl) }
+
+pub changes : Changes
+unfolding stored decimal leap daysBefore dayNumber weekday tableFor zoneIn counted serial account twos newMeter used heldIn
+changes =
+    record {
+      «with_receiver» = (seen (λ (m : Meter). m .receiver .count) refl, seen (λ (m : Meter). m .mode) refl);
+      «in_mode» = (seen (λ (m : Meter). m .receiver .count) refl, seen (λ (m : Meter). m .attempts) refl);
+      «with_attempts» = (seen (λ (m : Meter). m .attempts) refl, seen (λ (m : Meter). m .attempts) refl);
+      «with_registers» = (seen (λ (m : Meter). m .registers .counters .t1) refl, seen (λ (m : Meter). m .mode) refl);
+      «with_clock» = (seen (λ (g : Registers). g .clock .date .year) refl, seen (λ (g : Registers). g .clock .date .year) refl);
+      «with_account» = (seen (λ (g : Registers). getD (g .account) 0 0) refl, seen (λ (g : Registers). getD (g .account) 9 0) refl);
+      «with_tables» = (seen (λ (g : Registers). getD (g .tables) 0 0) refl, seen (λ (g : Registers). getD (g .tables) 575 0) refl);
+      «with_counters» = (seen (λ (g : Registers). g .counters .t1) refl, seen (λ (g : Registers). g .counters .t4) refl);
+      ten = (byte 0 refl, byte 0 refl);
+      «with_row» = (byte 144 refl, byte 145 refl);
+      «table_for» = (number refl, number refl);
+      «zone_in» = (number refl, number refl);
+      count = (seen (λ (c : Counters). c .t2) refl, seen (λ (c : Counters). c .t1) refl);
+    }

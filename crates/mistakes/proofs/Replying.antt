@@ -1,0 +1,69 @@
+-- The wrong answers for `blocks`, `reading`, `reader` and `headlink` are ruled out, by computing. Assumes nothing.
+use mathlib.Core.Path.{refl, ap, _∙_}
+use lib.Count.{ones}
+use Rattle.line.specs.Characters.{damagedAt, seven, undamagedAll}
+use Rattle.line.specs.Checksum.{bccOf}
+use Rattle.line.specs.Runs.{every}
+use Rattle.text.specs.Writing.{holding}
+use Rattle.text.specs.Classes.{between, isDigit, isLetter, isPrintable, isAddress, isValue, matching}
+use Rattle.text.specs.Decimal.{decimal, valueFrom, valueOf, numberAt}
+use Rattle.text.specs.Layout.{layoutText, pattern, agrees, fits}
+use Rattle.clock.specs.declared.Time.{Time}
+use Rattle.clock.specs.Dates.{leap, thirty, daysIn, realDate, realTime}
+use Rattle.values.specs.Registers.{isAccountCharacter, goodAccount, goodRow}
+use Rattle.values.specs.Texts.{serialText, dateText, timeText, counterText}
+use Rattle.values.specs.Reading.{dateRead, timeRead, counterRead}
+use Rattle.values.specs.Serials.{serialRead, accountRead, rowRead}
+use Rattle.frames.specs.Frames.{closed, blockOf}
+use Rattle.datasets.specs.Sets.{dataSet}
+use Rattle.blocks.specs.declared.Stripped.{Stripped}
+use Rattle.blocks.specs.declared.PartAt.{PartAt}
+use Rattle.blocks.specs.Stripping.{strippedOf, strippedInto}
+use Rattle.blocks.specs.Parts.{isCharacter, notEtx, isBlock, bccFits, partOf, between as within}
+use Rattle.reading.specs.declared.SetRead.{SetRead}
+use Rattle.reading.specs.Sets.{ofKind, leading, startsWith3, isSet, addressLength, valueLength, setHere, setRead}
+use Rattle.reader.specs.declared.Reader.{Reader}
+use Rattle.reader.specs.declared.Placed.{Placed}
+use Rattle.reader.specs.Walking.{placeAfter}
+use Rattle.headlink.specs.Telling.{valueNumber}
+use Rattle.mistakes.specs.Samples.{serial, twos}
+use Rattle.mistakes.specs.Replying.{block, misSummed, twoSets, Blocks, Sets, Readers, Walks, Fields}
+use Rattle.mistakes.proofs.Differing.{seen, number, byte, long}
+
+pub blocks : Blocks
+unfolding ones damagedAt seven undamagedAll bccOf every holding closed blockOf strippedOf strippedInto isCharacter notEtx isBlock bccFits partOf within block misSummed
+blocks =
+    record {
+      strip = (λ after s. seen (λ (r : Stripped). r .number) refl (s .answer), λ r s. byte 0 refl (s .held));
+      find = (λ w. seen (λ (p : PartAt). p .length) refl (w .is), λ w. seen (λ (p : PartAt). p .number) refl (w .is));
+      «part_check» = (number refl, number refl);
+      part = (long refl, long refl);
+    }
+
+pub sets : Sets × Readers × Walks
+unfolding every between isDigit isLetter isPrintable isAddress isValue ofKind leading startsWith3 isSet addressLength valueLength setHere setRead placeAfter dataSet twoSets
+sets = (
+  record {
+    «next_set» = (seen (λ (r : SetRead). r .next) refl, seen (λ (r : SetRead). r .next) refl);
+  },
+  record {
+    new = (number refl, number refl);
+    next = (λ r d a e. seen (λ (x : SetRead). x .next) refl (e ∙ (λ i. setRead (d i) (a i))), λ r d a e. number refl (ap (λ (x : Reader). x .at) e ∙ (λ i. setRead (d i) (a i) .next)));
+  },
+  record {
+    «read_at» = (seen (λ (r : SetRead). r .next) refl, seen (λ (r : SetRead). r .number) refl);
+    «set_after» = (seen (λ (p : Placed). p .start) refl, seen (λ (p : Placed). p .start) refl);
+  },
+)
+
+pub fields : Fields
+unfolding every holding between isDigit isLetter matching decimal valueFrom valueOf numberAt layoutText pattern agrees fits leap thirty daysIn realDate realTime isAccountCharacter goodAccount goodRow serialText dateText timeText counterText dateRead timeRead counterRead serialRead accountRead rowRead valueNumber serial twos
+fields =
+    record {
+      «dirgemist_head_value_serial» = (λ after t. number refl (t .number), λ after t. number refl (t .number));
+      «dirgemist_head_value_account» = (λ after t. number refl (t .number), λ r t. byte 0 refl (t .held));
+      «dirgemist_head_value_row» = (λ r t. byte 0 refl (t .held), λ r t. byte 24 refl (t .held));
+      «dirgemist_head_value_date» = (number refl, number refl);
+      «dirgemist_head_value_time» = (number refl, seen (λ (t : Time). t .hour) refl);
+      «dirgemist_head_value_counter» = (number refl, number refl);
+    }

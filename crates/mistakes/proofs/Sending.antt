@@ -1,0 +1,78 @@
+-- The wrong answers for `frames`, `state`, `datasets` and `replies` are ruled out, by computing. Assumes nothing.
+use mathlib.Core.Path.{_≡_, refl}
+use mathlib.Core.Bool.{true}
+use lib.Count.{ones}
+use lib.ListN.{getD}
+use Rattle.line.specs.Characters.{seven, sent}
+use Rattle.line.specs.Checksum.{bccOf}
+use Rattle.line.specs.Runs.{every}
+use Rattle.text.specs.Writing.{stored, holding}
+use Rattle.text.specs.Classes.{between, isDigit, isLetter}
+use Rattle.text.specs.Decimal.{decimal}
+use Rattle.text.specs.Layout.{layoutText}
+use Rattle.clock.specs.Dates.{leap, thirty, daysIn, realDate, realTime}
+use Rattle.clock.specs.Seconds.{realClock}
+use Rattle.values.specs.Registers.{goodDigits, isAccountCharacter, goodAccount}
+use Rattle.values.specs.Texts.{serialText, tableText, dateText, timeText, counterText}
+use Rattle.frames.specs.Frames.{closed, sealed, frameOf, bareFrame, blockOf}
+use Rattle.frames.specs.Commands.{bracketed}
+use Rattle.state.specs.declared.Meter.{Meter}
+use Rattle.state.specs.declared.Made.{Made}
+use Rattle.state.specs.WellFormed.{limit, firstGood, heldGood, markGood, receiverGood, countersGood, tablesGood, factsGood, registersGood, wellFormed}
+use Rattle.state.specs.Making.{madeOf}
+use Rattle.datasets.specs.Sets.{dataSet, linesOf}
+use Rattle.replies.specs.Shown.{total, energy, rowOf}
+use Rattle.replies.specs.Answers.{askedSets, askedData}
+use Rattle.replies.specs.Block.{factSets, energySets, tableSets, blockSets, blockData}
+use Rattle.replies.specs.Fixed.{passwordAsk}
+use Rattle.changes.specs.Changes.{inMode}
+use Rattle.mistakes.specs.Samples.{serial, account, password, twos, newMeter, used}
+use Rattle.mistakes.specs.Sending.{Frames, States, Sets, Replies}
+use Rattle.mistakes.proofs.Differing.{seen, number, flag, byte}
+
+pub frames : Frames
+unfolding ones seven sent bccOf holding closed sealed
+frames = record { seal = (byte 4 refl, byte 5 refl); send = (byte 1 refl, byte 0 refl) }
+
+-- the states, and that a new meter in programming mode is well-formed
+computed : States × (wellFormed (inMode newMeter 4) ≡ true)
+unfolding every between isDigit isLetter decimal leap thirty daysIn realDate realTime realClock goodDigits isAccountCharacter goodAccount limit firstGood heldGood markGood receiverGood countersGood tablesGood factsGood registersGood wellFormed madeOf serial account password newMeter
+computed = (
+  record {
+    «limit_of» = (number refl, number refl);
+    «is_well_formed» = (flag refl, flag refl);
+    blank = (seen (λ (m : Meter). m .attempts) refl, seen (λ (m : Meter). getD (m .registers .account) 0 0) refl);
+    make = (seen (λ (r : Made). r .number) refl, seen (λ (r : Made). getD (r .meter .registers .serial) 0 0) refl);
+  },
+  refl,
+)
+
+pub states : States
+states = computed .0
+
+pub ready-formed : wellFormed (inMode newMeter 4) ≡ true
+ready-formed = computed .1
+
+pub sets : Sets
+unfolding stored decimal layoutText serialText tableText dateText timeText counterText dataSet serial account twos
+sets =
+    record {
+      «put_time_set» = (byte 4 refl, byte 15 refl);
+      «put_date_set» = (byte 4 refl, byte 7 refl);
+      «put_serial_set» = (byte 0 refl, byte 9 refl);
+      «put_account_set» = (byte 0 refl, byte 6 refl);
+      «put_energy_set» = (byte 5 refl, byte 12 refl);
+      «put_table_set» = (byte 7 refl, byte 32 refl);
+    }
+
+pub replies : Replies
+unfolding ones seven sent bccOf holding closed frameOf bareFrame blockOf bracketed stored decimal layoutText serialText tableText dateText timeText counterText dataSet linesOf total energy rowOf askedSets askedData factSets energySets tableSets blockSets blockData passwordAsk serial account twos newMeter used
+replies =
+    record {
+      identify = (byte 0 refl, byte 17 refl);
+      acknowledge = (byte 0 refl, byte 0 refl);
+      refuse = (byte 0 refl, byte 0 refl);
+      «ask_password» = (byte 2 refl, byte 3 refl);
+      answer = (byte 17 refl, byte 10 refl);
+      «data_block» = (byte 1030 refl, byte 1058 refl);
+    }

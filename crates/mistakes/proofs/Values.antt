@@ -1,0 +1,82 @@
+-- The wrong answers for `clock` and `values` are ruled out, by computing. Assumes nothing.
+use mathlib.Core.Path.{refl}
+use mathlib.Core.Bool.{cond}
+use lib.ListN.{getD}
+use Rattle.line.specs.Runs.{every}
+use Rattle.text.specs.Writing.{stored}
+use Rattle.text.specs.Classes.{between, isDigit, isLetter, matching}
+use Rattle.text.specs.Decimal.{decimal, valueFrom, valueOf, numberAt}
+use Rattle.text.specs.Layout.{layoutText, pattern, agrees, fits}
+use Rattle.clock.specs.declared.Clock.{Clock as Moment}
+use Rattle.clock.specs.Dates.{leap, thirty, daysIn, realDate, realTime}
+use Rattle.clock.specs.Seconds.{realClock, nextMonth, nextDay, nextSecond}
+use Rattle.clock.specs.Weekday.{daysBefore, dayNumber, weekday}
+use Rattle.values.specs.declared.reading.DateRead.{DateRead}
+use Rattle.values.specs.declared.reading.TimeRead.{TimeRead}
+use Rattle.values.specs.declared.reading.ClockRead.{ClockRead}
+use Rattle.values.specs.declared.reading.CounterRead.{CounterRead}
+use Rattle.values.specs.declared.reading.TableRead.{TableRead}
+use Rattle.values.specs.declared.characters.SerialRead.{SerialRead}
+use Rattle.values.specs.declared.characters.AccountRead.{AccountRead}
+use Rattle.values.specs.declared.characters.RowRead.{RowRead}
+use Rattle.values.specs.Registers.{goodDigits, isAccountCharacter, goodAccount, goodRow, goodTable, goodZone}
+use Rattle.values.specs.Texts.{serialText, tableText, dateText, timeText, clockText, counterText}
+use Rattle.values.specs.Reading.{dateRead, timeRead, clockRead, counterRead, tableRead}
+use Rattle.values.specs.Serials.{serialRead, accountRead, rowRead}
+use Rattle.mistakes.specs.Samples.{serial}
+use Rattle.mistakes.specs.Values.{Clock, Rules, Reading, Characters, Writing}
+use Rattle.mistakes.proofs.Differing.{seen, number, flag, byte}
+
+pub clock : Clock
+unfolding leap thirty daysIn realDate realTime realClock nextMonth nextDay nextSecond daysBefore dayNumber weekday
+clock =
+    record {
+      «is_leap» = (flag refl, flag refl);
+      «days_in» = (number refl, number refl);
+      «is_date» = (flag refl, flag refl);
+      «is_time» = (flag refl, flag refl);
+      «is_clock» = (flag refl, flag refl);
+      «next_second» = (seen (λ (c : Moment). c .date .year) refl, seen (λ (c : Moment). c .date .month) refl);
+      «day_of_week» = (number refl, number refl);
+    }
+
+pub rules : Rules
+unfolding every between isDigit isLetter goodDigits isAccountCharacter goodAccount goodRow goodTable goodZone
+rules =
+    record {
+      «is_digits» = (flag refl, flag refl);
+      «is_account_character» = (flag refl, flag refl);
+      «is_account» = (flag refl, flag refl);
+      «is_row» = (flag refl, flag refl);
+      «is_table» = (flag refl, flag refl);
+      «is_zone» = (flag refl, flag refl);
+    }
+
+pub reading : Reading × Characters
+unfolding every between isDigit isLetter matching decimal valueFrom valueOf numberAt layoutText pattern agrees fits leap thirty daysIn realDate realTime realClock isAccountCharacter goodAccount goodRow goodTable serialText clockText counterText dateRead timeRead clockRead counterRead tableRead serialRead accountRead rowRead serial
+reading = (
+  record {
+    «read_date» = (seen (λ (r : DateRead). cond (r .ok) 1 0) refl, seen (λ (r : DateRead). r .date .year) refl);
+    «read_time» = (seen (λ (r : TimeRead). cond (r .ok) 1 0) refl, seen (λ (r : TimeRead). r .time .second) refl);
+    «read_clock» = (seen (λ (r : ClockRead). cond (r .ok) 1 0) refl, seen (λ (r : ClockRead). r .clock .date .month) refl);
+    «read_counter» = (seen (λ (r : CounterRead). r .wh) refl, seen (λ (r : CounterRead). cond (r .ok) 1 0) refl);
+    «read_table» = (seen (λ (r : TableRead). cond (r .ok) 1 0) refl, seen (λ (r : TableRead). cond (r .ok) 1 0) refl);
+  },
+  record {
+    «read_serial» = (seen (λ (r : SerialRead). getD (r .serial) 3 0) refl, seen (λ (r : SerialRead). cond (r .ok) 1 0) refl);
+    «read_account» = (seen (λ (r : AccountRead). cond (r .ok) 1 0) refl, seen (λ (r : AccountRead). getD (r .account) 0 0) refl);
+    «read_row» = (seen (λ (r : RowRead). cond (r .ok) 1 0) refl, seen (λ (r : RowRead). getD (r .row) 0 0) refl);
+  },
+)
+
+pub writing : Writing
+unfolding stored decimal layoutText serialText tableText dateText timeText clockText counterText serial
+writing =
+    record {
+      «put_serial» = (byte 3 refl, byte 3 refl);
+      «put_table» = (byte 3 refl, byte 0 refl);
+      «put_date» = (byte 1 refl, byte 2 refl);
+      «put_time» = (byte 1 refl, byte 2 refl);
+      «put_clock» = (byte 1 refl, byte 1 refl);
+      «put_counter» = (byte 5 refl, byte 6 refl);
+    }

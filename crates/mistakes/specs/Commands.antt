@@ -1,0 +1,75 @@
+-- Two wrong answers for each builder of `commands`. The C functions of `headlink` have the same promises.
+use mathlib.Core.Bool.{Bool, true, _&&_}
+use mathlib.Core.List.{List, [], _∷_, _++_}
+use Prim.Native.Nat.{ℕ}
+use lib.ListN.{replicate}
+use Rattle.text.specs.Writing.{holding}
+use Rattle.clock.specs.Seconds.{realClock}
+use Rattle.values.specs.Registers.{goodSerial, goodPassword, goodAccount, goodRow, goodTable, goodZone}
+use Rattle.frames.specs.Frames.{frameOf, bareFrame, onWire}
+use Rattle.frames.specs.Commands.{B0, P0, P1, R1, W1, bracketed, askClock, askSerial, askAccount, askEnergy, askTable, setClock, setAccount, setTable}
+use Rattle.frames.specs.Session.{signOn, signOnTo, confirmation, enterData, passwordData}
+use Rattle.commands.specs.declared.Built.{Built}
+use Rattle.commands.specs.Building.{goodChoice, Builds}
+use Rattle.mistakes.specs.Samples.{clockAt, serial, password}
+
+-- a builder never answers so, whatever it leaves in the buffer
+abbrev pub NotAnswered : List ℕ → Bool → List ℕ → ℕ → ℕ → Type 0
+NotAnswered buf ok command number size = (after : List ℕ) → Builds buf ok command (record { number = number; length = size }) after → ⊥
+
+-- a builder never leaves this, whatever it answers
+abbrev pub NotLeft : List ℕ → Bool → List ℕ → List ℕ → Type 0
+NotLeft buf ok command wrong = (r : Built) → Builds buf ok command r wrong → ⊥
+
+abbrev pub room : List ℕ
+room = replicate 64 0
+
+-- 24 characters, the last of them a bracket
+unfoldable pub broken : List ℕ
+broken = replicate 23 49 ++ (41 ∷ [])
+
+-- of `commands`
+pub record Commands : Type 0 where
+  -- no parity; the CR LF not counted
+  pub «sign_on» : NotLeft room true (onWire signOn) (holding room signOn) × NotAnswered room true (onWire signOn) 1 3
+  -- nine digits; no space after three of them
+  pub «sign_on_to» : NotAnswered room (goodSerial (replicate 9 49)) (onWire (signOnTo (replicate 9 49))) 1 15
+      × NotLeft room (goodSerial serial) (onWire (signOnTo serial)) (holding room (onWire (47 ∷ 63 ∷ (serial ++ (33 ∷ 13 ∷ 10 ∷ [])))))
+  -- '6' confirmed; '7' refused
+  pub confirm : NotAnswered room (goodChoice 54) (onWire (confirmation 54)) 1 6 × NotAnswered room (goodChoice 55) (onWire (confirmation 55)) 9 0
+  -- P0 for P1; built in 63 bytes
+  pub enter : NotLeft room true (onWire (frameOf P1 enterData)) (holding room (onWire (frameOf P0 enterData)))
+      × NotAnswered (replicate 63 0) true (onWire (frameOf P1 enterData)) 1 8
+  -- seven digits; no brackets
+  pub password : NotAnswered room (goodPassword (replicate 7 49)) (onWire (frameOf P1 (passwordData (replicate 7 49)))) 1 15
+      × NotLeft room (goodPassword password) (onWire (frameOf P1 (passwordData password))) (holding room (onWire (frameOf P1 password)))
+  -- W1 for R1; the serial asked for
+  pub «read_clock» : NotLeft room true (onWire (frameOf R1 askClock)) (holding room (onWire (frameOf W1 askClock)))
+      × NotLeft room true (onWire (frameOf R1 askClock)) (holding room (onWire (frameOf R1 askSerial)))
+  -- the account asked for; the BCC not counted
+  pub «read_serial» : NotLeft room true (onWire (frameOf R1 askSerial)) (holding room (onWire (frameOf R1 askAccount)))
+      × NotAnswered room true (onWire (frameOf R1 askSerial)) 1 8
+  -- the serial asked for; 9 for a buffer that is too short
+  pub «read_account» : NotLeft room true (onWire (frameOf R1 askAccount)) (holding room (onWire (frameOf R1 askSerial)))
+      × NotAnswered (replicate 63 0) true (onWire (frameOf R1 askAccount)) 9 0
+  -- the first zone asked for; no digit after the E
+  pub «read_total» : NotLeft room true (onWire (frameOf R1 (askEnergy 0))) (holding room (onWire (frameOf R1 (askEnergy 1))))
+      × NotLeft room true (onWire (frameOf R1 (askEnergy 0))) (holding room (onWire (frameOf R1 (69 ∷ bracketed []))))
+  -- zone 0 taken, which asks for the total; zone 2 asked for as the first
+  pub «read_zone» : NotAnswered room (goodZone 0) (onWire (frameOf R1 (askEnergy 0))) 1 10
+      × NotLeft room (goodZone 2) (onWire (frameOf R1 (askEnergy 2))) (holding room (onWire (frameOf R1 (askEnergy 1))))
+  -- table 25; one digit for a number below 10
+  pub «read_table» : NotAnswered room (goodTable 24 25) (onWire (frameOf R1 (askTable 25))) 1 11
+      × NotLeft room (goodTable 24 7) (onWire (frameOf R1 (askTable 7))) (holding room (onWire (frameOf R1 (90 ∷ bracketed (55 ∷ [])))))
+  -- 29-02-2001 taken; the month first
+  pub «write_clock» : NotAnswered room (realClock (clockAt 2001 2 29 0 0 0)) (onWire (frameOf W1 (setClock (clockAt 2001 2 29 0 0 0)))) 1 28
+      × NotLeft room (realClock (clockAt 2001 2 3 0 0 0)) (onWire (frameOf W1 (setClock (clockAt 2001 2 3 0 0 0))))
+      (holding room (onWire (frameOf W1 (setClock (clockAt 2001 3 2 0 0 0)))))
+  -- nine characters; a refused account written all the same
+  pub «write_account» : NotAnswered room (goodAccount (replicate 9 65)) (onWire (frameOf W1 (setAccount (replicate 9 65)))) 1 18
+      × NotLeft room (goodAccount (replicate 10 45)) (onWire (frameOf W1 (setAccount (replicate 10 45)))) (holding room (onWire (frameOf W1 (setAccount (replicate 10 45)))))
+  -- a row with a bracket; a refused row written all the same
+  pub «write_table» : NotAnswered room (goodTable 24 7 && goodRow broken) (onWire (frameOf W1 (setTable 7 broken))) 1 36
+      × NotLeft room (goodTable 24 7 && goodRow broken) (onWire (frameOf W1 (setTable 7 broken))) (holding room (onWire (frameOf W1 (setTable 7 broken))))
+  -- with STX, as the other commands; built in 63 bytes
+  pub «sign_off» : NotLeft room true (onWire (bareFrame B0)) (holding room (onWire (frameOf B0 []))) × NotAnswered (replicate 63 0) true (onWire (bareFrame B0)) 1 5

@@ -1,0 +1,87 @@
+-- Two wrong answers for each call of `meter` and `firmware`, and some that document 01 warns of.
+use mathlib.Core.Bool.{true}
+use mathlib.Core.List.{[], _∷_}
+use lib.ListN.{length, getD, take, replicate}
+use Rattle.line.specs.Characters.{sent}
+use Rattle.text.specs.Writing.{holding}
+use Rattle.frames.specs.Frames.{frameOf, onWire}
+use Rattle.frames.specs.Commands.{P1, W1, bracketed, setTable}
+use Rattle.state.specs.declared.Meter.{Meter}
+use Rattle.replies.specs.Fixed.{accepted, refused, identification}
+use Rattle.hearing.specs.Receivers.{restartedReceiver}
+use Rattle.changes.specs.Changes.{withReceiver, inMode, withAttempts, withRegisters, withClock, withCounters}
+use Rattle.meter.specs.Outcomes.{Outcome, answerOf, silent, unheard, saying, nak, ack}
+use Rattle.meter.specs.Character.{character}
+use Rattle.meter.specs.Events.{silence, tick, pulse, powerUp}
+use Rattle.firmware.specs.Replies.{replyOf}
+use Rattle.mistakes.specs.RuledOut.{RuledOut}
+use Rattle.mistakes.specs.Samples.{clockAt, twos, newMeter, heldIn}
+
+-- table 7 with the row of '2', all but its BCC held in programming mode; and what its BCC comes to
+unfoldable pub told : Meter
+told = heldIn 4 (take 35 (frameOf W1 (setTable 7 twos)))
+
+unfoldable pub toldAll : Outcome
+toldAll = character told 2048 (sent (getD (frameOf W1 (setTable 7 twos)) 35 0))
+
+-- a password of three digits, all but its BCC held; and what its BCC comes to
+unfoldable pub shortPassword : Meter
+shortPassword = heldIn 2 (take 10 (frameOf P1 (bracketed (49 ∷ 50 ∷ 51 ∷ []))))
+
+unfoldable pub shortTried : Outcome
+shortTried = character shortPassword 2048 (sent (getD (frameOf P1 (bracketed (49 ∷ 50 ∷ 51 ∷ []))) 10 0))
+
+-- /?! CR held, and its LF
+unfoldable pub signedOn : Outcome
+signedOn = character (heldIn 0 (47 ∷ 63 ∷ 33 ∷ 13 ∷ [])) 2048 (sent 10)
+
+-- a damaged character held, then a SOH
+unfoldable pub restarted : Outcome
+restarted = character (withReceiver (inMode newMeter 2) (record { held = 1 ∷ replicate 62 0; count = 2; mark = true })) 2048 (sent 1)
+
+-- of `meter`
+pub record Receiving : Type 0 where
+  -- NAK to a good write; ACK to it, and the old tables
+  pub receive : RuledOut (answerOf toldAll) (answerOf (nak 9 told)) × RuledOut (answerOf toldAll) (answerOf (ack (inMode newMeter 4)))
+  -- NAK in the buffer; ACK with the buffer's other bytes cleared
+  pub receive-reply : RuledOut (holding (replicate 2048 9) (onWire (toldAll .reply))) (holding (replicate 2048 9) (onWire refused))
+      × RuledOut (holding (replicate 2048 9) (onWire (toldAll .reply))) (holding (replicate 2048 0) (onWire accepted))
+  -- one attempt counted for a malformed password; refused, and no way back to mode 0
+  pub receive-password : RuledOut (answerOf shortTried) (answerOf (nak 9 (withAttempts shortPassword 1)))
+      × RuledOut (answerOf shortTried) (answerOf (saying 9 5 refused (inMode newMeter 2)))
+  -- the identification at the speed of a data block; mode 0 after it
+  pub receive-sign-on : RuledOut (answerOf signedOn) (answerOf (saying 1 5 identification (inMode newMeter 1)))
+      × RuledOut (answerOf signedOn) (answerOf (saying 1 0 identification newMeter))
+  -- the mark kept at a restart; a SOH taken for one more character
+  pub receive-restart : RuledOut (answerOf restarted)
+      (answerOf (silent 0 (withReceiver (inMode newMeter 2) (record { held = restartedReceiver 1 .held; count = 1; mark = true }))))
+      × RuledOut (answerOf restarted)
+      (answerOf (silent 0 (withReceiver (inMode newMeter 2) (record { held = 1 ∷ 0 ∷ 1 ∷ replicate 60 0; count = 3; mark = true }))))
+  -- a malformed state said before a short buffer; a character taken in a short buffer
+  pub receive-refused : RuledOut (answerOf (character (withAttempts newMeter 4) 2047 47)) (answerOf (unheard 14 (withAttempts newMeter 4)))
+      × RuledOut (answerOf (character newMeter 2047 (sent 47))) (answerOf (silent 0 (withReceiver newMeter (restartedReceiver 47))))
+  -- no NAK in mode 1; NAK at speed 5
+  pub «hear_nothing» : RuledOut (answerOf (silence (inMode newMeter 1) 2048)) (answerOf (silent 1 newMeter))
+      × RuledOut (answerOf (silence (inMode newMeter 1) 2048)) (answerOf (saying 1 5 refused newMeter))
+
+-- of `meter::passing`
+pub record Passing : Type 0 where
+  -- a clock that stands; a malformed state's clock that goes on
+  pub «pass_second» : RuledOut (answerOf (tick newMeter)) (answerOf (silent 1 newMeter))
+      × RuledOut (answerOf (tick (withAttempts newMeter 4)))
+      (answerOf (silent 1 (withRegisters (withAttempts newMeter 4) (withClock (newMeter .registers) (clockAt 2000 1 1 12 0 1)))))
+  -- the next zone's counter; more than 1,000,000 Wh taken
+  pub «take_pulse» : RuledOut (answerOf (pulse newMeter 5))
+      (answerOf (silent 1 (withRegisters newMeter (withCounters (newMeter .registers) (record { t1 = 0; t2 = 5; t3 = 0; t4 = 0 })))))
+      × RuledOut (answerOf (pulse newMeter 1000001))
+      (answerOf (silent 1 (withRegisters newMeter (withCounters (newMeter .registers) (record { t1 = 1000001; t2 = 0; t3 = 0; t4 = 0 })))))
+  -- the attempts kept; programming mode kept
+  pub «power_up» : RuledOut (answerOf (powerUp (withAttempts newMeter 3))) (answerOf (silent 1 (withAttempts newMeter 3)))
+      × RuledOut (answerOf (powerUp (inMode newMeter 4))) (answerOf (silent 1 (inMode newMeter 4)))
+
+-- of `firmware`
+pub record Lent : Type 0 where
+  -- no reply to a good write; the lent state as it was
+  pub «receive_in_place» : RuledOut (replyOf toldAll) (record { number = 1; length = 0; speed = 5 }) × RuledOut (toldAll .next) told
+  -- NAK's number; the speed of the mode before the session
+  pub «dirgemist_meter_receive» : RuledOut (toldAll .number) 9 × RuledOut (toldAll .speed) 0

@@ -1,0 +1,12 @@
+pub mod RuledOut
+pub mod Samples
+pub mod Lines
+pub mod Values
+pub mod Sending
+pub mod Receiving
+pub mod Events
+pub mod Commands
+pub mod Replying
+pub mod Posts
+pub mod Bench
+pub mod Playing

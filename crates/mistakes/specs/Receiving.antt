@@ -1,0 +1,72 @@
+-- Two wrong answers for each call of `hearing`, `deciding` and `changes`.
+use mathlib.Core.Bool.{true, false}
+use mathlib.Core.List.{[], _∷_, _++_}
+use lib.ListN.{getD, take, drop, set, replicate}
+use Rattle.text.specs.Writing.{stored}
+use Rattle.clock.specs.Seconds.{dateOf}
+use Rattle.frames.specs.Frames.{frameOf}
+use Rattle.frames.specs.Commands.{P1, W1, bracketed, setTable}
+use Rattle.state.specs.Making.{emptyReceiver, noCounters}
+use Rattle.hearing.specs.declared.Hearing.the-variants.{Hold, Restart}
+use Rattle.hearing.specs.Hearing.{hearing}
+use Rattle.hearing.specs.Receivers.{lastHeld, keptReceiver, restartedReceiver}
+use Rattle.deciding.specs.declared.Verdict.the-variants.{Password, WriteTable}
+use Rattle.deciding.specs.Verdict.{verdict}
+use Rattle.changes.specs.Changes.{withReceiver, inMode, withAttempts, withRegisters, withClock, withAccount, withTables, withCounters}
+use Rattle.changes.specs.Zones.{tableFor, zoneIn, counted}
+use Rattle.mistakes.specs.RuledOut.{RuledOut}
+use Rattle.mistakes.specs.Samples.{clockAt, serial, twos, newMeter, used, heldIn}
+
+-- of `hearing`
+pub record Hearings : Type 0 where
+  -- a BCC that is SOH as a new frame; a '/' within a line held
+  pub hear : RuledOut (hearing 2 5 3 1) Restart × RuledOut (hearing 0 3 63 47) Hold
+  -- the first one; one too many back where three are held
+  pub «last_held» : RuledOut (lastHeld (heldIn 2 (1 ∷ 66 ∷ 48 ∷ []) .receiver)) 1 × RuledOut (lastHeld (heldIn 2 (1 ∷ 66 ∷ 48 ∷ []) .receiver)) 66
+  -- a mark that the next good character takes away; held, and not counted
+  pub keep : RuledOut (keptReceiver (keptReceiver (restartedReceiver 1) 0 true) 66 false) (keptReceiver (keptReceiver (restartedReceiver 1) 0 false) 66 false)
+      × RuledOut (keptReceiver (restartedReceiver 1) 66 false) (record { held = set (restartedReceiver 1 .held) 1 66; count = 1; mark = false })
+  -- the mark kept at a restart; the start not held
+  pub restart : RuledOut (restartedReceiver 1) (record { held = restartedReceiver 1 .held; count = 1; mark = true }) × RuledOut (restartedReceiver 1) emptyReceiver
+  -- a mark on an empty receiver; a SOH already held
+  pub empty : RuledOut emptyReceiver (record { held = replicate 63 0; count = 0; mark = true }) × RuledOut emptyReceiver (restartedReceiver 1)
+
+-- of `deciding`
+pub record Decisions : Type 0 where
+  -- three digits as a password, which would count an attempt; a write in the mode that only reads
+  pub decide : RuledOut (verdict 2 (take 10 (frameOf P1 (bracketed (49 ∷ 50 ∷ 51 ∷ [])))) false (getD (frameOf P1 (bracketed (49 ∷ 50 ∷ 51 ∷ []))) 10 0)) Password
+      × RuledOut (verdict 3 (take 35 (frameOf W1 (setTable 7 twos))) false (getD (frameOf W1 (setTable 7 twos)) 35 0)) (WriteTable (record { 0 = 7 }))
+
+-- of `changes`
+pub record Changes : Type 0 where
+  -- the old receiver; the mode given up with it
+  pub «with_receiver» : RuledOut (withReceiver (inMode newMeter 4) (restartedReceiver 1)) (inMode newMeter 4)
+      × RuledOut (withReceiver (inMode newMeter 4) (restartedReceiver 1)) (withReceiver newMeter (restartedReceiver 1))
+  -- the receiver kept; the attempts forgiven
+  pub «in_mode» : RuledOut (inMode (heldIn 2 (1 ∷ [])) 4) (heldIn 4 (1 ∷ [])) × RuledOut (inMode (withAttempts newMeter 2) 4) (inMode newMeter 4)
+  -- the old number; one more than told
+  pub «with_attempts» : RuledOut (withAttempts newMeter 2) newMeter × RuledOut (withAttempts newMeter 2) (withAttempts newMeter 3)
+  -- the old registers; the mode given up with them
+  pub «with_registers» : RuledOut (withRegisters (inMode newMeter 4) used) (inMode newMeter 4) × RuledOut (withRegisters (inMode newMeter 4) used) (withRegisters newMeter used)
+  -- the old clock; the time set, and not the date
+  pub «with_clock» : RuledOut (withClock used (clockAt 2001 2 3 4 5 6)) used × RuledOut (withClock used (clockAt 2001 2 3 4 5 6)) (withClock used (clockAt 2000 1 1 4 5 6))
+  -- the old account; one character of it alone
+  pub «with_account» : RuledOut (withAccount used (replicate 10 66)) used × RuledOut (withAccount used (replicate 10 66)) (withAccount used (66 ∷ replicate 9 65))
+  -- the old tables; the first of them alone
+  pub «with_tables» : RuledOut (withTables used (replicate 576 51)) used
+      × RuledOut (withTables used (replicate 576 51)) (withTables used (stored (used .tables) 0 (replicate 24 51)))
+  -- the old counters; the first of them alone
+  pub «with_counters» : RuledOut (withCounters used noCounters) used × RuledOut (withCounters used noCounters) (withCounters used (record { t1 = 0; t2 = 2; t3 = 4; t4 = 8 }))
+  -- zeros; one character too far on
+  pub ten : RuledOut serial (replicate 10 48) × RuledOut serial (drop 1 serial ++ (0 ∷ []))
+  -- the row of table 7 in table 8; its first character alone
+  pub «with_row» : RuledOut (stored (replicate 576 49) 144 twos) (stored (replicate 576 49) 168 twos)
+      × RuledOut (stored (replicate 576 49) 144 twos) (stored (replicate 576 49) 144 (50 ∷ []))
+  -- a working day's table on a Saturday; a Saturday's on a Monday
+  pub «table_for» : RuledOut (tableFor (dateOf 2000 1 1)) 1 × RuledOut (tableFor (dateOf 2000 1 3)) 13
+  -- the zone of the hour before; the character for its number
+  pub «zone_in» : RuledOut (zoneIn (withTables used (stored (replicate 576 49) 300 (50 ∷ [])))) 1
+      × RuledOut (zoneIn (withTables used (stored (replicate 576 49) 300 (50 ∷ [])))) 50
+  -- the next zone's counter; 1,000,000,000 Wh and no return to 0
+  pub count : RuledOut (counted noCounters 2 5) (record { t1 = 0; t2 = 0; t3 = 5; t4 = 0 })
+      × RuledOut (counted (record { t1 = 999999999; t2 = 0; t3 = 0; t4 = 0 }) 1 1) (record { t1 = 1000000000; t2 = 0; t3 = 0; t4 = 0 })

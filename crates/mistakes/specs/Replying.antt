@@ -1,0 +1,88 @@
+-- Two wrong answers for each call of `blocks`, `reading` and `reader`, and for the values that `headlink` hands to C.
+use mathlib.Core.Path.{_≡_}
+use mathlib.Core.List.{List, [], _∷_, _++_}
+use Prim.Native.Nat.{ℕ}
+use denote.Ref.{now}
+use lib.ListN.{length, take, drop, replicate}
+use Rattle.clock.specs.Seconds.{dateOf, timeOf}
+use Rattle.values.specs.Texts.{serialText, dateText, timeText, counterText}
+use Rattle.values.specs.Reading.{dateRead, timeRead, counterRead}
+use Rattle.values.specs.Serials.{serialRead, accountRead, rowRead}
+use Rattle.frames.specs.Frames.{blockOf}
+use Rattle.datasets.specs.Sets.{dataSet}
+use Rattle.blocks.specs.declared.Stripped.{Stripped}
+use Rattle.blocks.specs.Stripping.{Strips}
+use Rattle.blocks.specs.Parts.{partOf, Within}
+use Rattle.reading.specs.Sets.{endAt, setAt, setRead}
+use Rattle.reader.specs.declared.Reader.{Reader}
+use Rattle.reader.specs.Walking.{yields, moved, setAfter}
+use Rattle.headlink.specs.Telling.{valueNumber, Tells}
+use Rattle.mistakes.specs.RuledOut.{RuledOut}
+use Rattle.mistakes.specs.Samples.{serial, account, twos}
+
+-- STX H ETX BCC
+unfoldable pub block : List ℕ
+block = blockOf (72 ∷ [])
+
+-- the same with a wrong BCC
+unfoldable pub misSummed : List ℕ
+misSummed = 2 ∷ 72 ∷ 3 ∷ 0 ∷ []
+
+-- what `part` hands back
+abbrev pub partIn : List ℕ → List ℕ
+partIn s = take (partOf s .length) (drop (partOf s .start) s)
+
+-- A(1) CR LF B(22) CR LF ! CR LF: sets at 0 and 6, the end at 13
+unfoldable pub twoSets : List ℕ
+twoSets = dataSet (65 ∷ []) (49 ∷ []) ++ (dataSet (66 ∷ []) (50 ∷ 50 ∷ []) ++ (33 ∷ 13 ∷ 10 ∷ []))
+
+-- of `blocks`
+pub record Blocks : Type 0 where
+  -- a damaged byte stripped; the bytes before it written, and then 24
+  pub strip : ((after : List ℕ) → Strips (193 ∷ []) (0 ∷ []) (record { number = 1; length = 1 }) after → ⊥)
+      × ((r : Stripped) → Strips (65 ∷ 193 ∷ []) (0 ∷ 0 ∷ []) r (65 ∷ 0 ∷ []) → ⊥)
+  -- the ETX in the part; a BCC with its top bit set
+  pub find : (Within block (record { number = 1; start = 1; length = 2 }) → ⊥) × (Within (2 ∷ 72 ∷ 3 ∷ 203 ∷ []) (record { number = 1; start = 1; length = 1 }) → ⊥)
+  -- no BCC checked; a block without ETX called one with a wrong BCC
+  pub «part_check» : RuledOut (partOf misSummed .number) 1 × RuledOut (partOf (2 ∷ 72 ∷ 72 ∷ 75 ∷ []) .number) 23
+  -- the ETX in the part; the data of a block with a wrong BCC
+  pub part : RuledOut (partIn block) (72 ∷ 3 ∷ []) × RuledOut (partIn misSummed) (72 ∷ [])
+
+-- of `reading`
+pub record Sets : Type 0 where
+  -- on at the end; the next line after a set that does not close
+  pub «next_set» : RuledOut (setRead twoSets 13) (endAt 16) × RuledOut (setRead (65 ∷ 40 ∷ 49 ∷ 13 ∷ 10 ∷ []) 0) (record { number = 25; «address_length» = 0; «value_length» = 0; next = 5; place = 0 })
+
+-- of `reader::Reader`
+pub record Readers : Type 0 where
+  -- of the place, which is to be 0: the middle of a line; the end of the data
+  pub new : RuledOut {A = ℕ} 0 1 × RuledOut 0 (length twoSets)
+  -- the first set again; a place further at the end
+  pub next : ((r : Reader) → now (r .«data») ≡ twoSets → r .at ≡ 6 → RuledOut (yields r) (setAt 0 1 1))
+      × ((r : Reader) → now (r .«data») ≡ twoSets → r .at ≡ 13 → RuledOut (moved r) (record { «data» = r .«data»; at = 16 }))
+
+-- of `reader`
+pub record Walks : Type 0 where
+  -- the set counted without its line end; a value of 33 characters
+  pub «read_at» : RuledOut (setRead twoSets 0) (record { number = 1; «address_length» = 1; «value_length» = 1; next = 4; place = 0 })
+      × RuledOut (setRead (dataSet (65 ∷ []) (replicate 33 49)) 0) (setAt 0 1 33)
+  -- the first set again; past the last line to the end of the data
+  pub «set_after» : RuledOut (setAfter twoSets 1) (record { start = 0; set = setAt 0 1 1 }) × RuledOut (setAfter twoSets 3) (record { start = 16; set = endAt 16 })
+
+-- of `headlink::fields`
+pub record Fields : Type 0 where
+  -- 1 for a serial without its space; ten digits in nine bytes
+  pub «dirgemist_head_value_serial» : ((after : List ℕ) → Tells (replicate 10 9) 10 (serialRead serial .ok) (serialRead serial .serial) 1 after → ⊥)
+      × ((after : List ℕ) → Tells (replicate 9 9) 10 (serialRead (serialText serial) .ok) (serialRead (serialText serial) .serial) 1 after → ⊥)
+  -- a hyphen let through; a refused account in the buffer
+  pub «dirgemist_head_value_account» : ((after : List ℕ) → Tells (replicate 10 9) 10 (accountRead (replicate 10 45) .ok) (accountRead (replicate 10 45) .account) 1 after → ⊥)
+      × ((r : ℕ) → Tells (replicate 10 9) 10 (accountRead (replicate 10 45) .ok) (accountRead (replicate 10 45) .account) r (replicate 10 45) → ⊥)
+  -- zeros in a buffer that is too short; the bytes past the row cleared
+  pub «dirgemist_head_value_row» : ((r : ℕ) → Tells (replicate 23 9) 24 (rowRead twos .ok) (rowRead twos .row) r (replicate 23 0) → ⊥)
+      × ((r : ℕ) → Tells (replicate 25 9) 24 (rowRead twos .ok) (rowRead twos .row) r (twos ++ (0 ∷ [])) → ⊥)
+  -- 01-02-29 taken; 9, the meter's number, where 25 is the head's
+  pub «dirgemist_head_value_date» : RuledOut (valueNumber (dateRead (dateText (dateOf 2001 2 29)) .ok)) 1 × RuledOut (valueNumber (dateRead (dateText (dateOf 2001 2 29)) .ok)) 9
+  -- 24:00:00 taken; its numbers handed out all the same
+  pub «dirgemist_head_value_time» : RuledOut (valueNumber (timeRead (timeText (timeOf 24 0 0)) .ok)) 1 × RuledOut (timeRead (timeText (timeOf 24 0 0)) .time) (timeOf 24 0 0)
+  -- 25 for a good counter; its kWh and no decimals
+  pub «dirgemist_head_value_counter» : RuledOut (valueNumber (counterRead 9 3 (counterText 9 3 1500) .ok)) 25 × RuledOut (counterRead 9 3 (counterText 9 3 1500) .wh) 1

@@ -1,0 +1,100 @@
+-- Two wrong answers for each call of `clock` and `values`.
+use mathlib.Core.Bool.{true, false}
+use mathlib.Core.List.{[], _∷_, _++_}
+use lib.ListN.{replicate}
+use Rattle.text.specs.Writing.{stored}
+use Rattle.text.specs.Decimal.{decimal}
+use Rattle.clock.specs.Dates.{leap, daysIn, realDate, realTime}
+use Rattle.clock.specs.Seconds.{realClock, dateOf, timeOf, nextSecond}
+use Rattle.clock.specs.Weekday.{weekday}
+use Rattle.values.specs.Registers.{goodDigits, isAccountCharacter, goodAccount, goodRow, goodTable, goodZone}
+use Rattle.values.specs.Texts.{serialText, tableText, dateText, timeText, clockText, counterText}
+use Rattle.values.specs.Reading.{dateRead, timeRead, clockRead, counterRead, tableRead}
+use Rattle.values.specs.Serials.{serialRead, accountRead, rowRead}
+use Rattle.mistakes.specs.RuledOut.{RuledOut}
+use Rattle.mistakes.specs.Samples.{clockAt, serial, account}
+
+-- of `clock`
+pub record Clock : Type 0 where
+  -- leap years one year late; a whole century never one
+  pub «is_leap» : RuledOut (leap 2001) true × RuledOut (leap 2000) false
+  -- 29 days in every February; 31 days in April
+  pub «days_in» : RuledOut (daysIn 2001 2) 29 × RuledOut (daysIn 2001 4) 31
+  -- 29-02-2001 as a date; a year past the century
+  pub «is_date» : RuledOut (realDate 2001 2 29) true × RuledOut (realDate 2100 1 1) true
+  -- 24:00:00 as a time; a leap second
+  pub «is_time» : RuledOut (realTime 24 0 0) true × RuledOut (realTime 23 59 60) true
+  -- the time looked at alone; the date looked at alone
+  pub «is_clock» : RuledOut (realClock (clockAt 2001 2 29 0 0 0)) true × RuledOut (realClock (clockAt 2001 2 28 24 0 0)) true
+  -- 2100 after 2099; no 29 February in 2000
+  pub «next_second» : RuledOut (nextSecond (clockAt 2099 12 31 23 59 59)) (clockAt 2100 1 1 0 0 0)
+      × RuledOut (nextSecond (clockAt 2000 2 28 23 59 59)) (clockAt 2000 3 1 0 0 0)
+  -- a Saturday as the last day, 6; a 1 March that forgets the leap day
+  pub «day_of_week» : RuledOut (weekday (dateOf 2000 1 1)) 6 × RuledOut (weekday (dateOf 2000 3 1)) 1
+
+-- of `values`
+pub record Rules : Type 0 where
+  -- any number of digits; ':' among them
+  pub «is_digits» : RuledOut (goodDigits 8 (replicate 7 49)) true × RuledOut (goodDigits 2 (49 ∷ 58 ∷ [])) true
+  -- no underscore; a hyphen
+  pub «is_account_character» : RuledOut (isAccountCharacter 95) false × RuledOut (isAccountCharacter 45) true
+  -- nine characters; no account of spaces
+  pub «is_account» : RuledOut (goodAccount (replicate 9 65)) true × RuledOut (goodAccount (replicate 10 32)) false
+  -- a zone 5; a bracket as the last character
+  pub «is_row» : RuledOut (goodRow (replicate 24 53)) true × RuledOut (goodRow (replicate 23 49 ++ (41 ∷ []))) true
+  -- table 25 of 24; table 0
+  pub «is_table» : RuledOut (goodTable 24 25) true × RuledOut (goodTable 24 0) true
+  -- zone 0, which would be the total; no zone 4
+  pub «is_zone» : RuledOut (goodZone 0) true × RuledOut (goodZone 4) false
+
+-- of `values::reading`
+pub record Reading : Type 0 where
+  -- 01-02-29 as a date; the year 0 for 00-02-29
+  pub «read_date» : RuledOut (dateRead (48 ∷ 49 ∷ 45 ∷ 48 ∷ 50 ∷ 45 ∷ 50 ∷ 57 ∷ [])) (record { ok = true; date = dateOf 2001 2 29 })
+      × RuledOut (dateRead (48 ∷ 48 ∷ 45 ∷ 48 ∷ 50 ∷ 45 ∷ 50 ∷ 57 ∷ [])) (record { ok = true; date = dateOf 0 2 29 })
+  -- 24:00:00 as a time; 23:58:59 with minutes and seconds changed about
+  pub «read_time» : RuledOut (timeRead (50 ∷ 52 ∷ 58 ∷ 48 ∷ 48 ∷ 58 ∷ 48 ∷ 48 ∷ [])) (record { ok = true; time = timeOf 24 0 0 })
+      × RuledOut (timeRead (50 ∷ 51 ∷ 58 ∷ 53 ∷ 56 ∷ 58 ∷ 53 ∷ 57 ∷ [])) (record { ok = true; time = timeOf 23 59 58 })
+  -- 29-02-2001 as a date; 03-02-2001 with day and month changed about
+  pub «read_clock» : RuledOut (clockRead (clockText (clockAt 2001 2 29 0 0 0))) (record { ok = true; clock = clockAt 2001 2 29 0 0 0 })
+      × RuledOut (clockRead (clockText (clockAt 2001 2 3 0 0 0))) (record { ok = true; clock = clockAt 2001 3 2 0 0 0 })
+  -- the decimals left out; four decimals
+  pub «read_counter» : RuledOut (counterRead 9 3 (counterText 9 3 1500)) (record { ok = true; wh = 1 })
+      × RuledOut (counterRead 9 3 (counterText 10 4 15000)) (record { ok = true; wh = 15000 })
+  -- 25 of 24 tables; table 00
+  pub «read_table» : RuledOut (tableRead 24 (50 ∷ 53 ∷ [])) (record { ok = true; table = record { 0 = 25 } })
+      × RuledOut (tableRead 24 (48 ∷ 48 ∷ [])) (record { ok = true; table = record { 0 = 0 } })
+
+-- of `values::characters`
+pub record Characters : Type 0 where
+  -- the space handed out with the digits; a serial without its space
+  pub «read_serial» : RuledOut (serialRead (serialText serial)) (record { ok = true; serial = decimal 3 123 ++ (32 ∷ decimal 6 456789) })
+      × RuledOut (serialRead serial) (record { ok = true; serial = serial })
+  -- a hyphen let through; a bad account handed out all the same
+  pub «read_account» : RuledOut (accountRead (replicate 10 45)) (record { ok = true; account = replicate 10 45 })
+      × RuledOut (accountRead (replicate 10 45)) (record { ok = false; account = replicate 10 45 })
+  -- zone 5 let through; a bad row handed out all the same
+  pub «read_row» : RuledOut (rowRead (replicate 24 53)) (record { ok = true; row = replicate 24 53 })
+      × RuledOut (rowRead (replicate 24 53)) (record { ok = false; row = replicate 24 53 })
+
+-- of `values::writing`
+pub record Writing : Type 0 where
+  -- no space after three digits; the space after four
+  pub «put_serial» : RuledOut (stored (replicate 11 0) 0 (serialText serial)) (serial ++ (0 ∷ []))
+      × RuledOut (stored (replicate 11 0) 0 (serialText serial)) (decimal 4 1234 ++ (32 ∷ decimal 6 567890))
+  -- one digit for a number below 10; at the front, whatever the place
+  pub «put_table» : RuledOut (stored (replicate 4 0) 2 (tableText 7)) (0 ∷ 0 ∷ 55 ∷ 0 ∷ [])
+      × RuledOut (stored (replicate 4 0) 2 (tableText 7)) (48 ∷ 55 ∷ 0 ∷ 0 ∷ [])
+  -- the day first; hours' colons for the date's hyphens
+  pub «put_date» : RuledOut (stored (replicate 8 0) 0 (dateText (dateOf 2001 2 3))) (dateText (dateOf 2003 2 1))
+      × RuledOut (stored (replicate 8 0) 0 (dateText (dateOf 2001 2 3))) (timeText (timeOf 1 2 3))
+  -- the seconds first; the date's hyphens for colons
+  pub «put_time» : RuledOut (stored (replicate 8 0) 0 (timeText (timeOf 1 2 3))) (timeText (timeOf 3 2 1))
+      × RuledOut (stored (replicate 8 0) 0 (timeText (timeOf 1 2 3))) (dateText (dateOf 2001 2 3))
+  -- the month first; the year of two digits in front, as a data set has it
+  pub «put_clock» : RuledOut (stored (replicate 19 0) 0 (clockText (clockAt 2001 2 3 4 5 6))) (clockText (clockAt 2001 3 2 4 5 6))
+      × RuledOut (stored (replicate 19 0) 0 (clockText (clockAt 2001 2 3 4 5 6)))
+      (dateText (dateOf 2001 2 3) ++ (59 ∷ (timeText (timeOf 4 5 6) ++ (0 ∷ 0 ∷ []))))
+  -- Wh shown as kWh; two decimals
+  pub «put_counter» : RuledOut (stored (replicate 14 0) 0 (counterText 9 3 1500)) (counterText 9 3 1500000)
+      × RuledOut (stored (replicate 14 0) 0 (counterText 9 3 1500)) (counterText 9 2 150)
