@@ -1,4 +1,4 @@
--- The wrong answers for `meter` and `firmware` are ruled out, by computing. Assumes nothing.
+-- The wrong answers for `meter`, `listening` and `firmware` are ruled out, by computing. Assumes nothing.
 use mathlib.Core.Path.{refl}
 use mathlib.Core.Bool.{cond}
 use lib.Count.{ones}
@@ -32,13 +32,15 @@ use Rattle.meter.specs.Acting.{tried, acted}
 use Rattle.meter.specs.SignOn.{signsOnBy}
 use Rattle.meter.specs.Character.{symbol, lineEnded, confirmed, heard, taken, character}
 use Rattle.meter.specs.Events.{afterSilence, silence, tick, pulse, powerUp}
+use Rattle.listening.specs.declared.Heard.{Heard}
+use Rattle.listening.specs.Listening.{heardAs, heardBy, listened}
 use Rattle.firmware.specs.declared.Reply.{Reply}
 use Rattle.mistakes.specs.Samples.{serial, account, password, twos, newMeter, heldIn}
-use Rattle.mistakes.specs.Events.{told, toldAll, shortPassword, shortTried, signedOn, restarted, Receiving, Passing, Lent}
+use Rattle.mistakes.specs.Events.{told, toldAll, shortPassword, shortTried, signedOn, restarted, Receiving, Passing, Settling, Lent}
 use Rattle.mistakes.proofs.Differing.{seen, number, byte}
 
-pub events : Receiving × Passing × Lent
-unfolding ones damagedAt seven sent bccOf every stored holding between isDigit isLetter isPrintable matching sameText decimal valueFrom valueOf numberAt layoutText pattern agrees fits leap thirty daysIn realDate realTime realClock goodDigits isAccountCharacter goodAccount goodRow goodTable tableText tableRead closed frameOf bracketed setTable signOn limit firstGood heldGood markGood receiverGood countersGood tablesGood factsGood registersGood wellFormed hearing listening confirming framing startGood bareShape content framedShape enclosed inner tableTold toldBy entry bareVerdict framedVerdict shapeVerdict verdict speedOf fallen tried acted signsOnBy symbol lineEnded confirmed heard taken character serial account password twos newMeter heldIn told toldAll shortPassword shortTried signedOn restarted daysBefore dayNumber weekday nextSecond tableFor zoneIn counted afterSilence silence tick pulse powerUp
+pub events : Receiving × Passing × Settling × Lent
+unfolding ones damagedAt seven sent bccOf every stored holding between isDigit isLetter isPrintable matching sameText decimal valueFrom valueOf numberAt layoutText pattern agrees fits leap thirty daysIn realDate realTime realClock goodDigits isAccountCharacter goodAccount goodRow goodTable tableText tableRead closed frameOf bracketed setTable signOn limit firstGood heldGood markGood receiverGood countersGood tablesGood factsGood registersGood wellFormed hearing listening confirming framing startGood bareShape content framedShape enclosed inner tableTold toldBy entry bareVerdict framedVerdict shapeVerdict verdict speedOf fallen tried acted signsOnBy symbol lineEnded confirmed heard taken character serial account password twos newMeter heldIn told toldAll shortPassword shortTried signedOn restarted daysBefore dayNumber weekday nextSecond tableFor zoneIn counted afterSilence silence tick pulse powerUp heardAs heardBy listened
 events = (
   record {
     receive = (seen (λ (a : Answer). a .number) refl, seen (λ (a : Answer). getD (a .next .registers .tables) 144 0) refl);
@@ -47,6 +49,9 @@ events = (
     receive-sign-on = (seen (λ (a : Answer). a .speed) refl, seen (λ (a : Answer). a .next .mode) refl);
     receive-restart = (seen (λ (a : Answer). cond (a .next .receiver .mark) 1 0) refl, seen (λ (a : Answer). a .next .receiver .count) refl);
     receive-refused = (seen (λ (a : Answer). a .number) refl, seen (λ (a : Answer). a .number) refl);
+    take = (seen (λ (a : Answer). a .number) refl, seen (λ (a : Answer). getD (a .next .registers .tables) 144 0) refl);
+    «symbol_of» = (number refl, number refl);
+    «speed_of» = (number refl, number refl);
     «hear_nothing» = (seen (λ (a : Answer). a .length) refl, seen (λ (a : Answer). a .speed) refl);
   },
   record {
@@ -54,6 +59,7 @@ events = (
     «take_pulse» = (seen (λ (a : Answer). a .next .registers .counters .t1) refl, seen (λ (a : Answer). a .number) refl);
     «power_up» = (seen (λ (a : Answer). a .next .attempts) refl, seen (λ (a : Answer). a .next .mode) refl);
   },
+  record { listen = (seen (λ (h : Heard). cond (h .settled) 1 0) refl, seen (λ (h : Heard). h .number) refl) },
   record {
     «receive_in_place» = (seen (λ (r : Reply). r .length) refl, seen (λ (m : Meter). m .receiver .count) refl);
     «dirgemist_meter_receive» = (number refl, number refl);

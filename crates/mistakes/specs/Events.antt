@@ -1,4 +1,4 @@
--- Two wrong answers for each call of `meter` and `firmware`, and some that document 01 warns of.
+-- Two wrong answers for each call of `meter`, `listening` and `firmware`, and some that document 01 warns of.
 use mathlib.Core.Bool.{true}
 use mathlib.Core.List.{[], _∷_}
 use lib.ListN.{length, getD, take, replicate}
@@ -9,10 +9,12 @@ use Rattle.frames.specs.Commands.{P1, W1, bracketed, setTable}
 use Rattle.state.specs.declared.Meter.{Meter}
 use Rattle.replies.specs.Fixed.{accepted, refused, identification}
 use Rattle.hearing.specs.Receivers.{restartedReceiver}
+use Rattle.state.specs.Making.{emptyReceiver}
 use Rattle.changes.specs.Changes.{withReceiver, inMode, withAttempts, withRegisters, withClock, withCounters}
-use Rattle.meter.specs.Outcomes.{Outcome, answerOf, silent, unheard, saying, nak, ack}
-use Rattle.meter.specs.Character.{character}
+use Rattle.meter.specs.Outcomes.{Outcome, answerOf, speedOf, silent, unheard, saying, nak, ack}
+use Rattle.meter.specs.Character.{symbol, taken, character}
 use Rattle.meter.specs.Events.{silence, tick, pulse, powerUp}
+use Rattle.listening.specs.Listening.{goesOn, listened}
 use Rattle.firmware.specs.Replies.{replyOf}
 use Rattle.mistakes.specs.RuledOut.{RuledOut}
 use Rattle.mistakes.specs.Samples.{clockAt, twos, newMeter, heldIn}
@@ -60,6 +62,13 @@ pub record Receiving : Type 0 where
   -- a malformed state said before a short buffer; a character taken in a short buffer
   pub receive-refused : RuledOut (answerOf (character (withAttempts newMeter 4) 2047 47)) (answerOf (unheard 14 (withAttempts newMeter 4)))
       × RuledOut (answerOf (character newMeter 2047 (sent 47))) (answerOf (silent 0 (withReceiver newMeter (restartedReceiver 47))))
+  -- NAK to a good write; ACK to it, and the old tables
+  pub take : RuledOut (answerOf (taken told (sent (getD (frameOf W1 (setTable 7 twos)) 35 0)))) (answerOf (nak 9 told))
+      × RuledOut (answerOf (taken told (sent (getD (frameOf W1 (setTable 7 twos)) 35 0)))) (answerOf (ack (inMode newMeter 4)))
+  -- a damaged '0' taken for a character; the parity bit left on a '1'
+  pub «symbol_of» : RuledOut (symbol 176) 48 × RuledOut (symbol 177) 177
+  -- 9600 baud before the password is asked for; 300 baud while it is
+  pub «speed_of» : RuledOut (speedOf 1) 5 × RuledOut (speedOf 2) 0
   -- no NAK in mode 1; NAK at speed 5
   pub «hear_nothing» : RuledOut (answerOf (silence (inMode newMeter 1) 2048)) (answerOf (silent 1 newMeter))
       × RuledOut (answerOf (silence (inMode newMeter 1) 2048)) (answerOf (saying 1 5 refused newMeter))
@@ -78,6 +87,12 @@ pub record Passing : Type 0 where
   -- the attempts kept; programming mode kept
   pub «power_up» : RuledOut (answerOf (powerUp (withAttempts newMeter 3))) (answerOf (silent 1 (withAttempts newMeter 3)))
       × RuledOut (answerOf (powerUp (inMode newMeter 4))) (answerOf (silent 1 (inMode newMeter 4)))
+
+-- of `listening`
+pub record Settling : Type 0 where
+  -- the last character of a frame settled with nothing said; a character taken in a short buffer
+  pub listen : RuledOut (listened told 2048 (sent (getD (frameOf W1 (setTable 7 twos)) 35 0))) (goesOn 4 emptyReceiver)
+      × RuledOut (listened newMeter 2047 (sent 47)) (goesOn 0 (restartedReceiver 47))
 
 -- of `firmware`
 pub record Lent : Type 0 where

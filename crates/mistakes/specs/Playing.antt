@@ -10,7 +10,7 @@ use Rattle.playing.specs.Reading.{isBytes}
 use Rattle.mistakes.specs.RuledOut.{RuledOut}
 use Rattle.mistakes.specs.Samples.{newMeter}
 
--- of `playing`: what the call leaves, its state and its text
+-- of `playing`
 pub record Playing : Type 0 where
   -- `ti` taken for a tick; a tick called unknown
   pub play : RuledOut (commandPlayed newMeter (116 ∷ 105 ∷ [])) (passed (answerOf (tick newMeter)))
