@@ -63,6 +63,7 @@ pub fn receive_in_place(m: &mut Meter, b: u8, reply: &mut [u8]) -> Reply
         × (now (m .exit) ≡ character (now (m .entry)) (length (now (reply .entry))) b .next)
         × (now (reply .exit) ≡ holding (now (reply .entry)) (onWire (character (now (m .entry)) (length (now (reply .entry))) b .reply))) ⌝ }
 {
+    // Two locals for the two copies: one would lie whole in memory at every call.
     let before = *m;
     let heard = listening::listen(before, b, reply.len());
     if is_settled(heard) {

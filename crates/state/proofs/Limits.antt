@@ -1,5 +1,5 @@
 -- The receiver's places, told one by one: held characters and then unused places. Assumes nothing.
-use mathlib.Core.Path.{_≡_, refl, sym, ap, _∙_}
+use mathlib.Core.Path.{_≡_, refl, sym, _∙_}
 use mathlib.Core.Bool.{Bool, true, false, cond, _&&_, _||_, and-true}
 use mathlib.Core.List.{List, [], _∷_}
 use Prim.Native.Nat.{ℕ, zero, suc, _+_, _-_, _<_, _≤_}
@@ -32,10 +32,6 @@ module _ (s : List ℕ) (i below : ℕ) (ok whole : Bool) where
 from-zero : (hi c : ℕ) → between 0 hi c ≡ leb c hi
 unfolding between
 from-zero hi c = rw (le-leb 0 c (omega arith))
-
-none-false : (a : Bool) → (a && false) ≡ false
-none-false true = refl
-none-false false = refl
 
 held-one : (below c : ℕ) → 128 ≤ below → placeGood below c ≡ between 0 127 c
 unfolding placeGood
