@@ -146,8 +146,10 @@ pub fn part_check(stripped: &[u8]) -> u8
     p.number
 }
 
-// The data between STX and ETX, a part of the caller's own bytes; the empty part at the start where the block is refused.
+// The data between STX and ETX, a part of the caller's own bytes: it lies where they lie, its start further on. The empty part at the start
+// where the block is refused.
 pub fn part(stripped: &[u8]) -> &[u8]
+    ensures lies { λ r. ⌜ r .ptr ≡ (stripped .entry .ptr .0, partOf (now (stripped .entry)) .start + stripped .entry .ptr .1) ⌝ }
     ensures { λ r. ⌜ now r ≡ take (partOf (now (stripped .entry)) .length) (drop (partOf (now (stripped .entry)) .start) (now (stripped .entry))) ⌝ }
 {
     let p = find(stripped);
