@@ -1,11 +1,11 @@
 /* firmware.c: holds a meter as firmware does, in a record of its own, and plays a dialogue of document 01: sign-on, confirmation, password
- * and table writes, then the refusals that leave the record alone. The record, the buffer and the numbers come from malloc at
- * their exact size, so that the address sanitizer sees a byte too many. Prints one line, and exits with 1 on any difference. */
+ * and table writes, then the refusals that leave the record alone. The record, the buffer and the numbers are memory of their exact
+ * size. Prints one line, and exits with 1 on any difference. */
+#include "exactly.h"
+
 #include "dirgemist_meter.h"
 
 #include <stdio.h>
-#include <stdlib.h>
-#include <string.h>
 
 /* The layout that the library uses: C's own, without surprise. */
 _Static_assert(sizeof(struct dirgemist_date) == 4, "date");
@@ -29,14 +29,6 @@ static void expect(int right, const char *what) {
         printf("firmware: differs: %s\n", what);
         wrong = 1;
     }
-}
-
-static void *exactly(size_t size) {
-    void *place = malloc(size);
-    if (place == NULL) {
-        exit(1);
-    }
-    return place;
 }
 
 static uint8_t with_parity(uint8_t character) {
@@ -76,9 +68,9 @@ static void say(struct dirgemist_meter *meter, const char *what, const char *mes
         expect(buffer[at] == with_parity((uint8_t)reply[at]), what);
     }
     expect(meter->receiver.count == 0 && !meter->receiver.mark, what);
-    free(got_speed);
-    free(length);
-    free(buffer);
+    give_back(got_speed, sizeof *got_speed);
+    give_back(length, sizeof *length);
+    give_back(buffer, room);
 }
 
 #define SAY(meter, what, message, number, reply, speed) \
@@ -131,13 +123,13 @@ int main(void) {
     uint8_t speed;
     uint8_t *buffer = exactly(DIRGEMIST_REPLY_ROOM);
     meter->attempts = 4;
-    expect(hear(meter, '/', buffer, DIRGEMIST_REPLY_ROOM - 1, &length, &speed) == 12 && length == 0 && speed == 0, "little room");
+    expect(hear(meter, '/', buffer + 1, DIRGEMIST_REPLY_ROOM - 1, &length, &speed) == 12 && length == 0 && speed == 0, "little room");
     expect(hear(meter, '/', buffer, DIRGEMIST_REPLY_ROOM, &length, &speed) == 14 && length == 0 && speed == 0, "attempts 4");
     expect(meter->attempts == 4 && meter->receiver.count == 0, "nothing held");
     meter->attempts = 0;
     expect(hear(meter, with_parity('/'), buffer, DIRGEMIST_REPLY_ROOM, &length, &speed) == 0 && meter->receiver.count == 1, "held");
-    free(buffer);
-    free(meter);
+    give_back(buffer, DIRGEMIST_REPLY_ROOM);
+    give_back(meter, sizeof *meter);
 
     printf("firmware in C: %d calls, %s\n", calls, wrong ? "WRONG" : "as document 01 has them");
     return wrong;

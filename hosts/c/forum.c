@@ -1,11 +1,10 @@
 /* forum.c: uses the post check and the export as the forum server does, and tries the fixed cases of document 01.
- * Buffers come from malloc at their exact size, so that the address sanitizer sees a byte too many. Prints one line, and
- * exits with 1 on any difference. */
+ * Buffers are memory of their exact size. Prints one line, and exits with 1 on any difference. */
+#include "exactly.h"
+
 #include "dirgemist.h"
 
 #include <stdio.h>
-#include <stdlib.h>
-#include <string.h>
 
 #define TABLES 24
 
@@ -16,16 +15,6 @@ static void expect(int right, const char *what) {
         printf("forum: differs: %s\n", what);
         wrong = 1;
     }
-}
-
-/* A copy of its exact size, so that a read past it is seen. */
-static uint8_t *copy_of(const void *bytes, size_t length) {
-    uint8_t *copy = malloc(length > 0 ? length : 1);
-    if (copy == NULL) {
-        exit(1);
-    }
-    memcpy(copy, bytes, length);
-    return copy;
 }
 
 /* The posts of tables 1 to `lines`, every row all '1', into text; its length. */
@@ -41,12 +30,9 @@ static size_t post_of(uint8_t *text, int lines) {
 /* One text through both functions, in a buffer of `room` bytes of 0x5A; what the export wrote is compared with `frames`. */
 static void try_text(const char *what, const void *text, size_t text_length, size_t room, uint8_t number, size_t length, size_t place,
                      const uint8_t *frames) {
-    uint8_t *own = copy_of(text, text_length);
-    uint8_t *out = malloc(room > 0 ? room : 1);
-    if (out == NULL) {
-        exit(1);
-    }
-    memset(out, 0x5A, room > 0 ? room : 1);
+    const uint8_t *own = lent(text, text_length);
+    uint8_t *out = exactly(room);
+    memset(out, 0x5A, room);
 
     size_t got_place = 99, got_length = 99;
     uint8_t got = dirgemist_post_check(own, text_length, &got_place);
@@ -62,8 +48,8 @@ static void try_text(const char *what, const void *text, size_t text_length, siz
     for (size_t at = length; at < room; at++) {
         expect(out[at] == 0x5A, what);
     }
-    free(out);
-    free(own);
+    give_back(out, room);
+    give_back(own, text_length);
 }
 
 int main(void) {

@@ -1,4 +1,5 @@
-// A post from standard input, delivered to a factory-new meter in programming mode: the number, the acknowledgements, and the meter's 24 rows.
+// A post from standard input, delivered to a blank meter in programming mode: `1`, a space and the acknowledgements, or for any other text `20`, a space
+// and the place; then the meter's 24 rows, a line each.
 use state::Registers;
 
 const STDIN: i32 = 0;
@@ -31,6 +32,14 @@ fn print_tables(g: Registers) {
     print_rows(&tables);
 }
 
+// What stands behind the number.
+fn detail(number: u8, place: usize, acknowledged: usize) -> usize {
+    if number == 1 {
+        return acknowledged;
+    }
+    place
+}
+
 fn main() {
     let mut text = io::buffer();
     let n = io::read_full(STDIN, &mut text);
@@ -39,9 +48,10 @@ fn main() {
     let delivered = delivery::deliver(ready, &text[..n]);
     let next = delivered.next;
     let registers = next.registers;
+    let shown = detail(delivered.number, delivered.place, delivered.acknowledged);
     io::print_decimal(STDOUT, delivered.number as u64);
     io::write_all(STDOUT, b" ");
-    io::print_decimal(STDOUT, delivered.acknowledged as u64);
+    io::print_decimal(STDOUT, shown as u64);
     io::write_all(STDOUT, b"\n");
     print_tables(registers);
 }
