@@ -241,7 +241,7 @@ module _ (m : Meter) (h : wellFormed m ≡ true) where
         leave = in-mode m 0 h (omega arith);
         enter = λ e. in-mode m 3 h (omega arith);
         password = λ e. tried-stays;
-        read = λ a. in-mode m (m .mode) h (formed m h .mode);
+        read = λ a k. in-mode m (m .mode) h (formed m h .mode);
         write = λ e f.
             record {
               clock = λ c r. wrote-stays _ (clock-good (m .registers) c (own m h) r);

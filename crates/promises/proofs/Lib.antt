@@ -1,5 +1,6 @@
 pub mod Choices
 pub mod Verdicts
-pub mod Kept
 pub mod Pieces
+pub mod Kept
+pub mod Malformed
 pub mod Formed
