@@ -84,7 +84,7 @@ symbol-small b = choice.either (λ (c : ℕ). (leb 0 c && leb c 127) ≡ true) (
     small : (c : ℕ) → c < 128 → (leb 0 c && leb c 127) ≡ true
     small c h = rw (le-leb 0 c (omega arith), le-leb c 127 (omega arith))
 
-empty-good : (mode : ℕ) → receiverGood mode emptyReceiver ≡ true
+pub empty-good : (mode : ℕ) → receiverGood mode emptyReceiver ≡ true
 unfolding heldGood firstGood markGood every between
 empty-good mode =
     receiver-good mode emptyReceiver

@@ -4,3 +4,4 @@ pub mod Pieces
 pub mod Kept
 pub mod Malformed
 pub mod Formed
+pub mod Beginning
