@@ -244,9 +244,9 @@ module _ (m : Meter) (h : wellFormed m ≡ true) where
         read = λ a k. in-mode m (m .mode) h (formed m h .mode);
         write = λ e f.
             record {
-              clock = λ c r. wrote-stays _ (clock-good (m .registers) c (own m h) r);
+              clock = λ c i r. wrote-stays _ (clock-good (m .registers) c (own m h) r);
               account = λ r. wrote-stays _ (account-good (m .registers) (accountGiven m) (own m h) (account-is (m .receiver .count) (m .receiver .held) r));
-              table = λ t g r.
+              table = λ t i g r.
                   choice.either Stays (goodTable 24 (t .0))
                   (wrote-stays _ (tables-good (m .registers) ((t .0 - 1) * 24) (rowGiven m) (own m h) (row-is (m .receiver .count) (m .receiver .held) r)))
                   falls;

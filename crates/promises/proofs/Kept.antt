@@ -12,6 +12,9 @@ use Rattle.text.specs.Writing.{stored}
 use Rattle.clock.specs.Seconds.{realClock}
 use Rattle.clock.specs.declared.Clock.{Clock}
 use Rattle.values.specs.declared.TableNo.{TableNo}
+use Rattle.values.specs.Reading.{clockRead, tableRead}
+use Rattle.values.specs.declared.reading.ClockRead.{ClockRead}
+use Rattle.values.specs.declared.reading.TableRead.{TableRead}
 use Rattle.values.specs.Registers.{goodAccount, goodRow, goodTable}
 use Rattle.state.specs.declared.Registers.{Registers}
 use Rattle.state.specs.declared.Meter.{Meter}
@@ -50,9 +53,11 @@ pub record Written (m : Meter) (b : ℕ) (v : Verdict) : Type 0 where
 -- the registers after an outcome: as they were, or with the one register that an accepted write names, and what it tells of it
 pub data Kept (m : Meter) (b : ℕ) (o : Outcome) : Type 0 where
   same : o .next .registers ≡ m .registers → Kept m b o
-  clock : (c : Clock) → Written m b (WriteClock c) → realClock c ≡ true → o .number ≡ 1 → o .next .registers ≡ withClock (m .registers) c → Kept m b o
-  account : Written m b WriteAccount → goodAccount (tellsOf m) ≡ true → o .number ≡ 1 → o .next .registers ≡ withAccount (m .registers) (tellsOf m) → Kept m b o
-  table : (t : TableNo) → Written m b (WriteTable t) → goodTable 24 (t .0) ≡ true → goodRow (drop 3 (tellsOf m)) ≡ true → o .number ≡ 1
+  clock : (c : Clock) → Written m b (WriteClock c) → c ≡ clockRead (tellsOf m) .clock → realClock c ≡ true → o .number ≡ 1
+      → o .next .registers ≡ withClock (m .registers) c → Kept m b o
+  account : Written m b WriteAccount → goodAccount (tellsOf m) ≡ true → o .number ≡ 1
+      → o .next .registers ≡ withAccount (m .registers) (tellsOf m) → Kept m b o
+  table : (t : TableNo) → Written m b (WriteTable t) → t ≡ tableRead 24 (take 2 (tellsOf m)) .table → goodTable 24 (t .0) ≡ true → goodRow (drop 3 (tellsOf m)) ≡ true → o .number ≡ 1
       → o .next .registers ≡ withTables (m .registers) (stored (m .registers .tables) ((t .0 - 1) * 24) (drop 3 (tellsOf m))) → Kept m b o
 
 module _ (m : Meter) (b : ℕ) where
@@ -78,13 +83,13 @@ module _ (m : Meter) (b : ℕ) where
         read = λ a g e. same refl;
         write = λ k w.
             record {
-              clock = λ c r e. clock c (record { programming = k; completed = f; started = w; decided = e }) r refl refl;
+              clock = λ c i r e. clock c (record { programming = k; completed = f; started = w; decided = e }) i r refl refl;
               account = λ r e.
                   account (record { programming = k; completed = f; started = w; decided = e }) r refl
                   (ap (withAccount (m .registers)) (sym (account-told (m .receiver .count) (m .receiver .held) r)));
-              table = λ t g r e.
+              table = λ t i g r e.
                   choice.either (Kept m b) (goodTable 24 (t .0))
-                  (table t (record { programming = k; completed = f; started = w; decided = e }) g r refl
+                  (table t (record { programming = k; completed = f; started = w; decided = e }) i g r refl
                   (ap (λ (x : List ℕ). withTables (m .registers) (stored (m .registers .tables) ((t .0 - 1) * 24) x)) (sym (row-told (m .receiver .count) (m .receiver .held) r))))
                   (same refl);
               wrong = λ e. same refl;
@@ -129,6 +134,6 @@ module _ (m : Meter) (b : ℕ) where
     where
       take-out : Kept m b (character m room b) → character m room b .next .registers ≡ m .registers
       take-out (same e) = e
-      take-out (clock c w r n e) = absurd (other n)
+      take-out (clock c w i r n e) = absurd (other n)
       take-out (account w r n e) = absurd (other n)
-      take-out (table t w g r n e) = absurd (other n)
+      take-out (table t w i g r n e) = absurd (other n)

@@ -91,9 +91,9 @@ frame-never m mark sum =
       read = λ a g e. omega arith;
       write = λ k f.
           record {
-            clock = λ c r e. omega arith;
+            clock = λ c i r e. omega arith;
             account = λ r e. omega arith;
-            table = λ t g r. choice.either Never (goodTable 24 (t .0)) (λ e. omega arith) (λ e. omega arith);
+            table = λ t i g r. choice.either Never (goodTable 24 (t .0)) (λ e. omega arith) (λ e. omega arith);
             wrong = λ e. omega arith;
           };
     })

@@ -83,22 +83,22 @@ write-starts h f w =
 
 -- what is known of a write that was told
 pub record Told (d : List ℕ) (P : Verdict → Type 0) : Type 0 where
-  pub clock : (c : Clock) → realClock c ≡ true → P (WriteClock c)
+  pub clock : (c : Clock) → c ≡ clockRead (inner d) .clock → realClock c ≡ true → P (WriteClock c)
   pub account : goodAccount (inner d) ≡ true → P WriteAccount
-  pub table : (t : TableNo) → goodTable 24 (t .0) ≡ true → goodRow (drop 3 (inner d)) ≡ true → P (WriteTable t)
+  pub table : (t : TableNo) → t ≡ tableRead 24 (take 2 (inner d)) .table → goodTable 24 (t .0) ≡ true → goodRow (drop 3 (inner d)) ≡ true → P (WriteTable t)
   pub wrong : P (Refuse 9)
 
 pub told-all : (P : Verdict → Type 0) (d : List ℕ) → Told d P → P (told d)
 unfolding told clockTold accountTold tableTold
 told-all P d k =
     choice.either P (enclosed 84 d)
-    (choice.given P (clockRead (inner d) .ok) (λ h. k .clock (clockRead (inner d) .clock) (clock-real (inner d) h)) (k .wrong))
+    (choice.given P (clockRead (inner d) .ok) (λ h. k .clock (clockRead (inner d) .clock) refl (clock-real (inner d) h)) (k .wrong))
     (choice.either P (enclosed 75 d)
     (choice.given P (goodAccount (inner d)) (k .account) (k .wrong))
     (choice.either P (enclosed 90 d)
     (choice.given P (eqb (getD (inner d) 2 0) 59 && goodRow (drop 3 (inner d)))
     (λ g. choice.given P (tableRead 24 (take 2 (inner d)) .ok)
-    (λ h. k .table (tableRead 24 (take 2 (inner d)) .table) (table-real (take 2 (inner d)) h) (and-right (eqb (getD (inner d) 2 0) 59) (goodRow (drop 3 (inner d))) g))
+    (λ h. k .table (tableRead 24 (take 2 (inner d)) .table) refl (table-real (take 2 (inner d)) h) (and-right (eqb (getD (inner d) 2 0) 59) (goodRow (drop 3 (inner d))) g))
     (k .wrong))
     (k .wrong))
     (k .wrong)))
@@ -190,7 +190,7 @@ read-answerable mode h mark sum a e =
       enter = λ k. refl;
       password = λ k. refl;
       read = λ b k. k;
-      write = λ k w. record { clock = λ c r. refl; account = λ r. refl; table = λ t g r. refl; wrong = refl };
+      write = λ k w. record { clock = λ c i r. refl; account = λ r. refl; table = λ t i g r. refl; wrong = refl };
     })
     in
     (rw e at all)
