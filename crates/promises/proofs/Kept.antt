@@ -5,17 +5,11 @@ use mathlib.Core.Bool.{Bool, true, false, cond, _||_}
 use mathlib.Core.List.{List}
 use Prim.Native.Nat.{ℕ, _-_, _*_}
 use lib.Dec.{eqb, ltb}
-use lib.ListN.{take, drop}
 use Rattle.line.specs.Characters.{damagedAt}
 use Rattle.text.specs.Classes.{sameText}
 use Rattle.text.specs.Writing.{stored}
-use Rattle.clock.specs.Seconds.{realClock}
-use Rattle.clock.specs.declared.Clock.{Clock}
 use Rattle.values.specs.declared.TableNo.{TableNo}
-use Rattle.values.specs.Reading.{clockRead, tableRead}
-use Rattle.values.specs.declared.reading.ClockRead.{ClockRead}
-use Rattle.values.specs.declared.reading.TableRead.{TableRead}
-use Rattle.values.specs.Registers.{goodAccount, goodRow, goodTable}
+use Rattle.values.specs.Registers.{goodTable}
 use Rattle.state.specs.declared.Registers.{Registers}
 use Rattle.state.specs.declared.Meter.{Meter}
 use Rattle.state.specs.WellFormed.{wellFormed}
@@ -26,39 +20,15 @@ use Rattle.hearing.specs.Hearing.{hearing}
 use Rattle.hearing.specs.Receivers.{heldText, lastHeld}
 use Rattle.deciding.specs.declared.Verdict.{Verdict}
 use Rattle.deciding.specs.declared.Verdict.the-variants.{Refuse, Leave, Enter, Password, Read, WriteClock, WriteAccount, WriteTable}
-use Rattle.deciding.specs.Shape.{content}
-use Rattle.deciding.specs.Telling.{inner}
 use Rattle.deciding.specs.Verdict.{verdict}
 use Rattle.meter.specs.Outcomes.{Outcome}
 use Rattle.meter.specs.SignOn.{signsOnBy, wantsBlock, wantsProgram}
 use Rattle.meter.specs.Acting.{passwordGiven, tried, acted}
 use Rattle.meter.specs.Character.{symbol, lineEnded, confirmed, heard, taken, character}
+use Rattle.promises.specs.Writes.{Written, Kept, same, clock, account, table}
 use Rattle.promises.proofs.Choices as choice
 use Rattle.promises.proofs.Pieces.{account-told, row-told}
-use Rattle.promises.proofs.Verdicts.{writeStart, Told, Known, verdict-all}
-
--- ---- what stays and what can change
-
--- what a frame tells between its brackets
-abbrev pub tellsOf : Meter → List ℕ
-tellsOf m = inner (content (heldText (m .receiver)))
-
--- the byte completes a frame that starts SOH W1 STX, in mode 4, and the meter decides it so
-pub record Written (m : Meter) (b : ℕ) (v : Verdict) : Type 0 where
-  pub programming : m .mode ≡ 4
-  pub completed : hearing (m .mode) (m .receiver .count) (lastHeld (m .receiver)) (symbol b) ≡ Frame
-  pub started : take 4 (heldText (m .receiver)) ≡ writeStart
-  pub decided : verdict (m .mode) (heldText (m .receiver)) (m .receiver .mark || damagedAt b) (symbol b) ≡ v
-
--- the registers after an outcome: as they were, or with the one register that an accepted write names, and what it tells of it
-pub data Kept (m : Meter) (b : ℕ) (o : Outcome) : Type 0 where
-  same : o .next .registers ≡ m .registers → Kept m b o
-  clock : (c : Clock) → Written m b (WriteClock c) → c ≡ clockRead (tellsOf m) .clock → realClock c ≡ true → o .number ≡ 1
-      → o .next .registers ≡ withClock (m .registers) c → Kept m b o
-  account : Written m b WriteAccount → goodAccount (tellsOf m) ≡ true → o .number ≡ 1
-      → o .next .registers ≡ withAccount (m .registers) (tellsOf m) → Kept m b o
-  table : (t : TableNo) → Written m b (WriteTable t) → t ≡ tableRead 24 (take 2 (tellsOf m)) .table → goodTable 24 (t .0) ≡ true → goodRow (drop 3 (tellsOf m)) ≡ true → o .number ≡ 1
-      → o .next .registers ≡ withTables (m .registers) (stored (m .registers .tables) ((t .0 - 1) * 24) (drop 3 (tellsOf m))) → Kept m b o
+use Rattle.promises.proofs.Verdicts.{Told, Known, verdict-all}
 
 module _ (m : Meter) (b : ℕ) where
   tried-kept : Kept m b (tried m)

@@ -2,11 +2,14 @@
 -- replied, the speed given is 0. A well-formed state never gives 14. Assumes nothing.
 use mathlib.Core.Path.{_≡_, refl}
 use mathlib.Core.Bool.{Bool, true, false, cond, _||_}
+use mathlib.Core.List.{List}
 use Prim.Native.Nat.{ℕ}
 use native.Mathlib.Omega.{arith}
 use lib.Dec.{eqb, ltb}
 use Rattle.line.specs.Characters.{damagedAt}
 use Rattle.text.specs.Classes.{sameText}
+use Rattle.text.specs.Writing.{holding}
+use Rattle.frames.specs.Frames.{onWire}
 use Rattle.values.specs.Registers.{goodTable}
 use Rattle.state.specs.declared.Meter.{Meter}
 use Rattle.state.specs.WellFormed.{wellFormed}
@@ -37,6 +40,11 @@ short-silence m room h = rw h
 pub large-pulse : (m : Meter) (wh : ℕ) → ltb 1000000 wh ≡ true → pulse m wh ≡ unheard 13 m
 unfolding pulse
 large-pulse m wh h = rw h
+
+-- what is not heard leaves the buffer as it was
+pub unheard-buffer : (n : ℕ) (m : Meter) (buf : List ℕ) → holding buf (onWire (unheard n m .reply)) ≡ buf
+unfolding holding
+unheard-buffer n m buf = refl
 
 -- ---- nor is any call with a malformed state
 

@@ -24,13 +24,13 @@ use Rattle.values.specs.declared.reading.TableRead.{TableRead}
 use Rattle.values.specs.declared.TableNo.{TableNo}
 use Rattle.values.specs.Texts.{clockForm, tableForm}
 use Rattle.replies.specs.declared.Ask.{Ask}
-use Rattle.replies.specs.declared.Ask.the-variants as ask
 use Rattle.deciding.specs.declared.Verdict.{Verdict}
 use Rattle.deciding.specs.declared.Verdict.the-variants.{Refuse, Leave, Enter, Password, Read, WriteClock, WriteAccount, WriteTable}
 use Rattle.deciding.specs.Shape.{startGood, bareShape, framedShape, content}
 use Rattle.deciding.specs.Asking.{asked, energyAsked, tableAsked}
 use Rattle.deciding.specs.Telling.{enclosed, inner, told, clockTold, accountTold, tableTold}
 use Rattle.deciding.specs.Verdict.{entry, bareVerdict, framedVerdict, shapeVerdict, verdict}
+use Rattle.promises.specs.Writes.{writeStart, answerable}
 use Rattle.promises.proofs.Choices as choice
 
 -- a clock that reads is real
@@ -51,10 +51,6 @@ table-real s h =
     let k : some .ok ≡ true = rw f at h in
     let r = chosen (λ (r : TableRead). r .ok) (goodTable 24 (numberAt s 0 2)) _ noTable refl k in
     rw (f, r) r
-
--- SOH W1 STX
-abbrev pub writeStart : List ℕ
-writeStart = 1 ∷ 87 ∷ 49 ∷ 2 ∷ []
 
 four : (h : List ℕ) → 5 ≤ length h → take 4 h ≡ getD h 0 0 ∷ getD h 1 0 ∷ getD h 2 0 ∷ getD h 3 0 ∷ []
 four [] l = absurd (omega arith)
@@ -102,14 +98,6 @@ told-all P d k =
     (k .wrong))
     (k .wrong))
     (k .wrong)))
-
--- what is asked can be answered: a table is one of the 24
-unfoldable pub answerable : Ask → Bool
-answerable (ask.Table t) = goodTable 24 (t .0)
-answerable ask.Clock = true
-answerable ask.Serial = true
-answerable ask.Account = true
-answerable (ask.Energy n) = true
 
 pub asked-all : (P : Verdict → Type 0) (d : List ℕ) → ((a : Ask) → answerable a ≡ true → P (Read a)) → P (Refuse 9) → P (asked d)
 unfolding asked energyAsked tableAsked answerable
