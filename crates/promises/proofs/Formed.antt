@@ -84,7 +84,7 @@ symbol-small b = choice.either (λ (c : ℕ). (leb 0 c && leb c 127) ≡ true) (
     small : (c : ℕ) → c < 128 → (leb 0 c && leb c 127) ≡ true
     small c h = rw (le-leb 0 c (omega arith), le-leb c 127 (omega arith))
 
-empty-good : (mode : ℕ) → receiverGood mode emptyReceiver ≡ true
+pub empty-good : (mode : ℕ) → receiverGood mode emptyReceiver ≡ true
 unfolding heldGood firstGood markGood every between
 empty-good mode =
     receiver-good mode emptyReceiver
@@ -241,12 +241,12 @@ module _ (m : Meter) (h : wellFormed m ≡ true) where
         leave = in-mode m 0 h (omega arith);
         enter = λ e. in-mode m 3 h (omega arith);
         password = λ e. tried-stays;
-        read = λ a. in-mode m (m .mode) h (formed m h .mode);
+        read = λ a k. in-mode m (m .mode) h (formed m h .mode);
         write = λ e f.
             record {
-              clock = λ c r. wrote-stays _ (clock-good (m .registers) c (own m h) r);
+              clock = λ c i r. wrote-stays _ (clock-good (m .registers) c (own m h) r);
               account = λ r. wrote-stays _ (account-good (m .registers) (accountGiven m) (own m h) (account-is (m .receiver .count) (m .receiver .held) r));
-              table = λ t g r.
+              table = λ t i g r.
                   choice.either Stays (goodTable 24 (t .0))
                   (wrote-stays _ (tables-good (m .registers) ((t .0 - 1) * 24) (rowGiven m) (own m h) (row-is (m .receiver .count) (m .receiver .held) r)))
                   falls;

@@ -1,5 +1,7 @@
 pub mod Choices
 pub mod Verdicts
-pub mod Kept
 pub mod Pieces
+pub mod Kept
+pub mod Malformed
 pub mod Formed
+pub mod Beginning

@@ -93,14 +93,21 @@ same-row n l e =
     let b = bounds n l 27 (omega arith) k in
     sym (take-all 24 (drop 3 x) (omega arith)) ∙ cut-row n l b
 
-pub account-is : (n : ℕ) (l : List ℕ) → goodAccount (inner (content (take n l))) ≡ true → goodAccount (take 10 (drop 6 l)) ≡ true
-account-is n l g = (rw (same-account n l (account-length (inner (content (take n l))) g)) at g)
+-- the account and the row that a frame tells stand at the 6th and the 9th place of what is held
+pub account-told : (n : ℕ) (l : List ℕ) → goodAccount (inner (content (take n l))) ≡ true → inner (content (take n l)) ≡ take 10 (drop 6 l)
+account-told n l g = same-account n l (account-length (inner (content (take n l))) g)
   where
     account-length : (x : List ℕ) → goodAccount x ≡ true → length x ≡ 10
     account-length x h = unfold goodAccount in (eqb-true (length x) 10 (and-left (eqb (length x) 10) (every isAccountCharacter x) h))
 
-pub row-is : (n : ℕ) (l : List ℕ) → goodRow (drop 3 (inner (content (take n l)))) ≡ true → goodRow (take 24 (drop 9 l)) ≡ true
-row-is n l g = (rw (same-row n l (row-length (drop 3 (inner (content (take n l)))) g)) at g)
+pub row-told : (n : ℕ) (l : List ℕ) → goodRow (drop 3 (inner (content (take n l)))) ≡ true → drop 3 (inner (content (take n l))) ≡ take 24 (drop 9 l)
+row-told n l g = same-row n l (row-length (drop 3 (inner (content (take n l)))) g)
   where
     row-length : (x : List ℕ) → goodRow x ≡ true → length x ≡ 24
     row-length x h = unfold goodRow in (eqb-true (length x) 24 (and-left (eqb (length x) 24) (every (between 49 52) x) h))
+
+pub account-is : (n : ℕ) (l : List ℕ) → goodAccount (inner (content (take n l))) ≡ true → goodAccount (take 10 (drop 6 l)) ≡ true
+account-is n l g = (rw (account-told n l g) at g)
+
+pub row-is : (n : ℕ) (l : List ℕ) → goodRow (drop 3 (inner (content (take n l)))) ≡ true → goodRow (take 24 (drop 9 l)) ≡ true
+row-is n l g = (rw (row-told n l g) at g)

@@ -3,15 +3,17 @@
 use mathlib.Core.Path.{_≡_, refl, sym, ap, _∙_}
 use mathlib.Core.Bool.{Bool, true, false, cond, _&&_, _||_}
 use mathlib.Core.List.{List, [], _∷_}
-use Prim.Native.Nat.{ℕ, _+_}
+use Prim.Native.Nat.{ℕ, _-_, _≤_}
+use native.Mathlib.Omega.{arith}
 use lib.Dec.{eqb, leb}
-use lib.ListN.{getD, take, drop}
-use borrow.Author.Tests.{eqb-true}
+use lib.ListN.{length, getD, take, drop}
+use borrow.Author.Tests.{eqb-true, leb-true}
 use Rattle.line.proofs.Runs.{and-left, and-right, chosen}
 use Rattle.clock.specs.Seconds.{realClock}
 use Rattle.clock.specs.declared.Clock.{Clock}
-use Rattle.text.specs.Classes.{sameText}
+use Rattle.text.specs.Classes.{sameText, isPrintable}
 use Rattle.line.specs.Checksum.{bccOf}
+use Rattle.line.specs.Runs.{every}
 use Rattle.text.specs.Decimal.{numberAt}
 use Rattle.text.specs.Layout.{fits, pattern}
 use Rattle.frames.specs.Commands.{bracketed, askClock, askSerial, askAccount, askEnergy}
@@ -24,10 +26,11 @@ use Rattle.values.specs.Texts.{clockForm, tableForm}
 use Rattle.replies.specs.declared.Ask.{Ask}
 use Rattle.deciding.specs.declared.Verdict.{Verdict}
 use Rattle.deciding.specs.declared.Verdict.the-variants.{Refuse, Leave, Enter, Password, Read, WriteClock, WriteAccount, WriteTable}
-use Rattle.deciding.specs.Shape.{bareShape, framedShape, content}
+use Rattle.deciding.specs.Shape.{startGood, bareShape, framedShape, content}
 use Rattle.deciding.specs.Asking.{asked, energyAsked, tableAsked}
 use Rattle.deciding.specs.Telling.{enclosed, inner, told, clockTold, accountTold, tableTold}
 use Rattle.deciding.specs.Verdict.{entry, bareVerdict, framedVerdict, shapeVerdict, verdict}
+use Rattle.promises.specs.Writes.{writeStart, answerable}
 use Rattle.promises.proofs.Choices as choice
 
 -- a clock that reads is real
@@ -49,41 +52,66 @@ table-real s h =
     let r = chosen (λ (r : TableRead). r .ok) (goodTable 24 (numberAt s 0 2)) _ noTable refl k in
     rw (f, r) r
 
+four : (h : List ℕ) → 5 ≤ length h → take 4 h ≡ getD h 0 0 ∷ getD h 1 0 ∷ getD h 2 0 ∷ getD h 3 0 ∷ []
+four [] l = absurd (omega arith)
+four (a ∷ []) l = absurd (omega arith)
+four (a ∷ b ∷ []) l = absurd (omega arith)
+four (a ∷ b ∷ c ∷ []) l = absurd (omega arith)
+four (a ∷ b ∷ c ∷ d ∷ h) l = refl
+
+-- a shaped frame whose command is W1 starts so
+write-starts : (h : List ℕ) → framedShape h ≡ true → (eqb (getD h 1 0) 87 && eqb (getD h 2 0) 49) ≡ true → take 4 h ≡ writeStart
+unfolding framedShape startGood
+write-starts h f w =
+    let soh = eqb (getD h 0 0) 1 in
+    let words = isPrintable (getD h 1 0) && isPrintable (getD h 2 0) in
+    let long = leb 5 (length h) in
+    let stx = eqb (getD h 3 0) 2 in
+    let etx = eqb (getD h (length h - 1) 0) 3 in
+    let all = and-left ((soh && words) && ((long && stx) && etx)) (every isPrintable (content h)) f in
+    let start = and-left soh words (and-left (soh && words) ((long && stx) && etx) all) in
+    let opens = and-left (long && stx) etx (and-right (soh && words) ((long && stx) && etx) all) in
+    let is0 = eqb-true (getD h 0 0) 1 start in
+    let is1 = eqb-true (getD h 1 0) 87 (and-left (eqb (getD h 1 0) 87) (eqb (getD h 2 0) 49) w) in
+    let is2 = eqb-true (getD h 2 0) 49 (and-right (eqb (getD h 1 0) 87) (eqb (getD h 2 0) 49) w) in
+    let is3 = eqb-true (getD h 3 0) 2 (and-right long stx opens) in
+    rw (four h (leb-true 5 (length h) (and-left long stx opens)), is0, is1, is2, is3)
+
 -- what is known of a write that was told
 pub record Told (d : List ℕ) (P : Verdict → Type 0) : Type 0 where
-  pub clock : (c : Clock) → realClock c ≡ true → P (WriteClock c)
+  pub clock : (c : Clock) → c ≡ clockRead (inner d) .clock → realClock c ≡ true → P (WriteClock c)
   pub account : goodAccount (inner d) ≡ true → P WriteAccount
-  pub table : (t : TableNo) → goodTable 24 (t .0) ≡ true → goodRow (drop 3 (inner d)) ≡ true → P (WriteTable t)
+  pub table : (t : TableNo) → t ≡ tableRead 24 (take 2 (inner d)) .table → goodTable 24 (t .0) ≡ true → goodRow (drop 3 (inner d)) ≡ true → P (WriteTable t)
   pub wrong : P (Refuse 9)
 
 pub told-all : (P : Verdict → Type 0) (d : List ℕ) → Told d P → P (told d)
 unfolding told clockTold accountTold tableTold
 told-all P d k =
     choice.either P (enclosed 84 d)
-    (choice.given P (clockRead (inner d) .ok) (λ h. k .clock (clockRead (inner d) .clock) (clock-real (inner d) h)) (k .wrong))
+    (choice.given P (clockRead (inner d) .ok) (λ h. k .clock (clockRead (inner d) .clock) refl (clock-real (inner d) h)) (k .wrong))
     (choice.either P (enclosed 75 d)
     (choice.given P (goodAccount (inner d)) (k .account) (k .wrong))
     (choice.either P (enclosed 90 d)
     (choice.given P (eqb (getD (inner d) 2 0) 59 && goodRow (drop 3 (inner d)))
     (λ g. choice.given P (tableRead 24 (take 2 (inner d)) .ok)
-    (λ h. k .table (tableRead 24 (take 2 (inner d)) .table) (table-real (take 2 (inner d)) h) (and-right (eqb (getD (inner d) 2 0) 59) (goodRow (drop 3 (inner d))) g))
+    (λ h. k .table (tableRead 24 (take 2 (inner d)) .table) refl (table-real (take 2 (inner d)) h) (and-right (eqb (getD (inner d) 2 0) 59) (goodRow (drop 3 (inner d))) g))
     (k .wrong))
     (k .wrong))
     (k .wrong)))
 
-pub asked-all : (P : Verdict → Type 0) (d : List ℕ) → ((a : Ask) → P (Read a)) → P (Refuse 9) → P (asked d)
-unfolding asked energyAsked tableAsked
+pub asked-all : (P : Verdict → Type 0) (d : List ℕ) → ((a : Ask) → answerable a ≡ true → P (Read a)) → P (Refuse 9) → P (asked d)
+unfolding asked energyAsked tableAsked answerable
 asked-all P d read wrong =
-    choice.either P (sameText d askClock) (read _)
-    (choice.either P (sameText d askSerial) (read _)
-    (choice.either P (sameText d askAccount) (read _)
-    (choice.either P (sameText d (askEnergy 0)) (read _)
-    (choice.either P (sameText d (askEnergy 1)) (read _)
-    (choice.either P (sameText d (askEnergy 2)) (read _)
-    (choice.either P (sameText d (askEnergy 3)) (read _)
-    (choice.either P (sameText d (askEnergy 4)) (read _)
+    choice.either P (sameText d askClock) (read _ refl)
+    (choice.either P (sameText d askSerial) (read _ refl)
+    (choice.either P (sameText d askAccount) (read _ refl)
+    (choice.either P (sameText d (askEnergy 0)) (read _ refl)
+    (choice.either P (sameText d (askEnergy 1)) (read _ refl)
+    (choice.either P (sameText d (askEnergy 2)) (read _ refl)
+    (choice.either P (sameText d (askEnergy 3)) (read _ refl)
+    (choice.either P (sameText d (askEnergy 4)) (read _ refl)
     (choice.either P (fits (90 ∷ 40 ∷ 35 ∷ 35 ∷ 41 ∷ []) d)
-    (choice.either P (tableRead 24 (take 2 (drop 2 d)) .ok) (read _) wrong)
+    (choice.given P (tableRead 24 (take 2 (drop 2 d)) .ok) (λ h. read _ (table-real (take 2 (drop 2 d)) h)) wrong)
     wrong))))))))
 
 -- the numbers with which a frame is refused here
@@ -101,8 +129,8 @@ pub record Known (mode : ℕ) (h : List ℕ) (P : Verdict → Type 0) : Type 0 w
   pub leave : P Leave
   pub enter : mode ≡ 2 → P Enter
   pub password : mode ≡ 2 → P Password
-  pub read : (a : Ask) → P (Read a)
-  pub write : mode ≡ 4 → framedShape h ≡ true → Told (content h) P
+  pub read : (a : Ask) → answerable a ≡ true → P (Read a)
+  pub write : mode ≡ 4 → take 4 h ≡ writeStart → Told (content h) P
 
 pub verdict-all : (P : Verdict → Type 0) (mode : ℕ) (h : List ℕ) (mark : Bool) (sum : ℕ) → Known mode h P → P (verdict mode h mark sum)
 unfolding verdict shapeVerdict bareVerdict framedVerdict entry
@@ -122,8 +150,35 @@ verdict-all P mode h mark sum k =
     no8)
     (choice.either P (eqb a 82 && eqb b 49)
     (choice.either P (eqb mode 3 || eqb mode 4) (asked-all P (content h) (k .read) (k .refuse 9 content-wrong)) no8)
-    (choice.either P (eqb a 87 && eqb b 49)
-    (choice.given P (eqb mode 4) (λ e. told-all P (content h) (k .write (eqb-true mode 4 e) f)) no8)
+    (choice.given P (eqb a 87 && eqb b 49)
+    (λ w. choice.given P (eqb mode 4) (λ e. told-all P (content h) (k .write (eqb-true mode 4 e) (write-starts h f w))) no8)
     (k .refuse 7 unknown))))
     (k .refuse 6 shape)))
     (k .refuse 4 checksum))
+
+-- a meter answers only what it has
+sound : Verdict → Bool
+sound (Refuse n) = true
+sound Leave = true
+sound Enter = true
+sound Password = true
+sound (Read a) = answerable a
+sound (WriteClock c) = true
+sound WriteAccount = true
+sound (WriteTable t) = true
+
+pub read-answerable : (mode : ℕ) (h : List ℕ) (mark : Bool) (sum : ℕ) (a : Ask) → verdict mode h mark sum ≡ Read a → answerable a ≡ true
+unfolding sound
+read-answerable mode h mark sum a e =
+    let all =
+    verdict-all (λ (v : Verdict). sound v ≡ true) mode h mark sum
+    (record {
+      refuse = λ n k. refl;
+      leave = refl;
+      enter = λ k. refl;
+      password = λ k. refl;
+      read = λ b k. k;
+      write = λ k w. record { clock = λ c i r. refl; account = λ r. refl; table = λ t i g r. refl; wrong = refl };
+    })
+    in
+    (rw e at all)

@@ -1,0 +1,147 @@
+-- Which calls are not heard. A short buffer gives 12, a pulse over 1,000,000 Wh 13, then a malformed state 14: the state stays as it was, nothing is
+-- replied, the speed given is 0. A well-formed state never gives 14. Assumes nothing.
+use mathlib.Core.Path.{_≡_, refl}
+use mathlib.Core.Bool.{Bool, true, false, cond, _||_}
+use mathlib.Core.List.{List}
+use Prim.Native.Nat.{ℕ}
+use native.Mathlib.Omega.{arith}
+use lib.Dec.{eqb, ltb}
+use Rattle.line.specs.Characters.{damagedAt}
+use Rattle.text.specs.Classes.{sameText}
+use Rattle.text.specs.Writing.{holding}
+use Rattle.frames.specs.Frames.{onWire}
+use Rattle.values.specs.Registers.{goodTable}
+use Rattle.state.specs.declared.Meter.{Meter}
+use Rattle.state.specs.WellFormed.{wellFormed}
+use Rattle.hearing.specs.declared.Hearing.{Hearing}
+use Rattle.hearing.specs.declared.Hearing.the-variants.{Drop, Hold, Restart, Empty, Line, Confirm, Frame, TooLong}
+use Rattle.hearing.specs.Hearing.{hearing}
+use Rattle.hearing.specs.Receivers.{heldText, lastHeld}
+use Rattle.deciding.specs.declared.Verdict.{Verdict}
+use Rattle.deciding.specs.Verdict.{verdict}
+use Rattle.meter.specs.Outcomes.{Outcome, unheard}
+use Rattle.meter.specs.SignOn.{signsOnBy, wantsBlock, wantsProgram}
+use Rattle.meter.specs.Acting.{passwordGiven, tried, acted}
+use Rattle.meter.specs.Character.{symbol, lineEnded, confirmed, heard, taken, character}
+use Rattle.meter.specs.Events.{afterSilence, silence, tick, pulse, powerUp}
+use Rattle.promises.proofs.Choices as choice
+use Rattle.promises.proofs.Verdicts.{FrameNumber, parity, checksum, shape, unknown, not-allowed, content-wrong, Told, Known, verdict-all}
+
+-- ---- a call with a short buffer or too large a pulse is not heard, in any state
+
+pub short-character : (m : Meter) (room b : ℕ) → ltb room 2048 ≡ true → character m room b ≡ unheard 12 m
+unfolding character
+short-character m room b h = rw h
+
+pub short-silence : (m : Meter) (room : ℕ) → ltb room 2048 ≡ true → silence m room ≡ unheard 12 m
+unfolding silence
+short-silence m room h = rw h
+
+pub large-pulse : (m : Meter) (wh : ℕ) → ltb 1000000 wh ≡ true → pulse m wh ≡ unheard 13 m
+unfolding pulse
+large-pulse m wh h = rw h
+
+-- what is not heard leaves the buffer as it was
+pub unheard-buffer : (n : ℕ) (m : Meter) (buf : List ℕ) → holding buf (onWire (unheard n m .reply)) ≡ buf
+unfolding holding
+unheard-buffer n m buf = refl
+
+-- ---- nor is any call with a malformed state
+
+unheard-either : (first : Bool) (n : ℕ) (m : Meter) → cond first (unheard n m) (unheard 14 m) ≡ unheard (cond first n 14) m
+unheard-either true n m = refl
+unheard-either false n m = refl
+
+pub malformed-character : (m : Meter) (room b : ℕ) → wellFormed m ≡ false → character m room b ≡ unheard (cond (ltb room 2048) 12 14) m
+unfolding character
+malformed-character m room b h = rw h (unheard-either (ltb room 2048) 12 m)
+
+pub malformed-silence : (m : Meter) (room : ℕ) → wellFormed m ≡ false → silence m room ≡ unheard (cond (ltb room 2048) 12 14) m
+unfolding silence
+malformed-silence m room h = rw h (unheard-either (ltb room 2048) 12 m)
+
+pub malformed-tick : (m : Meter) → wellFormed m ≡ false → tick m ≡ unheard 14 m
+unfolding tick
+malformed-tick m h = rw h
+
+pub malformed-pulse : (m : Meter) (wh : ℕ) → wellFormed m ≡ false → pulse m wh ≡ unheard (cond (ltb 1000000 wh) 13 14) m
+unfolding pulse
+malformed-pulse m wh h = rw h (unheard-either (ltb 1000000 wh) 13 m)
+
+pub malformed-power-up : (m : Meter) → wellFormed m ≡ false → powerUp m ≡ unheard 14 m
+unfolding powerUp
+malformed-power-up m h = rw h
+
+-- ---- a well-formed state never gives 14
+
+Never : Outcome → Type 0
+Never o = o .number ≡ 14 → ⊥
+
+frame-number : (n : ℕ) → FrameNumber n → n ≡ 14 → ⊥
+frame-number n parity e = omega arith
+frame-number n checksum e = omega arith
+frame-number n shape e = omega arith
+frame-number n unknown e = omega arith
+frame-number n not-allowed e = omega arith
+frame-number n content-wrong e = omega arith
+
+frame-never : (m : Meter) (mark : Bool) (sum : ℕ) → Never (acted m (verdict (m .mode) (heldText (m .receiver)) mark sum))
+unfolding acted Never tried
+frame-never m mark sum =
+    verdict-all (λ (v : Verdict). Never (acted m v)) (m .mode) (heldText (m .receiver)) mark sum
+    (record {
+      refuse = λ n k. frame-number n k;
+      leave = λ e. omega arith;
+      enter = λ k e. omega arith;
+      password = λ k.
+          choice.either Never (eqb (m .attempts) 3) (λ e. omega arith)
+          (choice.either Never (sameText (passwordGiven m) (m .registers .password)) (λ e. omega arith) (λ e. omega arith));
+      read = λ a g e. omega arith;
+      write = λ k f.
+          record {
+            clock = λ c i r e. omega arith;
+            account = λ r e. omega arith;
+            table = λ t i g r. choice.either Never (goodTable 24 (t .0)) (λ e. omega arith) (λ e. omega arith);
+            wrong = λ e. omega arith;
+          };
+    })
+
+heard-never : (m : Meter) (c : ℕ) (d : Bool) (h : Hearing) → Never (heard m c d h)
+unfolding heard Never lineEnded confirmed
+heard-never m c d Drop = λ e. omega arith
+heard-never m c d Hold = λ e. omega arith
+heard-never m c d Restart = λ e. omega arith
+heard-never m c d Empty = λ e. omega arith
+heard-never m c d Line =
+    choice.either Never (m .receiver .mark) (λ e. omega arith)
+    (choice.either Never (signsOnBy (heldText (m .receiver)) (m .registers .serial)) (λ e. omega arith) (λ e. omega arith))
+heard-never m c d Confirm =
+    choice.either Never (m .receiver .mark || d) (λ e. omega arith)
+    (choice.either Never (wantsBlock (heldText (m .receiver)) c) (λ e. omega arith)
+    (choice.either Never (wantsProgram (heldText (m .receiver)) c) (λ e. omega arith) (λ e. omega arith)))
+heard-never m c d Frame = frame-never m (m .receiver .mark || d) c
+heard-never m c d TooLong = λ e. omega arith
+
+pub character-never-14 : (m : Meter) (room b : ℕ) → wellFormed m ≡ true → character m room b .number ≡ 14 → ⊥
+unfolding character taken Never
+character-never-14 m room b h =
+    rw h (choice.either Never (ltb room 2048) (λ e. omega arith)
+    (heard-never m (symbol b) (damagedAt b) (hearing (m .mode) (m .receiver .count) (lastHeld (m .receiver)) (symbol b))))
+
+pub silence-never-14 : (m : Meter) (room : ℕ) → wellFormed m ≡ true → silence m room .number ≡ 14 → ⊥
+unfolding silence afterSilence Never
+silence-never-14 m room h =
+    rw h (choice.either Never (ltb room 2048) (λ e. omega arith)
+    (choice.either Never (eqb (m .mode) 0) (λ e. omega arith) (choice.either Never (eqb (m .mode) 1) (λ e. omega arith) (λ e. omega arith))))
+
+pub tick-never-14 : (m : Meter) → wellFormed m ≡ true → tick m .number ≡ 14 → ⊥
+unfolding tick
+tick-never-14 m h = rw h (λ e. omega arith)
+
+pub pulse-never-14 : (m : Meter) (wh : ℕ) → wellFormed m ≡ true → pulse m wh .number ≡ 14 → ⊥
+unfolding pulse Never
+pulse-never-14 m wh h = rw h (choice.either Never (ltb 1000000 wh) (λ e. omega arith) (λ e. omega arith))
+
+pub power-up-never-14 : (m : Meter) → wellFormed m ≡ true → powerUp m .number ≡ 14 → ⊥
+unfolding powerUp
+power-up-never-14 m h = rw h (λ e. omega arith)
