@@ -1,6 +1,6 @@
 -- Where a meter begins: the blank state and the one made of any facts are well-formed. Assumes nothing.
 use mathlib.Core.Path.{_≡_, refl}
-use mathlib.Core.Bool.{Bool, true, false, cond, _&&_}
+use mathlib.Core.Bool.{true}
 use mathlib.Core.List.{List}
 use Prim.Native.Nat.{ℕ}
 use native.Mathlib.Omega.{arith}
@@ -14,7 +14,7 @@ use Rattle.values.specs.Registers.{goodDigits, isAccountCharacter, goodAccount}
 use Rattle.state.specs.declared.Meter.{Meter}
 use Rattle.state.specs.declared.Made.{Made}
 use Rattle.state.specs.WellFormed.{countersGood, tablesGood, factsGood, registersGood, wellFormed}
-use Rattle.state.specs.Making.{noCounters, meterOf, blankMeter, madeOf}
+use Rattle.state.specs.Making.{meterOf, blankMeter, madeOf}
 use Rattle.state.proofs.Facts.{well-formed}
 use Rattle.promises.proofs.Choices as choice
 use Rattle.promises.proofs.Formed.{empty-good}

@@ -1,16 +1,14 @@
 -- A well-formed state stays well-formed, whatever happens: by a character, silence, a tick, a pulse, power-up. Assumes nothing.
-use mathlib.Core.Path.{_≡_, refl, sym, ap, _∙_}
+use mathlib.Core.Path.{_≡_, refl, sym, ap}
 use mathlib.Core.Bool.{Bool, true, false, cond, not, _&&_, _||_}
-use mathlib.Core.Logic.{_⊎_, inl, inr, ⊎-elim}
+use mathlib.Core.Logic.{_⊎_, inl, inr}
 use mathlib.Core.List.{List, [], _∷_}
 use Prim.Native.Nat.{ℕ, zero, suc, _+_, _-_, _*_, _%_, _<_, _≤_}
-use native.Mathlib.Nat.{mod-lt, zero-lt-suc}
 use native.Mathlib.Omega.{arith}
-use borrow.Author.Tests.{leb-true, le-leb, eqb-true, eq-eqb, ne-eqb, eqb-false}
+use borrow.Author.Tests.{le-leb, ne-eqb, eqb-false}
 use lib.Dec.{eqb, leb, ltb}
-use lib.ListN.{length, drop, getD, set, replicate, length-set}
-use lib.Seq.{drop-nil, drop-drop, drop-set-lt, getD-set-other, getD-set-same}
-use native.Mathlib.Numerals.{add-one}
+use lib.ListN.{length, drop, getD, set, length-set}
+use lib.Seq.{drop-nil, drop-set-lt, getD-set-other}
 use Rattle.line.specs.Runs.{every}
 use Rattle.line.specs.Characters.{damagedAt, seven}
 use Rattle.line.proofs.Runs.{and-left, and-right, and-both}
@@ -31,7 +29,7 @@ use Rattle.state.specs.WellFormed.{limit, firstGood, markGood, heldGood, receiv
 use Rattle.state.specs.Making.{emptyReceiver}
 use Rattle.state.proofs.Facts.{Formed, formed, well-formed, FormedRegisters, formed-registers, registers-good, FormedReceiver, formed-receiver, receiver-good}
 use Rattle.changes.specs.Changes.{withReceiver, inMode, withAttempts, withRegisters, withClock, withAccount, withTables, withCounters}
-use Rattle.changes.specs.Zones.{zoneIn, grown, counted}
+use Rattle.changes.specs.Zones.{zoneIn, counted}
 use Rattle.hearing.specs.declared.Hearing.{Hearing}
 use Rattle.hearing.specs.declared.Hearing.the-variants.{Drop, Hold, Restart, Empty, Line, Confirm, Frame, TooLong}
 use Rattle.hearing.specs.Hearing.{hearing}

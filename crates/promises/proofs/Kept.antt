@@ -1,7 +1,7 @@
 -- What a character can change. Only an accepted W1 changes the clock, the account or the tables, in programming mode, and then only that
 -- register, to what the frame tells; any other answer changes no register. One walk over the verdicts (`verdict-all`). Assumes nothing.
-use mathlib.Core.Path.{_≡_, refl, sym, ap, _∙_}
-use mathlib.Core.Bool.{Bool, true, false, cond, _||_}
+use mathlib.Core.Path.{_≡_, refl, sym, ap}
+use mathlib.Core.Bool.{Bool, _||_}
 use mathlib.Core.List.{List}
 use Prim.Native.Nat.{ℕ, _-_, _*_}
 use lib.Dec.{eqb, ltb}
@@ -13,13 +13,12 @@ use Rattle.values.specs.Registers.{goodTable}
 use Rattle.state.specs.declared.Registers.{Registers}
 use Rattle.state.specs.declared.Meter.{Meter}
 use Rattle.state.specs.WellFormed.{wellFormed}
-use Rattle.changes.specs.Changes.{withClock, withAccount, withTables}
+use Rattle.changes.specs.Changes.{withAccount, withTables}
 use Rattle.hearing.specs.declared.Hearing.{Hearing}
 use Rattle.hearing.specs.declared.Hearing.the-variants.{Drop, Hold, Restart, Empty, Line, Confirm, Frame, TooLong}
 use Rattle.hearing.specs.Hearing.{hearing}
 use Rattle.hearing.specs.Receivers.{heldText, lastHeld}
 use Rattle.deciding.specs.declared.Verdict.{Verdict}
-use Rattle.deciding.specs.declared.Verdict.the-variants.{Refuse, Leave, Enter, Password, Read, WriteClock, WriteAccount, WriteTable}
 use Rattle.deciding.specs.Verdict.{verdict}
 use Rattle.meter.specs.Outcomes.{Outcome}
 use Rattle.meter.specs.SignOn.{signsOnBy, wantsBlock, wantsProgram}

@@ -5,3 +5,4 @@ pub mod Kept
 pub mod Malformed
 pub mod Formed
 pub mod Beginning
+pub mod Life

@@ -27,6 +27,11 @@ use Rattle.meter.specs.Events.{afterSilence, silence, tick, pulse, powerUp}
 use Rattle.promises.proofs.Choices as choice
 use Rattle.promises.proofs.Verdicts.{FrameNumber, parity, checksum, shape, unknown, not-allowed, content-wrong, Told, Known, verdict-all}
 
+-- what is not heard leaves the buffer as it was
+pub unheard-buffer : (n : ℕ) (m : Meter) (buf : List ℕ) → holding buf (onWire (unheard n m .reply)) ≡ buf
+unfolding holding
+unheard-buffer n m buf = refl
+
 -- ---- a call with a short buffer or too large a pulse is not heard, in any state
 
 pub short-character : (m : Meter) (room b : ℕ) → ltb room 2048 ≡ true → character m room b ≡ unheard 12 m
@@ -40,11 +45,6 @@ short-silence m room h = rw h
 pub large-pulse : (m : Meter) (wh : ℕ) → ltb 1000000 wh ≡ true → pulse m wh ≡ unheard 13 m
 unfolding pulse
 large-pulse m wh h = rw h
-
--- what is not heard leaves the buffer as it was
-pub unheard-buffer : (n : ℕ) (m : Meter) (buf : List ℕ) → holding buf (onWire (unheard n m .reply)) ≡ buf
-unfolding holding
-unheard-buffer n m buf = refl
 
 -- ---- nor is any call with a malformed state
 

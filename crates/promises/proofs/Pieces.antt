@@ -1,15 +1,15 @@
 -- A piece of a piece of what is held is a piece of what is held: the account and the row that a frame tells are where the meter takes them.
 -- Assumes nothing.
-use mathlib.Core.Path.{_≡_, refl, sym, ap, _∙_}
-use mathlib.Core.Bool.{Bool, true, _&&_}
+use mathlib.Core.Path.{_≡_, sym, ap, _∙_}
+use mathlib.Core.Bool.{true}
 use mathlib.Core.List.{List, [], _∷_}
-use Prim.Native.Nat.{ℕ, zero, suc, _+_, _-_, _≤_, min}
+use Prim.Native.Nat.{ℕ, zero, suc, _+_, _-_, _≤_}
 use native.Mathlib.Nat.{sub-zero}
 use native.Mathlib.Omega.{arith}
 use borrow.Author.Tests.{eqb-true}
 use lib.Dec.{eqb}
 use lib.ListN.{length, take, drop, length-take, length-drop}
-use lib.Seq.{length-take-le, take-take, drop-drop, take-all, take-nil, drop-nil}
+use lib.Seq.{length-take-le, take-take, drop-drop, take-all, take-nil}
 use Rattle.line.specs.Runs.{every}
 use Rattle.line.proofs.Runs.{and-left}
 use Rattle.values.specs.Registers.{isAccountCharacter, goodAccount, goodRow}

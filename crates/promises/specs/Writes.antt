@@ -52,7 +52,8 @@ pub data Kept (m : Meter) (b : ℕ) (o : Outcome) : Type 0 where
       → o .next .registers ≡ withClock (m .registers) c → Kept m b o
   account : Written m b WriteAccount → goodAccount (tellsOf m) ≡ true → o .number ≡ 1
       → o .next .registers ≡ withAccount (m .registers) (tellsOf m) → Kept m b o
-  table : (t : TableNo) → Written m b (WriteTable t) → t ≡ tableRead 24 (take 2 (tellsOf m)) .table → goodTable 24 (t .0) ≡ true → goodRow (drop 3 (tellsOf m)) ≡ true → o .number ≡ 1
+  table : (t : TableNo) → Written m b (WriteTable t) → t ≡ tableRead 24 (take 2 (tellsOf m)) .table
+      → goodTable 24 (t .0) ≡ true → goodRow (drop 3 (tellsOf m)) ≡ true → o .number ≡ 1
       → o .next .registers ≡ withTables (m .registers) (stored (m .registers .tables) ((t .0 - 1) * 24) (drop 3 (tellsOf m))) → Kept m b o
 
 -- what is asked can be answered: a table is one of the 24
