@@ -10,16 +10,17 @@ use Rattle.replies.specs.Answers.{askedData}
 use Rattle.replies.specs.Block.{blockData}
 use Rattle.replies.specs.Shown as shown
 use Rattle.dialogue.specs.Messages.{Message, obeyed, outcomeOf}
-use Rattle.recital.specs.Recital.{answerSays, goodAsk}
+use Rattle.promises.specs.Writes.{answerable}
+use Rattle.recital.specs.Recital.{answerSays}
 use Rattle.recital.specs.Learnt.{Learns, Answers}
 use Rattle.recital.proofs.Recital.{block-reads-back, answer-block-reads-back}
 
 module _ (m : Meter) (f : wellFormed m ≡ true) where
-  learns : (x : Message) (a : Ask) → goodAsk a ≡ true → outcomeOf m x .reply ≡ blockOf (askedData (m .registers) a) → Learns m x (answerSays (m .registers) a)
+  learns : (x : Message) (a : Ask) → answerable a ≡ true → outcomeOf m x .reply ≡ blockOf (askedData (m .registers) a) → Learns m x (answerSays (m .registers) a)
   learns x a h e = record { content = askedData (m .registers) a; reply = e; reads = answer-block-reads-back m f a h }
 
   pub answers-learnt : Answers m
-  unfolding outcomeOf obeyed answerSays goodAsk shown.energy
+  unfolding outcomeOf obeyed answerSays answerable shown.energy
   answers-learnt =
       record {
         block = λ y h e. record { content = blockData 24 (m .registers); reply = rw e; reads = block-reads-back m f };

@@ -1,6 +1,6 @@
 -- Every block of a well-formed meter, its data block and its answers to R1, reads back to the meter's own registers. Assumes nothing.
 use mathlib.Core.Path.{_≡_, refl, sym, ap, subst, _∙_}
-use mathlib.Core.Bool.{true}
+use mathlib.Core.Bool.{Bool, true}
 use mathlib.Core.List.{List, [], _∷_, map}
 use Prim.Native.Nat.{ℕ}
 use native.Mathlib.Omega.{arith}
@@ -11,6 +11,7 @@ use Rattle.line.specs.Runs.{every}
 use Rattle.line.proofs.Runs.{and-left, and-right}
 use Rattle.text.specs.Classes.{between}
 use Rattle.values.specs.Registers.{goodTable}
+use Rattle.frames.specs.Frames.{blockOf}
 use Rattle.state.specs.declared.Registers.{Registers}
 use Rattle.state.specs.declared.Meter.{Meter}
 use Rattle.state.specs.WellFormed.{registersGood, wellFormed}
@@ -28,7 +29,12 @@ use Rattle.blocks.specs.Parts.{isContent}
 use Rattle.readback.specs.Sets.{Found, lastLine, readAll}
 use Rattle.readback.proofs.Blocks.{block-long, part-of-block, part-is-content, block-strips, block-strips-into}
 use Rattle.readback.proofs.Lines.{sets-read-back, answer-reads-back}
-use Rattle.recital.specs.Recital.{Register, row, Recites, tableNumbers, rows, blockSays, answerSays, goodAsk, ReadsBack}
+use Rattle.deciding.specs.declared.Verdict.the-variants.{Read}
+use Rattle.deciding.specs.Verdict.{verdict}
+use Rattle.meter.specs.Acting.{acted}
+use Rattle.promises.specs.Writes.{answerable}
+use Rattle.promises.proofs.Verdicts.{read-answerable}
+use Rattle.recital.specs.Recital.{Register, row, Recites, tableNumbers, rows, blockSays, answerSays, ReadsBack}
 use Rattle.recital.proofs.Registers.{and-then, and-none, energy-small, energy-reads, serial-reads, account-reads, date-reads, time-reads, counters-small, row-reads}
 
 -- what a meter shows may stand in a block
@@ -82,8 +88,8 @@ block-recites g good =
     (and-then _ _ _ _ (energy-reads 4 (g .counters .t4) (small .fourth))
     (and-then _ _ _ _ (energy-reads 0 (shown.energy (g .counters) 0) (energy-small (g .counters) small 0)) tables))))))))
 
-answer-recites : (g : Registers) → registersGood g ≡ true → (a : Ask) → goodAsk a ≡ true → Recites (askedSets g a) (answerSays g a)
-unfolding askedSets answerSays goodAsk
+answer-recites : (g : Registers) → registersGood g ≡ true → (a : Ask) → answerable a ≡ true → Recites (askedSets g a) (answerSays g a)
+unfolding askedSets answerSays answerable
 answer-recites g good ask.Clock h = and-then _ _ _ _ (time-reads g good) (and-then _ _ _ _ (date-reads g good) and-none)
 answer-recites g good ask.Serial h = and-then _ _ _ _ (serial-reads g good) and-none
 answer-recites g good ask.Account h = and-then _ _ _ _ (account-reads g good) and-none
@@ -103,13 +109,19 @@ module _ (m : Meter) (f : wellFormed m ≡ true) where
       (block-recites g good)
 
   -- and every answer to R1
-  pub answer-block-reads-back : (a : Ask) → goodAsk a ≡ true → ReadsBack (askedData (m .registers) a) (answerSays (m .registers) a)
+  pub answer-block-reads-back : (a : Ask) → answerable a ≡ true → ReadsBack (askedData (m .registers) a) (answerSays (m .registers) a)
   unfolding askedData
   answer-block-reads-back a h =
       let g = m .registers in
       let good = formed m f .registers in
       reads-back (askedData g a) (answerSays g a) (askedSets g a) (length (linesOf (askedSets g a))) (asked-shown g a good) (answer-reads-back (askedSets g a) (asked-good g a good))
       (answer-recites g good a h)
+
+  -- so whatever frame a meter answers with data, the block that it sends reads back
+  pub every-answer-reads-back : (h : List ℕ) (mark : Bool) (sum : ℕ) (a : Ask) → verdict (m .mode) h mark sum ≡ Read a
+      → (acted m (verdict (m .mode) h mark sum) .reply ≡ blockOf (askedData (m .registers) a)) × ReadsBack (askedData (m .registers) a) (answerSays (m .registers) a)
+  unfolding acted
+  every-answer-reads-back h mark sum a e = (rw e, answer-block-reads-back a (read-answerable (m .mode) h mark sum a e))
 
 pub thirty-three : (g : Registers) → length (blockSays g) ≡ 33
 unfolding blockSays rows tableNumbers

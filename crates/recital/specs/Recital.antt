@@ -77,14 +77,6 @@ answerSays g ask.Account = account (g .account) ∷ []
 answerSays g (ask.Energy n) = energy n (shown.energy (g .counters) n) ∷ []
 answerSays g (ask.Table t) = row (t .0) (rowOf (g .tables) (t .0)) ∷ []
 
--- a meter is asked only for a table that it has
-unfoldable pub goodAsk : Ask → Bool
-goodAsk (ask.Table t) = goodTable 24 (t .0)
-goodAsk ask.Clock = true
-goodAsk ask.Serial = true
-goodAsk ask.Account = true
-goodAsk (ask.Energy n) = true
-
 -- a block with this content, as a meter sends it: it strips, its part is the content, and that reads to its end as these registers
 pub record ReadsBack (content : List ℕ) (xs : List Register) : Type 0 where
   pub strips : (out : List ℕ) → length (blockOf content) ≤ length out
