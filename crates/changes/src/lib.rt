@@ -28,7 +28,7 @@ pub fn in_mode(m: Meter, mode: u8) -> Meter
 {
     let mut next = m;
     next.mode = mode;
-    next.receiver = hearing::empty();
+    next.receiver = receiving::empty();
     next
 }
 

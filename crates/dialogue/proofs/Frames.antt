@@ -19,7 +19,7 @@ use Rattle.datasets.proofs.Characters.{every-within}
 use Rattle.frames.specs.Frames.{closed, onWire}
 use Rattle.state.specs.declared.Registers.{Registers}
 use Rattle.state.specs.declared.Meter.{Meter}
-use Rattle.hearing.specs.declared.Hearing.the-variants.{Frame}
+use Rattle.receiving.specs.declared.Hearing.the-variants.{Frame}
 use Rattle.deciding.specs.Shape.{startGood, bareShape, framedShape, content}
 use Rattle.deciding.specs.Verdict.{framedVerdict, shapeVerdict, verdict}
 use Rattle.meter.specs.Outcomes.{Outcome, silent}

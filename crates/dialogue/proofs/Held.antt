@@ -21,10 +21,10 @@ use Rattle.state.specs.declared.Meter.{Meter}
 use Rattle.state.specs.WellFormed.{limit, firstGood, markGood, heldGood, receiverGood, registersGood, wellFormed}
 use Rattle.state.specs.Making.{emptyReceiver}
 use Rattle.state.proofs.Facts.{formed, well-formed, formed-receiver, receiver-good, held-long}
-use Rattle.hearing.specs.declared.Hearing.{Hearing}
-use Rattle.hearing.specs.declared.Hearing.the-variants.{Hold}
-use Rattle.hearing.specs.Hearing.{hearing}
-use Rattle.hearing.specs.Receivers.{keptReceiver, lastHeld, heldText}
+use Rattle.receiving.specs.declared.Hearing.{Hearing}
+use Rattle.receiving.specs.declared.Hearing.the-variants.{Hold}
+use Rattle.receiving.specs.Hearing.{hearing}
+use Rattle.receiving.specs.Receivers.{keptReceiver, lastHeld, heldText}
 use Rattle.meter.specs.Outcomes.{silent}
 use Rattle.meter.specs.Character.{symbol, heard, taken, character}
 use Rattle.dialogue.specs.Feeding.{Said, quiet}

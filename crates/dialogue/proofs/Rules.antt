@@ -8,8 +8,8 @@ use lib.Dec.{eqb, leb, lit<, eqb·suc-zero}
 use Rattle.line.proofs.Runs.{and-left, and-right}
 use Rattle.text.specs.Classes.{between, isPrintable}
 use Rattle.state.specs.WellFormed.{limit, firstGood}
-use Rattle.hearing.specs.declared.Hearing.the-variants.{Hold, Frame, Line, Confirm}
-use Rattle.hearing.specs.Hearing.{hearing, listening, confirming, framing}
+use Rattle.receiving.specs.declared.Hearing.the-variants.{Hold, Frame, Line, Confirm}
+use Rattle.receiving.specs.Hearing.{hearing, listening, confirming, framing}
 use Rattle.meter.specs.Character.{heard}
 use Rattle.dialogue.proofs.Held.{Plain, Rule}
 

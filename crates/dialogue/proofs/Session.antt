@@ -26,7 +26,7 @@ use Rattle.frames.specs.Session.{signOn, signOnTo, confirmation}
 use Rattle.state.specs.declared.Registers.{Registers}
 use Rattle.state.specs.WellFormed.{limit}
 use Rattle.state.proofs.Facts.{formed-registers}
-use Rattle.hearing.specs.declared.Hearing.the-variants.{Line, Confirm}
+use Rattle.receiving.specs.declared.Hearing.the-variants.{Line, Confirm}
 use Rattle.deciding.specs.declared.Verdict.the-variants.{Leave}
 use Rattle.deciding.specs.Shape.{startGood, bareShape}
 use Rattle.deciding.specs.Verdict.{bareVerdict, shapeVerdict, verdict}

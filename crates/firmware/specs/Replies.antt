@@ -2,7 +2,7 @@
 use lib.ListN.{length}
 use Rattle.meter.specs.Outcomes.{Outcome}
 use Rattle.meter.specs.declared.Answer.{Answer}
-use Rattle.listening.specs.declared.Heard.{Heard}
+use Rattle.settling.specs.declared.Heard.{Heard}
 use Rattle.firmware.specs.declared.Reply.{Reply}
 
 abbrev pub replyTo : Answer → Reply

@@ -6,7 +6,7 @@ ghost use Rattle.text.specs.Writing.{holding};
 ghost use Rattle.frames.specs.Frames.{onWire};
 ghost use Rattle.meter.specs.Character.{character};
 ghost use Rattle.firmware.specs.Replies.{replyTo, replyOf, settledReply};
-use listening::Heard;
+use settling::Heard;
 use meter::Answer;
 use state::Meter;
 use state::Receiver;
@@ -65,7 +65,7 @@ pub fn receive_in_place(m: &mut Meter, b: u8, reply: &mut [u8]) -> Reply
 {
     // Two locals for the two copies: one would lie whole in memory at every call.
     let before = *m;
-    let heard = listening::listen(before, b, reply.len());
+    let heard = settling::settle(before, b, reply.len());
     if is_settled(heard) {
         m.receiver = receiver_of(heard);
         return short_reply(heard);

@@ -6,7 +6,7 @@ ghost use lib.ListN.{length};
 ghost use Rattle.text.specs.Writing.{holding};
 ghost use Rattle.frames.specs.Frames.{onWire};
 ghost use Rattle.state.specs.WellFormed.{wellFormed};
-ghost use Rattle.hearing.specs.Receivers.{heldText};
+ghost use Rattle.receiving.specs.Receivers.{heldText};
 ghost use Rattle.deciding.specs.Verdict.{verdict};
 ghost use Rattle.changes.specs.Changes.{withRegisters, withClock};
 ghost use Rattle.meter.specs.Outcomes.{answerOf};

@@ -11,7 +11,7 @@ ghost use Rattle.meter.specs.Character.{symbol, taken, character};
 ghost use Rattle.meter.specs.Events.{afterSilence, silence, tick, pulse, powerUp};
 use changes::in_mode;
 use changes::with_receiver;
-use hearing::Hearing;
+use receiving::Hearing;
 use state::Meter;
 
 mod acting;
@@ -53,12 +53,12 @@ pub fn take(m: Meter, b: u8, reply: &mut [u8]) -> Answer
     let damaged = line::damaged(b);
     let c = symbol_of(b);
     let r = m.receiver;
-    let h = hearing::hear(m.mode, r.count, hearing::last_held(r), c);
+    let h = receiving::hear(m.mode, r.count, receiving::last_held(r), c);
     match h {
         Hearing::Drop => answers::quiet(0, m),
-        Hearing::Hold => answers::quiet(0, with_receiver(m, hearing::keep(r, c, damaged))),
-        Hearing::Restart => answers::quiet(0, with_receiver(m, hearing::restart(c))),
-        Hearing::Empty => answers::quiet(0, with_receiver(m, hearing::empty())),
+        Hearing::Hold => answers::quiet(0, with_receiver(m, receiving::keep(r, c, damaged))),
+        Hearing::Restart => answers::quiet(0, with_receiver(m, receiving::restart(c))),
+        Hearing::Empty => answers::quiet(0, with_receiver(m, receiving::empty())),
         Hearing::Line => lines::end_line(m, reply),
         Hearing::Confirm => lines::confirm(m, c, damaged, reply),
         Hearing::Frame => acting::act_on_frame(m, c, damaged, reply),

@@ -1,4 +1,4 @@
--- The wrong answers for `meter`, `listening` and `firmware` are ruled out, by computing. Assumes nothing.
+-- The wrong answers for `meter`, `settling` and `firmware` are ruled out, by computing. Assumes nothing.
 use mathlib.Core.Path.{refl}
 use mathlib.Core.Bool.{cond}
 use lib.Count.{ones}
@@ -21,7 +21,7 @@ use Rattle.frames.specs.Commands.{bracketed, setTable}
 use Rattle.frames.specs.Session.{signOn}
 use Rattle.state.specs.declared.Meter.{Meter}
 use Rattle.state.specs.WellFormed.{limit, firstGood, heldGood, markGood, receiverGood, countersGood, tablesGood, factsGood, registersGood, wellFormed}
-use Rattle.hearing.specs.Hearing.{hearing, listening, confirming, framing}
+use Rattle.receiving.specs.Hearing.{hearing, listening, confirming, framing}
 use Rattle.deciding.specs.Shape.{startGood, bareShape, content, framedShape}
 use Rattle.deciding.specs.Telling.{enclosed, inner, tableTold, told as toldBy}
 use Rattle.deciding.specs.Verdict.{entry, bareVerdict, framedVerdict, shapeVerdict, verdict}
@@ -32,8 +32,8 @@ use Rattle.meter.specs.Acting.{tried, acted}
 use Rattle.meter.specs.SignOn.{signsOnBy}
 use Rattle.meter.specs.Character.{symbol, lineEnded, confirmed, heard, taken, character}
 use Rattle.meter.specs.Events.{afterSilence, silence, tick, pulse, powerUp}
-use Rattle.listening.specs.declared.Heard.{Heard}
-use Rattle.listening.specs.Listening.{heardAs, heardBy, listened}
+use Rattle.settling.specs.declared.Heard.{Heard}
+use Rattle.settling.specs.Settling.{heardAs, heardBy, listened}
 use Rattle.firmware.specs.declared.Reply.{Reply}
 use Rattle.mistakes.specs.Samples.{serial, account, password, twos, newMeter, heldIn}
 use Rattle.mistakes.specs.Events.{told, toldAll, shortPassword, shortTried, signedOn, restarted, Receiving, Passing, Settling, Lent}

@@ -1,4 +1,4 @@
--- Two wrong answers for each call of `meter`, `listening` and `firmware`, and some that document 01 warns of.
+-- Two wrong answers for each call of `meter`, `settling` and `firmware`, and some that document 01 warns of.
 use mathlib.Core.Bool.{true}
 use mathlib.Core.List.{[], _∷_}
 use lib.ListN.{length, getD, take, replicate}
@@ -8,13 +8,13 @@ use Rattle.frames.specs.Frames.{frameOf, onWire}
 use Rattle.frames.specs.Commands.{P1, W1, bracketed, setTable}
 use Rattle.state.specs.declared.Meter.{Meter}
 use Rattle.replies.specs.Fixed.{accepted, refused, identification}
-use Rattle.hearing.specs.Receivers.{restartedReceiver}
+use Rattle.receiving.specs.Receivers.{restartedReceiver}
 use Rattle.state.specs.Making.{emptyReceiver}
 use Rattle.changes.specs.Changes.{withReceiver, inMode, withAttempts, withRegisters, withClock, withCounters}
 use Rattle.meter.specs.Outcomes.{Outcome, answerOf, speedOf, silent, unheard, saying, nak, ack}
 use Rattle.meter.specs.Character.{symbol, taken, character}
 use Rattle.meter.specs.Events.{silence, tick, pulse, powerUp}
-use Rattle.listening.specs.Listening.{goesOn, listened}
+use Rattle.settling.specs.Settling.{goesOn, listened}
 use Rattle.firmware.specs.Replies.{replyOf}
 use Rattle.mistakes.specs.RuledOut.{RuledOut}
 use Rattle.mistakes.specs.Samples.{clockAt, twos, newMeter, heldIn}
@@ -88,10 +88,10 @@ pub record Passing : Type 0 where
   pub «power_up» : RuledOut (answerOf (powerUp (withAttempts newMeter 3))) (answerOf (silent 1 (withAttempts newMeter 3)))
       × RuledOut (answerOf (powerUp (inMode newMeter 4))) (answerOf (silent 1 (inMode newMeter 4)))
 
--- of `listening`
+-- of `settling`
 pub record Settling : Type 0 where
   -- the last character of a frame settled with nothing said; a character taken in a short buffer
-  pub listen : RuledOut (listened told 2048 (sent (getD (frameOf W1 (setTable 7 twos)) 35 0))) (goesOn 4 emptyReceiver)
+  pub settle : RuledOut (listened told 2048 (sent (getD (frameOf W1 (setTable 7 twos)) 35 0))) (goesOn 4 emptyReceiver)
       × RuledOut (listened newMeter 2047 (sent 47)) (goesOn 0 (restartedReceiver 47))
 
 -- of `firmware`

@@ -1,4 +1,4 @@
--- Two wrong answers for each call of `hearing`, `deciding` and `changes`.
+-- Two wrong answers for each call of `receiving`, `deciding` and `changes`.
 use mathlib.Core.Bool.{true, false}
 use mathlib.Core.List.{[], _∷_, _++_}
 use lib.ListN.{getD, take, drop, set, replicate}
@@ -7,9 +7,9 @@ use Rattle.clock.specs.Seconds.{dateOf}
 use Rattle.frames.specs.Frames.{frameOf}
 use Rattle.frames.specs.Commands.{P1, W1, bracketed, setTable}
 use Rattle.state.specs.Making.{emptyReceiver, noCounters}
-use Rattle.hearing.specs.declared.Hearing.the-variants.{Hold, Restart}
-use Rattle.hearing.specs.Hearing.{hearing}
-use Rattle.hearing.specs.Receivers.{lastHeld, keptReceiver, restartedReceiver}
+use Rattle.receiving.specs.declared.Hearing.the-variants.{Hold, Restart}
+use Rattle.receiving.specs.Hearing.{hearing}
+use Rattle.receiving.specs.Receivers.{lastHeld, keptReceiver, restartedReceiver}
 use Rattle.deciding.specs.declared.Verdict.the-variants.{Password, WriteTable}
 use Rattle.deciding.specs.Verdict.{verdict}
 use Rattle.changes.specs.Changes.{withReceiver, inMode, withAttempts, withRegisters, withClock, withAccount, withTables, withCounters}
@@ -17,7 +17,7 @@ use Rattle.changes.specs.Zones.{tableFor, zoneIn, counted}
 use Rattle.mistakes.specs.RuledOut.{RuledOut}
 use Rattle.mistakes.specs.Samples.{clockAt, serial, twos, newMeter, used, heldIn}
 
--- of `hearing`
+-- of `receiving`
 pub record Hearings : Type 0 where
   -- a BCC that is SOH as a new frame; a '/' within a line held
   pub hear : RuledOut (hearing 2 5 3 1) Restart × RuledOut (hearing 0 3 63 47) Hold

@@ -30,11 +30,11 @@ use Rattle.state.specs.Making.{emptyReceiver}
 use Rattle.state.proofs.Facts.{Formed, formed, well-formed, FormedRegisters, formed-registers, registers-good, FormedReceiver, formed-receiver, receiver-good}
 use Rattle.changes.specs.Changes.{withReceiver, inMode, withAttempts, withRegisters, withClock, withAccount, withTables, withCounters}
 use Rattle.changes.specs.Zones.{zoneIn, counted}
-use Rattle.hearing.specs.declared.Hearing.{Hearing}
-use Rattle.hearing.specs.declared.Hearing.the-variants.{Drop, Hold, Restart, Empty, Line, Confirm, Frame, TooLong}
-use Rattle.hearing.specs.Hearing.{hearing}
-use Rattle.hearing.specs.Receivers.{heldText, lastHeld, keptReceiver, restartedReceiver}
-use Rattle.hearing.proofs.Laws.{Room, hold-room, restart-first}
+use Rattle.receiving.specs.declared.Hearing.{Hearing}
+use Rattle.receiving.specs.declared.Hearing.the-variants.{Drop, Hold, Restart, Empty, Line, Confirm, Frame, TooLong}
+use Rattle.receiving.specs.Hearing.{hearing}
+use Rattle.receiving.specs.Receivers.{heldText, lastHeld, keptReceiver, restartedReceiver}
+use Rattle.receiving.proofs.Laws.{Room, hold-room, restart-first}
 use Rattle.deciding.specs.declared.Verdict.{Verdict}
 use Rattle.deciding.specs.Verdict.{verdict}
 use Rattle.meter.specs.Outcomes.{Outcome, fallen}

@@ -14,10 +14,10 @@ use Rattle.state.specs.declared.Registers.{Registers}
 use Rattle.state.specs.declared.Meter.{Meter}
 use Rattle.state.specs.WellFormed.{wellFormed}
 use Rattle.changes.specs.Changes.{withAccount, withTables}
-use Rattle.hearing.specs.declared.Hearing.{Hearing}
-use Rattle.hearing.specs.declared.Hearing.the-variants.{Drop, Hold, Restart, Empty, Line, Confirm, Frame, TooLong}
-use Rattle.hearing.specs.Hearing.{hearing}
-use Rattle.hearing.specs.Receivers.{heldText, lastHeld}
+use Rattle.receiving.specs.declared.Hearing.{Hearing}
+use Rattle.receiving.specs.declared.Hearing.the-variants.{Drop, Hold, Restart, Empty, Line, Confirm, Frame, TooLong}
+use Rattle.receiving.specs.Hearing.{hearing}
+use Rattle.receiving.specs.Receivers.{heldText, lastHeld}
 use Rattle.deciding.specs.declared.Verdict.{Verdict}
 use Rattle.deciding.specs.Verdict.{verdict}
 use Rattle.meter.specs.Outcomes.{Outcome}

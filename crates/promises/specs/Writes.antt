@@ -18,10 +18,10 @@ use Rattle.state.specs.declared.Meter.{Meter}
 use Rattle.replies.specs.declared.Ask.{Ask}
 use Rattle.replies.specs.declared.Ask.the-variants as ask
 use Rattle.changes.specs.Changes.{withClock, withAccount, withTables}
-use Rattle.hearing.specs.declared.Hearing.{Hearing}
-use Rattle.hearing.specs.declared.Hearing.the-variants.{Frame}
-use Rattle.hearing.specs.Hearing.{hearing}
-use Rattle.hearing.specs.Receivers.{heldText, lastHeld}
+use Rattle.receiving.specs.declared.Hearing.{Hearing}
+use Rattle.receiving.specs.declared.Hearing.the-variants.{Frame}
+use Rattle.receiving.specs.Hearing.{hearing}
+use Rattle.receiving.specs.Receivers.{heldText, lastHeld}
 use Rattle.deciding.specs.declared.Verdict.{Verdict}
 use Rattle.deciding.specs.declared.Verdict.the-variants.{WriteClock, WriteAccount, WriteTable}
 use Rattle.deciding.specs.Shape.{content}

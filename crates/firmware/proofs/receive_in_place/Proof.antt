@@ -1,4 +1,4 @@
--- `firmware::receive_in_place` meets its contract: a walk of its MIR, by hand. The borrow of the record is opened, the state is copied out, and `listening::listen` is called on the copy.
+-- `firmware::receive_in_place` meets its contract: a walk of its MIR, by hand. The borrow of the record is opened, the state is copied out, and `settling::settle` is called on the copy.
 -- Where it has settled the character, the receiver is stored into the record, the borrow is closed there, and the reply's slice is given up as it is. Otherwise `meter::take` is called on another copy and is given
 -- the slice for good, the next state is stored over the record, and the borrow is closed at it. All that is known of the callees is that each meets its contract, so nothing here reads a field. Assumes nothing.
 use mathlib.Core.Path.{_≡_, refl, sym, _∙_, ap, subst}
@@ -63,15 +63,15 @@ use Rattle.meter.proofs.take as take
 use Rattle.meter.proofs.take.Symbol as take-def
 use Rattle.meter.proofs.take.Symbol.{name as #meter·take}
 use Rattle.meter.proofs.take.Met as take-thm
-use Rattle.listening.specs.declared.Heard.{Heard}
-use Rattle.listening.specs.Listening.{listened}
-use Rattle.listening.proofs.Heard as E
-use Rattle.listening.proofs.Heard.Laws as E′
-use Rattle.listening.proofs.Laws.{settled-is, Left, left-is}
-use Rattle.listening.proofs.listen as listen
-use Rattle.listening.proofs.listen.Symbol as listen-def
-use Rattle.listening.proofs.listen.Symbol.{name as #listening·listen}
-use Rattle.listening.proofs.listen.Met as listen-thm
+use Rattle.settling.specs.declared.Heard.{Heard}
+use Rattle.settling.specs.Settling.{listened}
+use Rattle.settling.proofs.Heard as E
+use Rattle.settling.proofs.Heard.Laws as E′
+use Rattle.settling.proofs.Laws.{settled-is, Left, left-is}
+use Rattle.settling.proofs.settle as settle
+use Rattle.settling.proofs.settle.Symbol as settle-def
+use Rattle.settling.proofs.settle.Symbol.{name as #settling·settle}
+use Rattle.settling.proofs.settle.Met as settle-thm
 use Rattle.firmware.specs.declared.Reply.{Reply}
 use Rattle.firmware.specs.Replies.{replyTo, replyOf, settledReply}
 use Rattle.firmware.proofs.Behind.{behind}
@@ -131,8 +131,8 @@ is-false false _ = refl
 
 module _ {M : Type 1} (𝓤 : URA M) (H : Heap 𝓤) (A : Atoms 𝓤) (at-mem : Memory → SProp 𝓤) (run : Routine → Fun 𝓤) where
   -- the contracts that the proof cites
-  abbrev Listen : Contract 𝓤
-  Listen = tripleOf 𝓤 H A listen.signature (listen.spec 𝓤 H A at-mem run)
+  abbrev Settle : Contract 𝓤
+  Settle = tripleOf 𝓤 H A settle.signature (settle.spec 𝓤 H A at-mem run)
 
   abbrev Settled : Contract 𝓤
   Settled = tripleOf 𝓤 H A settled.signature (settled.spec 𝓤 H A at-mem run)
@@ -153,8 +153,8 @@ module _ {M : Type 1} (𝓤 : URA M) (H : Heap 𝓤) (A : Atoms 𝓤) (at-mem : 
   ReplyOf = tripleOf 𝓤 H A reply.signature (reply.spec 𝓤 H A at-mem run)
 
   -- of the helpers' `ensured`, the clause alone: none has a last value
-  listen-says : (m : Meter) (b room : ℕ) (r : Heard) → ent 𝓤 (ensured 𝓤 H A listen.ended (listen.clauses 𝓤 H A at-mem run) tt (m, (b, (room, tt))) tt r) (fact 𝓤 (r ≡ listened m room b))
-  listen-says m b room r = exE 𝓤 _ (λ ws. snd∗ 𝓤 (sem 𝓤 H A (lasts listen.ended tt (m, (b, (room, tt))) ws)) (fact 𝓤 (r ≡ listened m room b)))
+  settle-says : (m : Meter) (b room : ℕ) (r : Heard) → ent 𝓤 (ensured 𝓤 H A settle.ended (settle.clauses 𝓤 H A at-mem run) tt (m, (b, (room, tt))) tt r) (fact 𝓤 (r ≡ listened m room b))
+  settle-says m b room r = exE 𝓤 _ (λ ws. snd∗ 𝓤 (sem 𝓤 H A (lasts settle.ended tt (m, (b, (room, tt))) ws)) (fact 𝓤 (r ≡ listened m room b)))
 
   settled-says : (r : Heard) (y : Bool) → ent 𝓤 (ensured 𝓤 H A settled.ended (settled.clauses 𝓤 H A at-mem run) tt (r, tt) tt y) (fact 𝓤 (y ≡ r .settled))
   settled-says r y = exE 𝓤 _ (λ ws. snd∗ 𝓤 (sem 𝓤 H A (lasts settled.ended tt (r, tt) ws)) (fact 𝓤 (y ≡ r .settled)))
@@ -188,11 +188,11 @@ module _ {M : Type 1} (𝓤 : URA M) (H : Heap 𝓤) (A : Atoms 𝓤) (W : Given
   Post = walkOf 𝓤 H A f.ended stayed (f.clauses 𝓤 H A at-mem run) .post (((κ, (κ₁, tt)), (q, (q₁, tt)), tt, x, at), tt)
 
   -- what each callee's triple binds outside, and that the caller has what it asks
-  abbrev to-listen : Listen 𝓤 H A at-mem run .Ghost
-  to-listen = ((tt, tt, tt, (h, (n, (length ys, tt))), (LL.vals S.the-type S′.the-laws h, (vint w8 n ∷ [], (vint w64 (length ys) ∷ [], tt)))), tt)
+  abbrev to-settle : Settle 𝓤 H A at-mem run .Ghost
+  to-settle = ((tt, tt, tt, (h, (n, (length ys, tt))), (LL.vals S.the-type S′.the-laws h, (vint w8 n ∷ [], (vint w64 (length ys) ∷ [], tt)))), tt)
 
-  goes-listen : length ys < 2 ^ 64 → Is S.the-row h (LL.vals S.the-type S′.the-laws h) → ent 𝓤 (emp 𝓤) (Listen 𝓤 H A at-mem run .pre to-listen)
-  goes-listen few was =
+  goes-settle : length ys < 2 ^ 64 → Is S.the-row h (LL.vals S.the-type S′.the-laws h) → ent 𝓤 (emp 𝓤) (Settle 𝓤 H A at-mem run .pre to-settle)
+  goes-settle few was =
       qed W [] ∵ nothing ! $ owned ! usize (Is usize) (uint-makes 𝓤 H A W w64) (length ys) _ (refl, few) $ fjoin ! $ owned ! u8 (Is u8) (uint-makes 𝓤 H A W w8) n _ (refl, fits) $ fjoin ! $
       owned ! S.the-row (Is S.the-row) (LL.makes S.the-type S′.the-plain 𝓤 H A) h _ was $ fjoin ! $ nothing ! $ join ! $ frame ! $ done !
 
@@ -257,7 +257,7 @@ module _ {M : Type 1} (𝓤 : URA M) (H : Heap 𝓤) (A : Atoms 𝓤) (W : Given
       suffices ! _ (ends-at 𝓤 H A f.ended stayed (f.clauses 𝓤 H A at-mem run) W (((κ, (κ₁, tt)), (q, (q₁, tt)), tt, x, at), tt) v t (s, (tt, (zs, tt))) (tt, (tt, (l, tt)))) $ says ! e $ move ! (3 ∷ 4 ∷ []) $ join ! $ frame ! $
       nothing ! $ move ! (4 ∷ 0 ∷ []) $ fjoin ! $ owned ! u8 (Is u8) (uint-makes 𝓤 H A W w8) n _ (refl, fits) $ fjoin ! $ move ! (2 ∷ 3 ∷ []) $ feqI ! (List Val) (vptr b o ∷ []) (vptr b o ∷ []) refl $ fjoin3 ! $ fjoin ! $ done !
 
-  module _ (C : Calls 𝓤 H) (Λ : Loops 𝓤 H) (fm : FmC 𝓤 H (W .laws) C) (known-listen : Triple 𝓤 (C #listening·listen) (Listen 𝓤 H A at-mem run)) (known-settled : Triple 𝓤 (C #firmware·is-settled) (Settled 𝓤 H A at-mem run)) (known-receiver : Triple 𝓤 (C #firmware·receiver-of) (ReceiverOf 𝓤 H A at-mem run)) (known-short : Triple 𝓤 (C #firmware·short-reply) (Short 𝓤 H A at-mem run)) (known-take : Triple 𝓤 (C #meter·take) (Take 𝓤 H A at-mem run)) (known-next : Triple 𝓤 (C #firmware·next-of) (Next 𝓤 H A at-mem run)) (known-reply : Triple 𝓤 (C #firmware·reply-of) (ReplyOf 𝓤 H A at-mem run)) where
+  module _ (C : Calls 𝓤 H) (Λ : Loops 𝓤 H) (fm : FmC 𝓤 H (W .laws) C) (known-settle : Triple 𝓤 (C #settling·settle) (Settle 𝓤 H A at-mem run)) (known-settled : Triple 𝓤 (C #firmware·is-settled) (Settled 𝓤 H A at-mem run)) (known-receiver : Triple 𝓤 (C #firmware·receiver-of) (ReceiverOf 𝓤 H A at-mem run)) (known-short : Triple 𝓤 (C #firmware·short-reply) (Short 𝓤 H A at-mem run)) (known-take : Triple 𝓤 (C #meter·take) (Take 𝓤 H A at-mem run)) (known-next : Triple 𝓤 (C #firmware·next-of) (Next 𝓤 H A at-mem run)) (known-reply : Triple 𝓤 (C #firmware·reply-of) (ReplyOf 𝓤 H A at-mem run)) where
     walk : Room u8 (length ys) → ent 𝓤 (onEntry 𝓤 H A f.signature (κ, (κ₁, tt)) (q, (q₁, tt)) x at) (WpFn 𝓤 H C Λ code.function (vptr b o ∷ vint w8 n ∷ s₁ ∷ []) Post)
     walk room =
         qed W ((‵ (flft κ q) ⊛ (‵ (flft κ₁ q₁) ⊛ ‵ ftrue)) ∷ ‵ (owns (MutRef (named 0) κ S.the-row ∷ u8 ∷ MutSlice (named 1) κ₁ u8 ∷ []) x at) ∷ []) ∵ split ! $ move ! (2 ∷ []) $ fsplit ! $ fsplit3 ! $ drop ! $
@@ -271,10 +271,10 @@ module _ {M : Type 1} (𝓤 : URA M) (H : Heap 𝓤) (A : Atoms 𝓤) (W : Given
         -- [the record's cell; the open borrow; obs; auth; _12 4; _11 6; _10 8; _9 10; _8 12; _7 14; _6 16; _5 18; _4 20; _3 22; _2 24; _1 26; room for _0 28; what the slice owns 30; true; the slice's token 32]
         assigns ! (of-opd ! (load ! (from ! (hop ! (look ! 26 refl) (stop !))) (look-raw ! 0 refl))) (from ! (stop !)) (init ! 20 refl (LL.lawful S.the-type S′.the-laws 𝓤 H A W .typed h _ was .0)) $
         assigns ! (of-opd ! (load ! (from ! (fld ! refl (stop !))) (look-in ! 22 (sub ! 1 refl (whole !))))) (from ! (stop !)) (init ! 14 refl (tt, record { fits = room .0 })) $
-        -- `listen`
-        use0 W (raw (Listen 𝓤 H A at-mem run .pre to-listen)) (goes-listen (room .0) was) $
-        calls-at ! fm (Listen 𝓤 H A at-mem run) known-listen to-listen (and-then ! (load ! (from ! (stop !)) (look ! 21 refl)) (and-then ! (load ! (from ! (stop !)) (look ! 25 refl)) (and-then ! (load ! (from ! (stop !)) (look ! 15 refl)) (no-more !)))) (λ w. use1 W (later (some (λ (r : Heard). (‵ ftrue ⊛ ‵ (E.the-row .own r (w ∷ []))) ⊛ raw (ensured 𝓤 H A listen.ended (listen.clauses 𝓤 H A at-mem run) tt (h, (n, (length ys, tt))) tt r)))) (id⊢ 𝓤 _) $ await ! tt $ pick ! (λ r.
-        split ! $ move ! (1 ∷ []) $ use1 W (raw (fact 𝓤 (r ≡ listened h (length ys) n))) (listen-says 𝓤 H A at-mem run h n (length ys) r) $ heard ! (r ≡ listened h (length ys) n) (λ e. split ! $ drop ! $
+        -- `settle`
+        use0 W (raw (Settle 𝓤 H A at-mem run .pre to-settle)) (goes-settle (room .0) was) $
+        calls-at ! fm (Settle 𝓤 H A at-mem run) known-settle to-settle (and-then ! (load ! (from ! (stop !)) (look ! 21 refl)) (and-then ! (load ! (from ! (stop !)) (look ! 25 refl)) (and-then ! (load ! (from ! (stop !)) (look ! 15 refl)) (no-more !)))) (λ w. use1 W (later (some (λ (r : Heard). (‵ ftrue ⊛ ‵ (E.the-row .own r (w ∷ []))) ⊛ raw (ensured 𝓤 H A settle.ended (settle.clauses 𝓤 H A at-mem run) tt (h, (n, (length ys, tt))) tt r)))) (id⊢ 𝓤 _) $ await ! tt $ pick ! (λ r.
+        split ! $ move ! (1 ∷ []) $ use1 W (raw (fact 𝓤 (r ≡ listened h (length ys) n))) (settle-says 𝓤 H A at-mem run h n (length ys) r) $ heard ! (r ≡ listened h (length ys) n) (λ e. split ! $ drop ! $
         peeks ! E.the-row (Is E.the-row) (shows 𝓤 H A E.the-row) r (w ∷ []) (λ is. land ! (from ! (stop !)) (init ! 19 refl (LL.lawful E.the-type E′.the-laws 𝓤 H A W .typed r _ is .0)) $
         -- `is_settled`
         use1 W (raw (Settled 𝓤 H A at-mem run .pre (to-settled r w))) (goes-settled r w) $
@@ -333,21 +333,21 @@ module _ {M : Type 1} (𝓤 : URA M) (H : Heap 𝓤) (A : Atoms 𝓤) (W : Given
         keep ! (0 ∷ 1 ∷ 2 ∷ 3 ∷ 4 ∷ 5 ∷ []) $ by ! (exits t u s (zs .1 .1 .0) (said h n ys (zs .1 .1 .0) a t s (left .all) ea ezs es et) l))))))))))))))))))))))))))))))))))))))))
 
 module _ {M : Type 1} (𝓤 : URA M) (H : Heap 𝓤) (A : Atoms 𝓤) (W : Given 𝓤 H A) (at-mem : Memory → SProp 𝓤) (run : Routine → Fun 𝓤) where
-  walks : (C : Calls 𝓤 H) (Λ : Loops 𝓤 H) → FmC 𝓤 H (W .laws) C → Triple 𝓤 (C #listening·listen) (Listen 𝓤 H A at-mem run) → Triple 𝓤 (C #firmware·is-settled) (Settled 𝓤 H A at-mem run) → Triple 𝓤 (C #firmware·receiver-of) (ReceiverOf 𝓤 H A at-mem run) → Triple 𝓤 (C #firmware·short-reply) (Short 𝓤 H A at-mem run) → Triple 𝓤 (C #meter·take) (Take 𝓤 H A at-mem run) → Triple 𝓤 (C #firmware·next-of) (Next 𝓤 H A at-mem run) → Triple 𝓤 (C #firmware·reply-of) (ReplyOf 𝓤 H A at-mem run)
+  walks : (C : Calls 𝓤 H) (Λ : Loops 𝓤 H) → FmC 𝓤 H (W .laws) C → Triple 𝓤 (C #settling·settle) (Settle 𝓤 H A at-mem run) → Triple 𝓤 (C #firmware·is-settled) (Settled 𝓤 H A at-mem run) → Triple 𝓤 (C #firmware·receiver-of) (ReceiverOf 𝓤 H A at-mem run) → Triple 𝓤 (C #firmware·short-reply) (Short 𝓤 H A at-mem run) → Triple 𝓤 (C #meter·take) (Take 𝓤 H A at-mem run) → Triple 𝓤 (C #firmware·next-of) (Next 𝓤 H A at-mem run) → Triple 𝓤 (C #firmware·reply-of) (ReplyOf 𝓤 H A at-mem run)
       → Walks 𝓤 H A f.ended stayed (WpFn 𝓤 H C Λ code.function) (f.clauses 𝓤 H A at-mem run)
-  walks C Λ fm known-listen known-settled known-receiver known-short known-take known-next known-reply = walked 𝓤 H A f.ended stayed (f.clauses 𝓤 H A at-mem run) (WpFn 𝓤 H C Λ code.function)
+  walks C Λ fm known-settle known-settled known-receiver known-short known-take known-next known-reply = walked 𝓤 H A f.ended stayed (f.clauses 𝓤 H A at-mem run) (WpFn 𝓤 H C Λ code.function)
       (λ κs. (ptr-vals, (uint-vals w8, (slice-vals, tt)))) (λ κs. (mut-tells (named 0) (κs .0) S.the-row, (uint-tells w8, (mut-slice-tells (named 1) (κs .1 .0) u8, tt))))
       (λ κs qs bounds a g are. via 𝓤 _ (fst∗ 𝓤 _ (emp 𝓤)) (walk 𝓤 H A W at-mem run (κs .0) (κs .1 .0) (qs .0) (qs .1 .0) (a .0 .ptr .0) (a .0 .ptr .1) (a .0 .name) (a .0 .now) (a .1 .0) (a .1 .1 .0 .ptr .0) (a .1 .1 .0 .ptr .1) (a .1 .1 .0 .name) (a .1 .1 .0 .now) (are .1 .0 .1)
-      C Λ fm known-listen known-settled known-receiver known-short known-take known-next known-reply (are .1 .1 .0 .0 .1)))
+      C Λ fm known-settle known-settled known-receiver known-short known-take known-next known-reply (are .1 .1 .0 .0 .1)))
 
   goes : AllGo 𝓤 H A W 2 (f.signature .params) (f.ended .kept) stayed
   goes = (goes-ref 𝓤 H A W 2 0 tt (plain (λ _. S.the-row)), (goes-none 𝓤 H A W 2 (λ _. u8) yes (λ κs x f. refl), (goes-gave-slice 𝓤 H A W 2 1 tt (plain (λ _. u8)), tt)))
 
 meets : {M : Type 1} (𝓤 : URA M) (H : Heap 𝓤) (A : Atoms 𝓤) → Given 𝓤 H A → (at-mem : Memory → SProp 𝓤) (run : Routine → Fun 𝓤) (𝓣 : Tables 𝓤 H)
-    → Triple 𝓤 (𝓣 .C #listening·listen) (Listen 𝓤 H A at-mem run) → Triple 𝓤 (𝓣 .C #firmware·is-settled) (Settled 𝓤 H A at-mem run) → Triple 𝓤 (𝓣 .C #firmware·receiver-of) (ReceiverOf 𝓤 H A at-mem run) → Triple 𝓤 (𝓣 .C #firmware·short-reply) (Short 𝓤 H A at-mem run) → Triple 𝓤 (𝓣 .C #meter·take) (Take 𝓤 H A at-mem run) → Triple 𝓤 (𝓣 .C #firmware·next-of) (Next 𝓤 H A at-mem run) → Triple 𝓤 (𝓣 .C #firmware·reply-of) (ReplyOf 𝓤 H A at-mem run)
+    → Triple 𝓤 (𝓣 .C #settling·settle) (Settle 𝓤 H A at-mem run) → Triple 𝓤 (𝓣 .C #firmware·is-settled) (Settled 𝓤 H A at-mem run) → Triple 𝓤 (𝓣 .C #firmware·receiver-of) (ReceiverOf 𝓤 H A at-mem run) → Triple 𝓤 (𝓣 .C #firmware·short-reply) (Short 𝓤 H A at-mem run) → Triple 𝓤 (𝓣 .C #meter·take) (Take 𝓤 H A at-mem run) → Triple 𝓤 (𝓣 .C #firmware·next-of) (Next 𝓤 H A at-mem run) → Triple 𝓤 (𝓣 .C #firmware·reply-of) (ReplyOf 𝓤 H A at-mem run)
     → Meets 𝓤 H A f.signature (WpFn 𝓤 H (𝓣 .C) (𝓣 .Λ) code.function) (f.spec 𝓤 H A at-mem run)
-meets 𝓤 H A W at-mem run 𝓣 known-listen known-settled known-receiver known-short known-take known-next known-reply = walk-meets 𝓤 H A f.ended stayed W (goes 𝓤 H A W at-mem run) (f.clauses 𝓤 H A at-mem run) (WpFn 𝓤 H (𝓣 .C) (𝓣 .Λ) code.function) (WpFn-mono 𝓤 H (W .laws) 𝓣 code.function)
-    (walks 𝓤 H A W at-mem run (𝓣 .C) (𝓣 .Λ) (fmOf 𝓤 H (W .laws) 𝓣) known-listen known-settled known-receiver known-short known-take known-next known-reply)
+meets 𝓤 H A W at-mem run 𝓣 known-settle known-settled known-receiver known-short known-take known-next known-reply = walk-meets 𝓤 H A f.ended stayed W (goes 𝓤 H A W at-mem run) (f.clauses 𝓤 H A at-mem run) (WpFn 𝓤 H (𝓣 .C) (𝓣 .Λ) code.function) (WpFn-mono 𝓤 H (W .laws) 𝓣 code.function)
+    (walks 𝓤 H A W at-mem run (𝓣 .C) (𝓣 .Λ) (fmOf 𝓤 H (W .laws) 𝓣) known-settle known-settled known-receiver known-short known-take known-next known-reply)
 
 pub receive-in-place-spec : {M : Type 1} → stated.statement M
 unfolding code.routine tablesOf
@@ -355,7 +355,7 @@ receive-in-place-spec 𝓤 H 𝓜 𝓖 𝓡 =
     entered 𝓤 H (tripleOf 𝓤 H (𝓖 .A) f.signature (f.spec 𝓤 H (𝓖 .A) (𝓜 .mem) (𝓡 .run)))
     (tables 𝓤 H 𝓜 𝓡 code.env .C) (tables 𝓤 H 𝓜 𝓡 code.env .Λ) #firmware·receive-in-place code.function (code.unfolded 𝓤 H 𝓜 𝓡)
     (meets 𝓤 H (𝓖 .A) (givenOf 𝓤 H 𝓜 𝓖) (𝓜 .mem) (𝓡 .run) (tablesOf 𝓤 H 𝓜 (tables 𝓤 H 𝓜 𝓡 code.env))
-    (cited 𝓤 H (Listen 𝓤 H (𝓖 .A) (𝓜 .mem) (𝓡 .run)) 𝓜 𝓡 code.env #listening·listen listen-def.routine code.calls-listening·listen (listen-thm.met 𝓤 H 𝓜 𝓖 𝓡))
+    (cited 𝓤 H (Settle 𝓤 H (𝓖 .A) (𝓜 .mem) (𝓡 .run)) 𝓜 𝓡 code.env #settling·settle settle-def.routine code.calls-settling·settle (settle-thm.met 𝓤 H 𝓜 𝓖 𝓡))
     (cited 𝓤 H (Settled 𝓤 H (𝓖 .A) (𝓜 .mem) (𝓡 .run)) 𝓜 𝓡 code.env #firmware·is-settled settled-def.routine code.calls-firmware·is-settled (settled-thm.met 𝓤 H 𝓜 𝓖 𝓡))
     (cited 𝓤 H (ReceiverOf 𝓤 H (𝓖 .A) (𝓜 .mem) (𝓡 .run)) 𝓜 𝓡 code.env #firmware·receiver-of receiver-def.routine code.calls-firmware·receiver-of (receiver-thm.met 𝓤 H 𝓜 𝓖 𝓡))
     (cited 𝓤 H (Short 𝓤 H (𝓖 .A) (𝓜 .mem) (𝓡 .run)) 𝓜 𝓡 code.env #firmware·short-reply short-def.routine code.calls-firmware·short-reply (short-thm.met 𝓤 H 𝓜 𝓖 𝓡))

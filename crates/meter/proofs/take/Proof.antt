@@ -1,7 +1,7 @@
 -- `meter::take` meets its contract: each way out is the case of the definition that its tests name. Assumes nothing.
 use mathlib.Core.Path.{sym, _∙_}
 use Rattle.state.proofs.Limits.{limit-most}
-use Rattle.hearing.proofs.Laws.{hold-room}
+use Rattle.receiving.proofs.Laws.{hold-room}
 use native.Mathlib.Omega.{arith}
 use Rattle.text.specs.Writing.{holding}
 use Rattle.meter.specs.Character.{taken, heard}

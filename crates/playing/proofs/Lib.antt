@@ -1,3 +1,0 @@
-pub mod Doing
-pub mod Bytes
-pub mod Rooms

@@ -1,0 +1,164 @@
+// Receiving: what one character means to the receiver, and the receiver after it.
+ghost use mathlib.Core.Path.{_≡_};
+ghost use mathlib.Core.Bool.{cond};
+ghost use Prim.Native.Nat.{_<_, _-_};
+ghost use lib.ListN.{length, take, getD, set};
+ghost use Rattle.receiving.specs.Hearing.{listening, confirming, framing, hearing};
+ghost use Rattle.receiving.specs.Receivers.{keptReceiver, restartedReceiver, lastHeld};
+ghost use Rattle.state.specs.Making.{emptyReceiver};
+use state::Receiver;
+
+// A line or frame starts with no damage seen.
+const UNMARKED: bool = false;
+
+// What a character does to the receiver.
+pub enum Hearing {
+    // It is dropped.
+    Drop,
+    // It is held.
+    Hold,
+    // It starts the line or frame anew.
+    Restart,
+    // It is one too many, and the receiver is empty.
+    Empty,
+    // It ends a line.
+    Line,
+    // It is the sixth of a confirmation.
+    Confirm,
+    // It is the BCC of a whole frame.
+    Frame,
+    // It is the 64th of a frame that does not end.
+    TooLong,
+}
+
+// Mode 0.
+fn listen(count: u8, c: u8) -> Hearing
+    ensures { λ r. ⌜ r ≡ listening count c ⌝ }
+{
+    if c == b'/' {
+        return Hearing::Restart;
+    }
+    if count == 0 {
+        return Hearing::Drop;
+    }
+    if c == line::LF {
+        return Hearing::Line;
+    }
+    if 31 <= count {
+        return Hearing::Empty;
+    }
+    Hearing::Hold
+}
+
+// Mode 1.
+fn confirm(count: u8) -> Hearing
+    ensures { λ r. ⌜ r ≡ confirming count ⌝ }
+{
+    if 5 <= count {
+        return Hearing::Confirm;
+    }
+    Hearing::Hold
+}
+
+// Modes 2 to 4.
+fn frame(count: u8, last: u8, c: u8) -> Hearing
+    ensures { λ r. ⌜ r ≡ framing count last c ⌝ }
+{
+    let ended = !(count == 0) & (last == line::ETX);
+    if ended {
+        return Hearing::Frame;
+    }
+    if c == line::SOH {
+        return Hearing::Restart;
+    }
+    if count == 0 {
+        return Hearing::Drop;
+    }
+    if 63 <= count {
+        return Hearing::TooLong;
+    }
+    Hearing::Hold
+}
+
+// What a character means in a mode, after so many held, the last of them given.
+pub fn hear(mode: u8, count: u8, last: u8, c: u8) -> Hearing
+    ensures { λ r. ⌜ r ≡ hearing mode count last c ⌝ }
+{
+    if mode == 0 {
+        return listen(count, c);
+    }
+    if mode == 1 {
+        return confirm(count);
+    }
+    frame(count, last, c)
+}
+
+// The last held character; 0 where none is held.
+pub fn last_held(r: Receiver) -> u8
+    ensures { λ x. ⌜ x ≡ lastHeld r ⌝ }
+{
+    let held = r.held;
+    let count = r.count;
+    if count == 0 {
+        return held[0];
+    }
+    text::at(&held, (count - 1) as usize)
+}
+
+fn chosen(first: bool, a: u8, b: u8) -> u8
+    ensures { λ r. ⌜ r ≡ cond first a b ⌝ }
+{
+    if first { a } else { b }
+}
+
+// Puts a character in a place. All places are written, many at once: a byte stored alone and read next with those around it makes the
+// processor wait. At the place `ahead` is 128; it has eight bits like the characters.
+fn put_at(held: &mut [u8], at: u8, c: u8)
+    requires { ⌜ (length (now held) ≡ 63) × (at < 63) ⌝ }
+    ensures { λ _. ⌜ now (held .exit) ≡ set (now (held .entry)) at c ⌝ }
+{
+    let mut ahead = at + 128;
+    let mut i = 0;
+    while i < held.len() {
+        held[i] = chosen(ahead == 128, c, held[i]);
+        ahead -= 1;
+        i += 1;
+    }
+}
+
+// The receiver with one character more.
+pub fn keep(r: Receiver, c: u8, damaged: bool) -> Receiver
+    requires { ⌜ r .count < 63 ⌝ }
+    ensures { λ x. ⌜ x ≡ keptReceiver r c damaged ⌝ }
+{
+    let mut held = r.held;
+    put_at(&mut held, r.count, c);
+    Receiver {
+        held,
+        count: r.count + 1,
+        mark: r.mark | damaged,
+    }
+}
+
+// The receiver with this character alone.
+pub fn restart(c: u8) -> Receiver
+    ensures { λ x. ⌜ x ≡ restartedReceiver c ⌝ }
+{
+    let mut held = [0u8; 63];
+    held[0] = c;
+    Receiver {
+        held,
+        count: 1,
+        mark: UNMARKED,
+    }
+}
+
+pub fn empty() -> Receiver
+    ensures { λ x. ⌜ x ≡ emptyReceiver ⌝ }
+{
+    Receiver {
+        held: [0; 63],
+        count: 0,
+        mark: false,
+    }
+}

@@ -1,0 +1,51 @@
+-- What a character does to a meter that only goes on listening: nothing but its receiver changes, and there is no reply.
+use mathlib.Core.Bool.{Bool, true, false, cond}
+use mathlib.Core.List.{[]}
+use Prim.Native.Nat.{ℕ}
+use lib.Dec.{ltb}
+use Rattle.line.specs.Characters.{damagedAt}
+use Rattle.state.specs.declared.Receiver.{Receiver}
+use Rattle.state.specs.declared.Meter.{Meter}
+use Rattle.state.specs.WellFormed.{wellFormed}
+use Rattle.state.specs.Making.{emptyReceiver}
+use Rattle.receiving.specs.declared.Hearing.{Hearing}
+use Rattle.receiving.specs.declared.Hearing.the-variants.{Drop, Hold, Restart, Empty, Line, Confirm, Frame, TooLong}
+use Rattle.receiving.specs.Hearing.{hearing}
+use Rattle.receiving.specs.Receivers.{lastHeld, keptReceiver, restartedReceiver}
+use Rattle.changes.specs.Changes.{withReceiver}
+use Rattle.meter.specs.Outcomes.{Outcome, speedOf}
+use Rattle.meter.specs.Character.{symbol}
+use Rattle.settling.specs.declared.Heard.{Heard}
+
+-- answer 0, and the receiver after the character
+abbrev pub goesOn : ℕ → Receiver → Heard
+goesOn mode r = record { settled = true; number = 0; speed = speedOf mode; receiver = r }
+
+-- the character ends a line, a confirmation or a frame, or is one too many of a frame: the meter has to act
+abbrev pub ends : Receiver → Heard
+ends r = record { settled = false; number = 0; speed = 0; receiver = r }
+
+-- 12 or 14: nothing changed, speed 0
+abbrev pub refuses : ℕ → Receiver → Heard
+refuses number r = record { settled = true; number = number; speed = 0; receiver = r }
+
+unfoldable pub heardAs : Meter → ℕ → Bool → Hearing → Heard
+heardAs m c damaged Drop = goesOn (m .mode) (m .receiver)
+heardAs m c damaged Hold = goesOn (m .mode) (keptReceiver (m .receiver) c damaged)
+heardAs m c damaged Restart = goesOn (m .mode) (restartedReceiver c)
+heardAs m c damaged Empty = goesOn (m .mode) emptyReceiver
+heardAs m c damaged Line = ends (m .receiver)
+heardAs m c damaged Confirm = ends (m .receiver)
+heardAs m c damaged Frame = ends (m .receiver)
+heardAs m c damaged TooLong = ends (m .receiver)
+
+unfoldable pub heardBy : Meter → ℕ → Heard
+heardBy m b = heardAs m (symbol b) (damagedAt b) (hearing (m .mode) (m .receiver .count) (lastHeld (m .receiver)) (symbol b))
+
+-- a reply buffer under 2,048 gives 12, then a malformed state 14
+unfoldable pub listened : Meter → ℕ → ℕ → Heard
+listened m room b = cond (ltb room 2048) (refuses 12 (m .receiver)) (cond (wellFormed m) (heardBy m b) (refuses 14 (m .receiver)))
+
+-- all that comes of a settled character
+abbrev pub settledOutcome : Meter → Heard → Outcome
+settledOutcome m h = record { number = h .number; speed = h .speed; reply = []; next = withReceiver m (h .receiver) }
