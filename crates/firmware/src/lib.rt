@@ -6,8 +6,8 @@ ghost use Rattle.text.specs.Writing.{holding};
 ghost use Rattle.frames.specs.Frames.{onWire};
 ghost use Rattle.meter.specs.Character.{character};
 ghost use Rattle.firmware.specs.Replies.{replyTo, replyOf, settledReply};
-use settling::Heard;
 use meter::Answer;
+use settling::Heard;
 use state::Meter;
 use state::Receiver;
 
