@@ -59,7 +59,7 @@ events = (
     «take_pulse» = (seen (λ (a : Answer). a .next .registers .counters .t1) refl, seen (λ (a : Answer). a .number) refl);
     «power_up» = (seen (λ (a : Answer). a .next .attempts) refl, seen (λ (a : Answer). a .next .mode) refl);
   },
-  record { listen = (seen (λ (h : Heard). cond (h .settled) 1 0) refl, seen (λ (h : Heard). h .number) refl) },
+  record { settle = (seen (λ (h : Heard). cond (h .settled) 1 0) refl, seen (λ (h : Heard). h .number) refl) },
   record {
     «receive_in_place» = (seen (λ (r : Reply). r .length) refl, seen (λ (m : Meter). m .receiver .count) refl);
     «dirgemist_meter_receive» = (number refl, number refl);

@@ -1,1 +1,1 @@
-pub mod Listening
+pub mod Settling
