@@ -18,6 +18,7 @@ use Rattle.text.proofs.Forms.{text-fits}
 use Rattle.text.proofs.Matching.{matching-length}
 use Rattle.clock.specs.declared.Clock.{Clock}
 use Rattle.clock.specs.Seconds.{realClock}
+use Rattle.values.specs.Edition.{editionTables}
 use Rattle.values.specs.Registers.{goodDigits, goodPassword, goodAccount, goodRow, goodTable}
 use Rattle.values.specs.Texts.{tableText, clockText}
 use Rattle.values.specs.Reading.{tableRead}
@@ -83,7 +84,7 @@ asked-energy (suc (suc (suc (suc zero)))) h = refl
 asked-energy (suc (suc (suc (suc (suc n))))) h = absurd (omega arith)
 
 -- Z(xx), of two digits
-two-asked : (x y : ℕ) → isDigit x ≡ true → isDigit y ≡ true → asked (90 ∷ 40 ∷ x ∷ y ∷ 41 ∷ []) ≡ tableNamed (tableRead 24 (x ∷ y ∷ []))
+two-asked : (x y : ℕ) → isDigit x ≡ true → isDigit y ≡ true → asked (90 ∷ 40 ∷ x ∷ y ∷ 41 ∷ []) ≡ tableNamed (tableRead editionTables (x ∷ y ∷ []))
 unfolding asked energyAsked tableAsked askClock askSerial askAccount askEnergy bracketed sameText matching fits agrees
 two-asked x y hx hy = rw (hx, hy)
 
@@ -95,12 +96,12 @@ digits-are : (n : ℕ) → (48 + n / 10 % 10) ∷ (48 + n % 10) ∷ [] ≡ table
 unfolding tableText layoutText decimal
 digits-are n = refl
 
-pub asked-table : (n : ℕ) → goodTable 24 n ≡ true → asked (askTable n) ≡ Read (ask.Table (record { 0 = n }))
+pub asked-table : (n : ℕ) → goodTable editionTables n ≡ true → asked (askTable n) ≡ Read (ask.Table (record { 0 = n }))
 asked-table n good =
     ap asked (ask-table-is n)
     ∙ two-asked (48 + n / 10 % 10) (48 + n % 10) (digit-is (n / 10 % 10) (omega arith)) (digit-is (n % 10) (omega arith))
-    ∙ ap (λ (t : List ℕ). tableNamed (tableRead 24 t)) (digits-are n)
-    ∙ ap tableNamed (table-reads-back 24 n (omega arith) good)
+    ∙ ap (λ (t : List ℕ). tableNamed (tableRead editionTables t)) (digits-are n)
+    ∙ ap tableNamed (table-reads-back editionTables n (omega arith) good)
 
 -- W1
 
@@ -141,15 +142,15 @@ pub told-account : (a : List ℕ) → goodAccount a ≡ true → told (setAccoun
 unfolding setAccount accountTold
 told-account a good = told-by 75 a ∙ (rw good)
 
-two-told : (x y : ℕ) (row : List ℕ) → goodRow row ≡ true → tableTold (x ∷ y ∷ 59 ∷ row) ≡ tableMeant (tableRead 24 (x ∷ y ∷ []))
+two-told : (x y : ℕ) (row : List ℕ) → goodRow row ≡ true → tableTold (x ∷ y ∷ 59 ∷ row) ≡ tableMeant (tableRead editionTables (x ∷ y ∷ []))
 unfolding tableTold
 two-told x y row good = rw good
 
-pub told-table : (n : ℕ) (row : List ℕ) → goodTable 24 n ≡ true → goodRow row ≡ true → told (setTable n row) ≡ WriteTable (record { 0 = n })
+pub told-table : (n : ℕ) (row : List ℕ) → goodTable editionTables n ≡ true → goodRow row ≡ true → told (setTable n row) ≡ WriteTable (record { 0 = n })
 unfolding setTable
 told-table n row good-n good =
     told-by 90 (tableText n ++ (59 ∷ row))
     ∙ ap (λ (t : List ℕ). tableTold (t ++ (59 ∷ row))) (sym (digits-are n))
     ∙ two-told (48 + n / 10 % 10) (48 + n % 10) row good
-    ∙ ap (λ (t : List ℕ). tableMeant (tableRead 24 t)) (digits-are n)
-    ∙ ap tableMeant (table-reads-back 24 n (omega arith) good-n)
+    ∙ ap (λ (t : List ℕ). tableMeant (tableRead editionTables t)) (digits-are n)
+    ∙ ap tableMeant (table-reads-back editionTables n (omega arith) good-n)
