@@ -8,6 +8,7 @@ use borrow.Author.Tests.{le-leb, lt-ltb}
 use lib.Dec.{eqb, leb}
 use lib.ListN.{length, getD, take, length-append}
 use lib.Seq.{take-at, getD-append-seam}
+use Rattle.line.specs.Quoted.{chars}
 use Rattle.line.specs.Runs.{every}
 use Rattle.line.proofs.Runs.{and-right}
 use Rattle.text.specs.Classes.{isDigit, matching, sameText}
@@ -40,10 +41,10 @@ entry-plain = refl
 
 -- eight digits in brackets
 abbrev passwordForm : List Piece
-passwordForm = fixed (40 ∷ []) ∷ digits 8 ∷ fixed (41 ∷ []) ∷ []
+passwordForm = fixed (chars "(") ∷ digits 8 ∷ fixed (chars ")") ∷ []
 
 module _ (p : List ℕ) (good : goodPassword p ≡ true) where
-  password-fits : fits (bracketed (35 ∷ 35 ∷ 35 ∷ 35 ∷ 35 ∷ 35 ∷ 35 ∷ 35 ∷ [])) (bracketed p) ≡ true
+  password-fits : fits (chars "(########)") (bracketed p) ≡ true
   unfolding bracketed goodDigits numbersFit plain pattern layoutText every
   password-fits =
       let n = digits-long 8 p good in
@@ -52,9 +53,9 @@ module _ (p : List ℕ) (good : goodPassword p ≡ true) where
       let low : valueOf p < 10 ^ 8 = rw n at (value-lt p all) in
       rw same at (text-fits passwordForm (valueOf p ∷ []) refl (rw (lt-ltb (valueOf p) (10 ^ 8) low)))
 
-  not-plain : sameText (bracketed p) (bracketed []) ≡ false
+  not-plain : sameText (bracketed p) (chars "()") ≡ false
   unfolding bracketed sameText
-  not-plain = matching-length eqb (40 ∷ (p ++ (41 ∷ []))) (40 ∷ 41 ∷ []) (λ e. omega (arith, digits-long 8 p good, length-append p (41 ∷ [])))
+  not-plain = matching-length eqb (chars "(" ++ (p ++ chars ")")) (chars "()") (λ e. omega (arith, digits-long 8 p good, length-append p (41 ∷ [])))
 
   pub entry-password : entry (passwordData p) ≡ Password
   unfolding entry passwordData
