@@ -6,6 +6,7 @@ use Prim.Native.Nat.{ℕ, _+_, _-_}
 use lib.Count.{ones}
 use lib.ListN.{getD, replicate}
 use Rattle.line.specs.Quoted.{chars}
+use Rattle.line.specs.Controls.{STX, ETX}
 use Rattle.line.specs.Characters.{seven, sent}
 use Rattle.line.specs.Checksum.{bccOf}
 use Rattle.line.specs.Runs.{every}
@@ -36,7 +37,7 @@ use Rattle.facts.proofs.Places.{only-answer, empty-answer, last-answer,
 
 energy-shown : (g : Registers) → g .counters .t1 ≡ 1500
     → blockOf (askedData g (Energy 1))
-    ≡ chars "\u{2}15.8.1(000001.500*kWh)\r\n\u{3}l"
+    ≡ STX ∷ chars "15.8.1(000001.500*kWh)\r\n" ++ ETX ∷ 0x6C ∷ []
 unfolding askedData askedSets energy linesOf dataSet counterText layoutText decimal blockOf closed bccOf seven
 energy-shown g h = ap (λ (wh : ℕ). blockOf (linesOf (energySet 1 wh ∷ []))) h
 

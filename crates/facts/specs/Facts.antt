@@ -5,7 +5,7 @@ use mathlib.Core.List.{List, [], _∷_, _++_}
 use Prim.Native.Nat.{ℕ}
 use lib.ListN.{getD, replicate}
 use Rattle.line.specs.Quoted.{char, chars}
-use Rattle.line.specs.Controls.{SOH, ETX}
+use Rattle.line.specs.Controls.{SOH, STX, ETX}
 use Rattle.values.specs.Edition.{editionTables, rowLength}
 use Rattle.values.specs.Registers.{goodRow}
 use Rattle.clock.specs.Seconds.{dateOf, timeOf}
@@ -35,11 +35,11 @@ pub record Answers (text : List ℕ) (number place : ℕ) : Type 0 where
 
 pub record Facts : Type 0 where
   -- BCC of B0: 71 (hex)
-  pub leave : bareFrame B0 ≡ chars "\u{1}B0\u{3}q"
+  pub leave : bareFrame B0 ≡ SOH ∷ chars "B0" ++ ETX ∷ 0x71 ∷ []
   -- P0 (0000): 60
-  pub ask-password : frameOf P0 (chars "(0000)") ≡ chars "\u{1}P0\u{2}(0000)\u{3}`"
+  pub ask-password : frameOf P0 (chars "(0000)") ≡ SOH ∷ chars "P0" ++ STX ∷ chars "(0000)" ++ ETX ∷ 0x60 ∷ []
   -- P1 (): 61, on the wire E1
-  pub enter : frameOf P1 enterData ≡ chars "\u{1}P1\u{2}()\u{3}a"
+  pub enter : frameOf P1 enterData ≡ SOH ∷ chars "P1" ++ STX ∷ chars "()" ++ ETX ∷ 0x61 ∷ []
   pub enter-wire : getD (onWire (frameOf P1 enterData)) 7 0 ≡ 0xE1
   -- all-'1' write for table 01: 06; table 04: 03, an ETX; table 06: 01, a SOH
   pub ones-01 : getD (frameOf W1 (setTable 1 allOnes)) 35 0 ≡ 0x06
@@ -49,7 +49,7 @@ pub record Facts : Type 0 where
   pub asks-first : asked (chars "E1()") ≡ Read (Energy 1)
   pub energy-block : (g : Registers) → g .counters .t1 ≡ 1500
       → blockOf (askedData g (Energy 1))
-      ≡ chars "\u{2}15.8.1(000001.500*kWh)\r\n\u{3}l"
+      ≡ STX ∷ chars "15.8.1(000001.500*kWh)\r\n" ++ ETX ∷ 0x6C ∷ []
   -- 2000-01-01 is a Saturday: table 13
   pub saturday : weekday (dateOf 2000 1 1) ≡ 5
   pub saturday-table : tableFor (dateOf 2000 1 1) ≡ 13
