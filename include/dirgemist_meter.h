@@ -1,9 +1,19 @@
-/* dirgemist_meter.h: the meter's side of the optical link, for firmware that keeps the meter's state in a record of its own.
+/* dirgemist_meter.h: the meter, for firmware that keeps the meter's state in a record of its own.
  *
- * The record may lie anywhere and may be kept, copied or stored as it is. Its fields are the state of document 01; any values of
- * their types may stand there, and a call first tells whether they are well-formed. mark is 0 or 1.
- * The function keeps nothing between calls: two meters may be served from two threads at once.
- * It is proved, for all states, bytes and buffers, to do what its paragraph says.
+ * Firmware makes a meter, tells it what happens (a character on the optical link, eight seconds of
+ * silence, a second gone by, a pulse of the measuring part, power coming back), and sends what the
+ * meter replies. Every call takes the record where it lies and leaves the next state there.
+ *
+ * The record may lie anywhere and may be kept, copied or stored as it is. Every field is a number,
+ * and any bytes at all may stand there: each call tells a record that is not well-formed by 14 and
+ * leaves it as it was, so a record that comes back from flash needs no test of its own.
+ * The functions keep nothing between calls: two meters may be served from two threads at once.
+ * Each is proved, for all records, numbers and buffers, to do what its paragraph says. Pointers
+ * must not be null, and what they point to must not overlap.
+ *
+ * Stack: an event takes some 3,950 bytes (64-bit Arm), a test 1,700, making 500; DIRGEMIST_STACK
+ * is above each, and hosts/stack measures them. The steps of an event hand the state on by value,
+ * and up to five copies of its tables are alive at once.
  *
  * Link with libfirmware.a.
  */
@@ -19,6 +29,7 @@ extern "C" {
 #endif
 
 #define DIRGEMIST_REPLY_ROOM 2048 /* the least room of a reply buffer */
+#define DIRGEMIST_STACK 4096      /* the most stack that a call takes, in bytes */
 
 struct dirgemist_date {
     uint16_t year; /* 2000 to 2099 */
@@ -70,11 +81,99 @@ struct dirgemist_meter {
     struct dirgemist_registers registers;
 };
 
-/* A received byte. Returns the answer's number; *meter becomes the next state, the reply's bytes, with parity, stand at the front
- * of reply, *length is their number and *speed the speed identifier, 0 or 5; every byte of reply past them is as it was.
- * Under DIRGEMIST_REPLY_ROOM bytes of room the answer is 12, and a state that is not well-formed gives 14: then *length and *speed
- * are 0 and nothing else is changed. The record, the buffer and the two numbers must not overlap. */
-uint8_t dirgemist_meter_receive(struct dirgemist_meter *meter, uint8_t byte, uint8_t *reply, size_t room, size_t *length, uint8_t *speed);
+/* The numbers returned.
+ *    0  taken, and nothing to say
+ *    1  done
+ *    2  a confirmation that is none; the meter listens again
+ *    3  a character of the frame came damaged; this and 4 to 11 reply NAK
+ *    4  the frame's BCC is wrong
+ *    5  a frame of more than 64 characters
+ *    6  a frame of no known shape
+ *    7  an unknown command
+ *    8  a command that the mode does not allow
+ *    9  data that the command does not take
+ *   10  the wrong password
+ *   11  locked: three wrong passwords were given
+ *   12  under DIRGEMIST_REPLY_ROOM bytes for the reply of a character or of silence
+ *   13  a pulse of more than 1,000,000 Wh
+ *   14  the record is not well-formed
+ *   15  the facts that a meter is to be made from are bad
+ *   99  no such event
+ * 12, 13, 14 and 99 leave every byte of the record and of the buffer as it was. The order of the
+ * tests is 99, 13, 12, 14. */
+#define DIRGEMIST_NO_EVENT 99
+
+/* What can happen, and what the value beside it is. */
+#define DIRGEMIST_CHARACTER 0 /* the byte from the line, 0 to 255 */
+#define DIRGEMIST_SILENCE 1   /* eight seconds without a character; any value */
+#define DIRGEMIST_TICK 2      /* one second; any value */
+#define DIRGEMIST_PULSE 3     /* the Wh, 0 to 1,000,000 */
+#define DIRGEMIST_POWER_UP 4  /* power has come back; any value */
+
+/* Makes a new meter in *meter: the serial's ten digits, the account's ten letters, digits, spaces
+ * or underscores, the password's eight digits, and the clock, a real date of 2000 to 2099 with a
+ * time; counters and attempts 0, all tables '1', listening, nothing received. Returns 1. Bad facts,
+ * other lengths among them, give 15, and *meter is then the blank meter: zeros for the serial and
+ * the password, ten spaces, 2000-01-01 00:00:00. What stood in *meter before does not matter. */
+uint8_t dirgemist_meter_make(struct dirgemist_meter *meter, const uint8_t *serial,
+                             size_t serial_length, const uint8_t *account, size_t account_length,
+                             const uint8_t *password, size_t password_length, uint16_t year,
+                             uint8_t month, uint8_t day, uint8_t hour, uint8_t minute,
+                             uint8_t second);
+
+/* Whether the record is well-formed: 1, or 14. It is only read. */
+uint8_t dirgemist_meter_check(const struct dirgemist_meter *meter);
+
+/* What has happened, with its value. Returns the answer's number; *meter becomes the next state,
+ * the reply's bytes, with parity, stand at the front of the room bytes at reply, *length is their
+ * number and *speed the speed identifier, 0 (300 baud) or 5 (9600): the reply's where there is one,
+ * else that of the next state. Every byte of reply past them is as it was. *length and *speed are
+ * always written; with 12, 13, 14 and 99 they are 0.
+ * A tick, a pulse and power-up have no reply and take any room, none too; where room is 0, reply is
+ * never read or written through. A kind that is none of the five, or a character over 255, gives
+ * 99. */
+uint8_t dirgemist_meter_meet(struct dirgemist_meter *meter, uint8_t kind, uint32_t value,
+                             uint8_t *reply, size_t room, size_t *length, uint8_t *speed);
+
+/* A byte has come from the line. 12, 14, or as the byte and the mode rule: 0 where it is only held
+ * or dropped. */
+static inline uint8_t dirgemist_meter_receive(struct dirgemist_meter *meter, uint8_t byte,
+                                              uint8_t *reply, size_t room, size_t *length,
+                                              uint8_t *speed) {
+    return dirgemist_meter_meet(meter, DIRGEMIST_CHARACTER, byte, reply, room, length, speed);
+}
+
+/* Eight seconds without a character: the meter listens again, with nothing received. A meter that
+ * waits for the confirmation replies NAK. 12, 14, 0 where it was listening, else 1. */
+static inline uint8_t dirgemist_meter_silence(struct dirgemist_meter *meter, uint8_t *reply,
+                                              size_t room, size_t *length, uint8_t *speed) {
+    return dirgemist_meter_meet(meter, DIRGEMIST_SILENCE, 0, reply, room, length, speed);
+}
+
+/* An event that has no reply. */
+static inline uint8_t dirgemist_meter_note(struct dirgemist_meter *meter, uint8_t kind,
+                                           uint32_t value, uint8_t *speed) {
+    uint8_t nowhere;
+    size_t length;
+    return dirgemist_meter_meet(meter, kind, value, &nowhere, 0, &length, speed);
+}
+
+/* A second has gone by: the clock moves on. 14, or 1. */
+static inline uint8_t dirgemist_meter_tick(struct dirgemist_meter *meter, uint8_t *speed) {
+    return dirgemist_meter_note(meter, DIRGEMIST_TICK, 0, speed);
+}
+
+/* So many Wh were used: the counter of the zone that day and hour name grows by them, and rolls
+ * over at 1,000,000,000. 13, 14, or 1. */
+static inline uint8_t dirgemist_meter_pulse(struct dirgemist_meter *meter, uint32_t wh,
+                                            uint8_t *speed) {
+    return dirgemist_meter_note(meter, DIRGEMIST_PULSE, wh, speed);
+}
+
+/* Power has come back: the meter listens, with nothing received and no attempts. 14, or 1. */
+static inline uint8_t dirgemist_meter_power_up(struct dirgemist_meter *meter, uint8_t *speed) {
+    return dirgemist_meter_note(meter, DIRGEMIST_POWER_UP, 0, speed);
+}
 
 #ifdef __cplusplus
 }

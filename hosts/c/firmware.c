@@ -1,6 +1,8 @@
-/* firmware.c: holds a meter as firmware does, in a record of its own, and plays a dialogue of document 01: sign-on, confirmation, password
- * and table writes, then the refusals that leave the record alone. The record, the buffer and the numbers are memory of their exact
- * size. Prints one line, and exits with 1 on any difference. */
+/* firmware.c: holds a meter as firmware does, in a record of its own. It makes one, plays a dialogue of
+ * document 01 (sign-on, confirmation, password, table writes, counters), lets time pass, counts pulses,
+ * and sees each refusal of each call leave every byte as it was. At the end a million records of any
+ * bytes are given to every call. The record, the buffer and the numbers are memory of their exact size.
+ * Prints one line, and exits with 1 on any difference. */
 #include "exactly.h"
 
 #include "dirgemist_meter.h"
@@ -21,72 +23,151 @@ _Static_assert(offsetof(struct dirgemist_meter, receiver) == 2, "receiver's plac
 _Static_assert(offsetof(struct dirgemist_meter, registers) == 68, "registers' place");
 _Static_assert(sizeof(struct dirgemist_meter) == 696, "meter");
 
+#define ROOM DIRGEMIST_REPLY_ROOM
+
 static int wrong = 0;
-static int calls = 0;
+static long calls = 0;
 
 static void expect(int right, const char *what) {
-    if (!right) {
-        printf("firmware: differs: %s\n", what);
-        wrong = 1;
+    if (!right && !wrong) {
+        printf("firmware: differs: %s (call %ld)\n", what, calls);
     }
+    wrong |= !right;
 }
 
 static uint8_t with_parity(uint8_t character) {
     return (uint8_t)(character | (__builtin_parity(character) << 7));
 }
 
-/* The answer's number to one byte in a buffer of `room` bytes of 0x5A; what it wrote stays in reply. */
-static uint8_t hear(struct dirgemist_meter *meter, uint8_t byte, uint8_t *reply, size_t room, size_t *length, uint8_t *speed) {
-    memset(reply, 0x5A, room);
+/* What the calls hand out, and a buffer for their replies. */
+static uint8_t *reply;
+static size_t *length;
+static uint8_t *speed;
+static uint8_t filled[ROOM];
+
+/* Whether two records hold the same state; what lies between the fields is not looked at. */
+static int same(const struct dirgemist_meter *a, const struct dirgemist_meter *b) {
+#define SAME(field) (memcmp(&a->field, &b->field, sizeof a->field) == 0)
+    return SAME(mode) && SAME(attempts) && SAME(receiver) && SAME(registers.serial)
+           && SAME(registers.account) && SAME(registers.password) && SAME(registers.clock.date)
+           && SAME(registers.clock.time) && SAME(registers.counters) && SAME(registers.tables);
+#undef SAME
+}
+
+/* The answer's number to an event in a buffer of `room` bytes of 0x5A; what it wrote stays in reply. */
+static uint8_t meet(struct dirgemist_meter *meter, uint8_t kind, uint32_t value, size_t room) {
+    uint8_t *at = reply + ROOM - room;
+    memcpy(at, filled, room);
     *length = 99;
     *speed = 99;
-    uint8_t number = dirgemist_meter_receive(meter, byte, reply, room, length, speed);
-    for (size_t at = *length; at < room; at++) {
-        expect(reply[at] == 0x5A, "a byte past the reply");
+    uint8_t number = dirgemist_meter_meet(meter, kind, value, at, room, length, speed);
+    expect(*length <= room, "a reply that does not fit");
+    expect(*length > room || memcmp(at + *length, filled, room - *length) == 0, "a byte past the reply");
+    calls++;
+    return number;
+}
+
+/* An event that is refused: the number, zeros handed out, every byte of record and buffer as it was. */
+static void refused(struct dirgemist_meter *meter, uint8_t kind, uint32_t value, size_t room,
+                    uint8_t number, const char *what) {
+    struct dirgemist_meter before;
+    memcpy(&before, meter, sizeof before);
+    expect(meet(meter, kind, value, room) == number, what);
+    expect(*length == 0 && *speed == 0, what);
+    expect(memcmp(&before, meter, sizeof before) == 0, what);
+}
+
+/* Plays a message of plain characters: every one but the last answers 0 and is held, and the last
+ * answers `number` with these characters. */
+static void say(struct dirgemist_meter *meter, const char *what, const char *message,
+                size_t message_length, uint8_t number, const char *answer, size_t answer_length,
+                uint8_t at_speed) {
+    for (size_t at = 0; at + 1 < message_length; at++) {
+        uint8_t before = meter->receiver.count;
+        uint8_t byte = with_parity((uint8_t)message[at]);
+        expect(meet(meter, DIRGEMIST_CHARACTER, byte, ROOM) == 0 && *length == 0, what);
+        expect(meter->receiver.count == before + 1, what);
+        expect(meter->receiver.held[before] == (uint8_t)message[at], what);
+    }
+    uint8_t last = with_parity((uint8_t)message[message_length - 1]);
+    expect(dirgemist_meter_receive(meter, last, reply, ROOM, length, speed) == number, what);
+    expect(*length == answer_length && *speed == at_speed, what);
+    for (size_t at = 0; at < answer_length && at < *length; at++) {
+        expect(reply[at] == with_parity((uint8_t)answer[at]), what);
+    }
+    expect(meter->receiver.count == 0, what);
+    calls++;
+}
+
+#define SAY(meter, what, message, number, answer, speed) \
+    say(meter, what, message, sizeof(message) - 1, number, answer, sizeof(answer) - 1, speed)
+
+/* A meter from these facts; the texts are memory that ends where its length says. */
+static uint8_t make(struct dirgemist_meter *meter, const char *serial, const char *account,
+                    const char *password, uint16_t year, uint8_t month, uint8_t day, uint8_t hour,
+                    uint8_t minute, uint8_t second) {
+    size_t lengths[3] = {strlen(serial), strlen(account), strlen(password)};
+    const uint8_t *texts[3] = {lent(serial, lengths[0]), lent(account, lengths[1]),
+                               lent(password, lengths[2])};
+    memset(meter, 0x5A, sizeof *meter);
+    uint8_t number = dirgemist_meter_make(meter, texts[0], lengths[0], texts[1], lengths[1], texts[2],
+                                          lengths[2], year, month, day, hour, minute, second);
+    for (int i = 0; i < 3; i++) {
+        give_back(texts[i], lengths[i]);
     }
     calls++;
     return number;
 }
 
-/* Plays a message of plain characters: every one but the last answers 0 and is held, and the last answers `number` with these characters. */
-static void say(struct dirgemist_meter *meter, const char *what, const char *message, size_t message_length, uint8_t number, const char *reply,
-                size_t reply_length, uint8_t speed) {
-    size_t room = DIRGEMIST_REPLY_ROOM;
-    uint8_t *buffer = exactly(room);
-    size_t *length = exactly(sizeof *length);
-    uint8_t *got_speed = exactly(sizeof *got_speed);
-    for (size_t at = 0; at + 1 < message_length; at++) {
-        uint8_t before = meter->receiver.count;
-        uint8_t got = hear(meter, with_parity((uint8_t)message[at]), buffer, room, length, got_speed);
-        expect(got == 0 && *length == 0, what);
-        expect(meter->receiver.count == before + 1 && meter->receiver.held[before] == (uint8_t)message[at], what);
+static void makes(struct dirgemist_meter *meter) {
+    struct dirgemist_meter blank = {0};
+    memset(blank.registers.serial, '0', sizeof blank.registers.serial);
+    memset(blank.registers.account, ' ', sizeof blank.registers.account);
+    memset(blank.registers.password, '0', sizeof blank.registers.password);
+    memset(blank.registers.tables, '1', sizeof blank.registers.tables);
+    blank.registers.clock.date = (struct dirgemist_date){2000, 1, 1};
+
+    static const struct {
+        const char *serial, *account, *password;
+        uint16_t year;
+        uint8_t month, day, hour, minute, second;
+    } bad[] = {
+        {"123456789", "Kiln_7 old", "20304050", 2024, 2, 29, 23, 5, 9},
+        {"12345678901", "Kiln_7 old", "20304050", 2024, 2, 29, 23, 5, 9},
+        {"", "", "", 2024, 2, 29, 23, 5, 9},
+        {"123456789x", "Kiln_7 old", "20304050", 2024, 2, 29, 23, 5, 9},
+        {"1234567890", "Kiln_7 ol", "20304050", 2024, 2, 29, 23, 5, 9},
+        {"1234567890", "Kiln-7 old", "20304050", 2024, 2, 29, 23, 5, 9},
+        {"1234567890", "Kiln_7 old", "2030405", 2024, 2, 29, 23, 5, 9},
+        {"1234567890", "Kiln_7 old", "203040501", 2024, 2, 29, 23, 5, 9},
+        {"1234567890", "Kiln_7 old", "2030405a", 2024, 2, 29, 23, 5, 9},
+        {"1234567890", "Kiln_7 old", "20304050", 1999, 2, 28, 23, 5, 9},
+        {"1234567890", "Kiln_7 old", "20304050", 2023, 2, 29, 23, 5, 9},
+        {"1234567890", "Kiln_7 old", "20304050", 2024, 13, 1, 23, 5, 9},
+        {"1234567890", "Kiln_7 old", "20304050", 2024, 2, 29, 24, 5, 9},
+        {"1234567890", "Kiln_7 old", "20304050", 2024, 2, 29, 23, 60, 9},
+        {"1234567890", "Kiln_7 old", "20304050", 2024, 2, 29, 23, 5, 60},
+    };
+    for (size_t i = 0; i < sizeof bad / sizeof *bad; i++) {
+        uint8_t number = make(meter, bad[i].serial, bad[i].account, bad[i].password, bad[i].year,
+                              bad[i].month, bad[i].day, bad[i].hour, bad[i].minute, bad[i].second);
+        expect(number == 15 && same(meter, &blank), "bad facts");
+        expect(dirgemist_meter_check(meter) == 1, "the blank meter is well-formed");
     }
-    uint8_t got = hear(meter, with_parity((uint8_t)message[message_length - 1]), buffer, room, length, got_speed);
-    expect(got == number, what);
-    expect(*length == reply_length && *got_speed == speed, what);
-    for (size_t at = 0; at < reply_length && at < *length; at++) {
-        expect(buffer[at] == with_parity((uint8_t)reply[at]), what);
-    }
-    expect(meter->receiver.count == 0 && !meter->receiver.mark, what);
-    give_back(got_speed, sizeof *got_speed);
-    give_back(length, sizeof *length);
-    give_back(buffer, room);
+    struct dirgemist_meter wanted = blank;
+    memcpy(wanted.registers.serial, "1234567890", 10);
+    memcpy(wanted.registers.account, "Kiln_7 old", 10);
+    memcpy(wanted.registers.password, "20304050", 8);
+    wanted.registers.clock = (struct dirgemist_clock){{2024, 2, 29}, {23, 5, 9}};
+    expect(make(meter, "1234567890", "Kiln_7 old", "20304050", 2024, 2, 29, 23, 5, 9) == 1, "made");
+    expect(same(meter, &wanted), "a new meter");
+    expect(dirgemist_meter_check(meter) == 1, "a new meter is well-formed");
 }
 
-#define SAY(meter, what, message, number, reply, speed) \
-    say(meter, what, message, sizeof(message) - 1, number, reply, sizeof(reply) - 1, speed)
-
-int main(void) {
-    struct dirgemist_meter *meter = exactly(sizeof *meter);
-    memset(meter, 0, sizeof *meter);
-    memcpy(meter->registers.serial, "1234567890", 10);
-    memcpy(meter->registers.account, "Kiln_7 old", 10);
-    memcpy(meter->registers.password, "20304050", 8);
-    meter->registers.clock = (struct dirgemist_clock){{2024, 2, 29}, {23, 5, 9}};
-    meter->registers.counters = (struct dirgemist_counters){1500, 2, 3, 999999999};
-    memset(meter->registers.tables, '1', sizeof meter->registers.tables);
+/* Sign-on, confirmation, password, tables, a counter, good-bye. The meter counts 1,500 Wh first. */
+static void talks(struct dirgemist_meter *meter) {
+    expect(dirgemist_meter_pulse(meter, 1500, speed) == 1 && *speed == 0, "1,500 Wh");
     struct dirgemist_meter kept = *meter;
-
     SAY(meter, "sign-on", "/?123 4567890!\r\n", 1, "/ZZZ5SUB-VP01.00*\r\n", 0);
     expect(meter->mode == 1, "waits for the confirmation");
     SAY(meter, "confirmation", "\006" "051\r\n", 1, "\001P0\002(0000)\003\x60", 5);
@@ -97,40 +178,191 @@ int main(void) {
     SAY(meter, "table 01", "\001W1\002Z(01;111111111111111111111111)\003\006", 1, "\006", 5);
     SAY(meter, "table 04", "\001W1\002Z(04;111111111111111111111111)\003\003", 1, "\006", 5);
     SAY(meter, "table 06", "\001W1\002Z(06;111111111111111111111111)\003\001", 1, "\006", 5);
-    expect(memcmp(meter->registers.tables, kept.registers.tables, sizeof kept.registers.tables) == 0, "rows of '1'");
     SAY(meter, "table 24", "\001W1\002Z(24;444433332222111144443333)\003\001", 1, "\006", 5);
-    expect(memcmp(meter->registers.tables + 23 * 24, "444433332222111144443333", 24) == 0, "row 24");
-    expect(memcmp(meter->registers.tables, kept.registers.tables, 23 * 24) == 0, "the other rows");
     SAY(meter, "a wrong BCC", "\001W1\002Z(01;222222222222222222222222)\003\007", 4, "\x15", 5);
     SAY(meter, "counter", "\001R1\002E1()\003\x17", 1, "\00215.8.1(000001.500*kWh)\r\n\003\x6c", 5);
     SAY(meter, "good-bye", "\001B0\003\x71", 1, "\006", 5);
     expect(meter->mode == 0, "listens");
-
-    /* Everything but the row is as it was. */
     memcpy(kept.registers.tables + 23 * 24, "444433332222111144443333", 24);
-    expect(memcmp(meter->registers.serial, kept.registers.serial, 10) == 0, "serial");
-    expect(memcmp(meter->registers.account, kept.registers.account, 10) == 0, "account");
-    expect(memcmp(meter->registers.password, kept.registers.password, 8) == 0, "password");
-    expect(meter->registers.clock.date.year == 2024 && meter->registers.clock.date.month == 2 && meter->registers.clock.date.day == 29, "date");
-    expect(meter->registers.clock.time.hour == 23 && meter->registers.clock.time.minute == 5 && meter->registers.clock.time.second == 9, "time");
-    expect(meter->registers.counters.t1 == 1500 && meter->registers.counters.t2 == 2 && meter->registers.counters.t3 == 3
-               && meter->registers.counters.t4 == 999999999,
-           "counters");
-    expect(memcmp(meter->registers.tables, kept.registers.tables, sizeof kept.registers.tables) == 0, "tables");
+    expect(same(meter, &kept), "everything but row 24 is as it was");
+}
 
-    /* The refusals that change nothing: too little room, then a state that is not well-formed. */
-    size_t length;
-    uint8_t speed;
-    uint8_t *buffer = exactly(DIRGEMIST_REPLY_ROOM);
-    meter->attempts = 4;
-    expect(hear(meter, '/', buffer + 1, DIRGEMIST_REPLY_ROOM - 1, &length, &speed) == 12 && length == 0 && speed == 0, "little room");
-    expect(hear(meter, '/', buffer, DIRGEMIST_REPLY_ROOM, &length, &speed) == 14 && length == 0 && speed == 0, "attempts 4");
-    expect(meter->attempts == 4 && meter->receiver.count == 0, "nothing held");
+/* Silence in each mode, seconds over the end of a month, a zone for each hour, power-up. */
+static void passes(struct dirgemist_meter *meter) {
+    struct dirgemist_meter before = *meter;
+    for (uint8_t mode = 0; mode <= 4; mode++) {
+        meter->mode = mode;
+        uint8_t number = dirgemist_meter_silence(meter, reply, ROOM, length, speed);
+        expect(number == (mode == 0 ? 0 : 1) && meter->mode == 0 && *speed == 0, "silence");
+        expect(*length == (mode == 1 ? 1 : 0) && (mode != 1 || reply[0] == with_parity(0x15)),
+               "NAK at silence in mode 1 alone");
+        expect(same(meter, &before), "silence changes the session alone");
+        calls++;
+    }
+    for (int second = 0; second < 54 * 60 + 51; second++) {
+        meter->mode = second % 5;
+        expect(dirgemist_meter_tick(meter, speed) == 1 && *speed == (second % 5 < 2 ? 0 : 5), "tick");
+        calls++;
+    }
+    meter->mode = 0;
+    before.registers.clock = (struct dirgemist_clock){{2024, 3, 1}, {0, 0, 0}};
+    expect(same(meter, &before), "the first of March, midnight");
+    /* A Friday: table 3, whose first two hours are now zones 1 and 2. */
+    meter->registers.tables[2 * 24 + 1] = '2';
+    expect(dirgemist_meter_pulse(meter, 999999, speed) == 1, "a pulse in zone 1");
+    meter->registers.clock.time.hour = 1;
+    expect(dirgemist_meter_pulse(meter, 1000000, speed) == 1, "the largest pulse, in zone 2");
+    expect(dirgemist_meter_pulse(meter, 0, speed) == 1, "a pulse of nothing");
+    meter->mode = 3;
+    SAY(meter, "zone 1", "\001R1\002E1()\003\x17", 1, "\00215.8.1(001001.499*kWh)\r\n\003\x6c", 5);
+    SAY(meter, "zone 2", "\001R1\002E2()\003\x14", 1, "\00215.8.2(001000.000*kWh)\r\n\003\x6a", 5);
+    meter->attempts = 3;
+    expect(dirgemist_meter_power_up(meter, speed) == 1 && *speed == 0, "power-up");
+    expect(meter->mode == 0 && meter->attempts == 0 && meter->receiver.count == 0, "starts anew");
+    calls += 4;
+}
+
+/* Each refusal of each call, alone and with those behind it. */
+static void refuses(struct dirgemist_meter *meter) {
+    for (int malformed = 0; malformed < 2; malformed++) {
+        meter->attempts = malformed ? 4 : 0;
+        expect(dirgemist_meter_check(meter) == (malformed ? 14 : 1), "the check");
+        for (size_t room = 0; room < ROOM; room += 2047) {
+            refused(meter, DIRGEMIST_CHARACTER, '/', room, 12, "a character without room");
+            refused(meter, DIRGEMIST_SILENCE, 0, room, 12, "silence without room");
+            refused(meter, DIRGEMIST_PULSE, 1000001, room, 13, "a pulse of too much, without room");
+            refused(meter, 5, 0, room, DIRGEMIST_NO_EVENT, "kind 5, without room");
+        }
+        refused(meter, DIRGEMIST_PULSE, 1000001, ROOM, 13, "a pulse of too much");
+        refused(meter, DIRGEMIST_PULSE, UINT32_MAX, ROOM, 13, "the largest number as a pulse");
+        refused(meter, DIRGEMIST_CHARACTER, 256, ROOM, DIRGEMIST_NO_EVENT, "a character of nine bits");
+        refused(meter, DIRGEMIST_CHARACTER, UINT32_MAX, 0, DIRGEMIST_NO_EVENT, "the largest character");
+        for (int kind = 5; kind < 256; kind++) {
+            refused(meter, (uint8_t)kind, 47, ROOM, DIRGEMIST_NO_EVENT, "an unknown kind");
+        }
+    }
+    for (uint8_t kind = 0; kind <= 4; kind++) {
+        refused(meter, kind, '/', ROOM, 14, "a malformed record");
+    }
+    for (uint8_t kind = 2; kind <= 4; kind++) {
+        refused(meter, kind, 47, 0, 14, "a malformed record and no room");
+    }
+    struct dirgemist_meter before;
+    memcpy(&before, meter, sizeof before);
+    expect(dirgemist_meter_tick(meter, speed) == 14 && *speed == 0, "tick of a malformed record");
+    expect(dirgemist_meter_pulse(meter, 1000001, speed) == 13 && *speed == 0, "13 before 14");
+    expect(dirgemist_meter_pulse(meter, 1, speed) == 14 && *speed == 0, "pulse of a malformed record");
+    expect(dirgemist_meter_power_up(meter, speed) == 14 && *speed == 0, "power-up heals nothing");
+    expect(memcmp(&before, meter, sizeof before) == 0, "a malformed record as it was");
     meter->attempts = 0;
-    expect(hear(meter, with_parity('/'), buffer, DIRGEMIST_REPLY_ROOM, &length, &speed) == 0 && meter->receiver.count == 1, "held");
-    give_back(buffer, DIRGEMIST_REPLY_ROOM);
-    give_back(meter, sizeof *meter);
+    calls += 4;
+    expect(meet(meter, DIRGEMIST_CHARACTER, with_parity('/'), ROOM) == 0, "held again");
+    expect(meter->receiver.count == 1, "one character");
+}
 
-    printf("firmware in C: %d calls, %s\n", calls, wrong ? "WRONG" : "as document 01 has them");
+static uint64_t seed = 20000101;
+
+static uint32_t any(void) {
+    seed = seed * 6364136223846793005u + 1442695040888963407u;
+    return (uint32_t)(seed >> 33);
+}
+
+static int all_within(const uint8_t *bytes, size_t count, uint8_t least, uint8_t most) {
+    int within = 1;
+    for (size_t at = 0; at < count; at++) {
+        within &= least <= bytes[at] && bytes[at] <= most;
+    }
+    return within;
+}
+
+/* Document 01's ranges once more. */
+static int is_formed(const struct dirgemist_meter *meter) {
+    static const uint8_t most[5] = {31, 5, 63, 63, 63}, first[5] = {'/', 0, 1, 1, 1};
+    static const uint8_t days[12] = {31, 29, 31, 30, 31, 30, 31, 31, 30, 31, 30, 31};
+    const struct dirgemist_receiver *held = &meter->receiver;
+    const struct dirgemist_registers *have = &meter->registers;
+    const struct dirgemist_date *date = &have->clock.date;
+    const struct dirgemist_time *time = &have->clock.time;
+    uint8_t mark;
+    uint32_t counters[4];
+    memcpy(&mark, &held->mark, 1);
+    memcpy(counters, &have->counters, sizeof counters);
+    if (meter->mode > 4 || meter->attempts > 3 || held->count > most[meter->mode] || mark > 1) {
+        return 0;
+    }
+    if (held->count == 0 ? mark : meter->mode != 1 && held->held[0] != first[meter->mode]) {
+        return 0;
+    }
+    int account = 1;
+    for (int at = 0; at < 10; at++) {
+        uint8_t c = have->account[at];
+        uint8_t letter = c | 0x20;
+        account &= ('a' <= letter && letter <= 'z') || ('0' <= c && c <= '9') || c == ' ' || c == '_';
+    }
+    int zones = 1;
+    for (int zone = 0; zone < 4; zone++) {
+        zones &= counters[zone] <= 999999999;
+    }
+    int leap = date->year % 4 == 0;
+    return account && zones && all_within(held->held, 63, 0, 127)
+           && all_within(held->held + held->count, 63 - held->count, 0, 0)
+           && all_within(have->serial, 10, '0', '9') && all_within(have->password, 8, '0', '9')
+           && all_within(have->tables, sizeof have->tables, '1', '4') && date->year >= 2000
+           && date->year <= 2099 && date->month >= 1 && date->month <= 12 && date->day >= 1
+           && date->day <= days[date->month - 1] - (date->month == 2 && !leap) && time->hour <= 23
+           && time->minute <= 59 && time->second <= 59;
+}
+
+/* A million records: all bytes random, or a made one with some bytes random. A record is either refused
+ * by every call and left as it was, or by none, and is well-formed after each. */
+static void takes_anything(struct dirgemist_meter *meter, long *formed) {
+    struct dirgemist_meter made, before;
+    memcpy(&made, meter, sizeof made);
+    for (unsigned i = 0; i < 1000000; i++) {
+        uint8_t bytes[sizeof made];
+        memcpy(bytes, &made, sizeof made);
+        size_t count = i % 4 == 0 ? sizeof made : i % 4;
+        for (size_t n = 0; n < count; n++) {
+            bytes[i % 4 == 0 ? n : any() % sizeof made] = (uint8_t)(i % 8 == 5 ? '1' + any() % 4 : any());
+        }
+        /* Until the record's mark is a number, only the two bytes of a bool may stand there. */
+        bytes[offsetof(struct dirgemist_meter, receiver.mark)] &= 1;
+        memcpy(meter, bytes, sizeof made);
+        memcpy(&before, bytes, sizeof made);
+        uint8_t checked = dirgemist_meter_check(meter);
+        expect(checked == (is_formed(meter) ? 1 : 14), "the check's number");
+        expect(memcmp(&before, meter, sizeof before) == 0, "the check only reads");
+        uint8_t kind = (uint8_t)(any() % 5);
+        uint32_t value = kind == DIRGEMIST_PULSE ? any() % 1000001 : any() % 256;
+        uint8_t number = meet(meter, kind, value, ROOM);
+        if (checked == 14) {
+            expect(number == 14 && *length == 0 && *speed == 0, "a malformed record is refused");
+            expect(memcmp(&before, meter, sizeof before) == 0, "a malformed record comes back");
+        } else {
+            ++*formed;
+            expect(number <= 11 && (*speed == 0 || *speed == 5), "a well-formed record is served");
+            expect(dirgemist_meter_check(meter) == 1, "and is well-formed afterwards");
+        }
+    }
+}
+
+int main(void) {
+    struct dirgemist_meter *meter = exactly(sizeof *meter);
+    reply = exactly(ROOM);
+    length = exactly(sizeof *length);
+    speed = exactly(sizeof *speed);
+    memset(filled, 0x5A, ROOM);
+    long formed = 0;
+    makes(meter);
+    talks(meter);
+    passes(meter);
+    refuses(meter);
+    takes_anything(meter, &formed);
+    give_back(speed, sizeof *speed);
+    give_back(length, sizeof *length);
+    give_back(reply, ROOM);
+    give_back(meter, sizeof *meter);
+    printf("firmware in C: %ld calls, 1,000,000 records of any bytes (%ld well-formed), %s\n", calls,
+           formed, wrong ? "WRONG" : "as document 01 has them");
     return wrong;
 }

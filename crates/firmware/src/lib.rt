@@ -4,12 +4,16 @@ ghost use mathlib.Core.Path.{_≡_};
 ghost use lib.ListN.{length};
 ghost use Rattle.text.specs.Writing.{holding};
 ghost use Rattle.frames.specs.Frames.{onWire};
-ghost use Rattle.meter.specs.Character.{character};
+ghost use Rattle.state.specs.Making.{madeOf};
+ghost use Rattle.meter.specs.Life.{eventOf, met};
+ghost use Rattle.firmware.specs.Making.{clockOf, checkedAs};
 ghost use Rattle.firmware.specs.Replies.{replyTo, replyOf, settledReply};
 use meter::Answer;
 use settling::Heard;
 use state::Meter;
 use state::Receiver;
+
+mod making;
 
 // What is left of an answer once its next state lies in the record.
 pub struct Reply {
@@ -46,7 +50,7 @@ fn receiver_of(h: Heard) -> Receiver
     h.receiver
 }
 
-// A settled character has no reply.
+// A settled event has no reply.
 fn short_reply(h: Heard) -> Reply
     ensures { λ r. ⌜ r ≡ settledReply h ⌝ }
 {
@@ -57,20 +61,20 @@ fn short_reply(h: Heard) -> Reply
     }
 }
 
-// A received character; the record becomes the next state. Most characters change its receiver alone, and the rest of it is not copied.
-pub fn receive_in_place(m: &mut Meter, b: u8, reply: &mut [u8]) -> Reply
-    ensures { λ r. ⌜ (r ≡ replyOf (character (now (m .entry)) (length (now (reply .entry))) b))
-        × (now (m .exit) ≡ character (now (m .entry)) (length (now (reply .entry))) b .next)
-        × (now (reply .exit) ≡ holding (now (reply .entry)) (onWire (character (now (m .entry)) (length (now (reply .entry))) b .reply))) ⌝ }
+// An event, told by a number and a value; the record becomes the next state. Most events change its receiver alone, and the rest of it is not copied.
+pub fn meet_in_place(m: &mut Meter, kind: u8, value: u32, reply: &mut [u8]) -> Reply
+    ensures { λ r. ⌜ (r ≡ replyOf (met (now (m .entry)) (length (now (reply .entry))) (eventOf kind value)))
+        × (now (m .exit) ≡ met (now (m .entry)) (length (now (reply .entry))) (eventOf kind value) .next)
+        × (now (reply .exit) ≡ holding (now (reply .entry)) (onWire (met (now (m .entry)) (length (now (reply .entry))) (eventOf kind value) .reply))) ⌝ }
 {
     // Two locals for the two copies: one would lie whole in memory at every call.
     let before = *m;
-    let heard = settling::settle(before, b, reply.len());
+    let heard = settling::settle(before, kind, value, reply.len());
     if is_settled(heard) {
         m.receiver = receiver_of(heard);
         return short_reply(heard);
     }
-    let a = meter::take(*m, b, reply);
+    let a = meter::events::act(*m, kind, value, reply);
     *m = next_of(a);
     reply_of(a)
 }
@@ -85,19 +89,69 @@ fn tell(r: Reply, count: &mut usize, speed: &mut u8) -> u8
 
 // The same for C: the answer's number, with the reply's length and its speed where the caller asks for them.
 #[no_mangle]
-pub extern "C" fn dirgemist_meter_receive(
+pub extern "C" fn dirgemist_meter_meet(
     m: &mut Meter,
-    b: u8,
+    kind: u8,
+    value: u32,
     reply: &mut [u8],
     count: &mut usize,
     speed: &mut u8,
 ) -> u8
-    ensures { λ r. ⌜ (r ≡ character (now (m .entry)) (length (now (reply .entry))) b .number)
-        × (now (m .exit) ≡ character (now (m .entry)) (length (now (reply .entry))) b .next)
-        × (now (reply .exit) ≡ holding (now (reply .entry)) (onWire (character (now (m .entry)) (length (now (reply .entry))) b .reply)))
-        × (now (count .exit) ≡ length (character (now (m .entry)) (length (now (reply .entry))) b .reply))
-        × (now (speed .exit) ≡ character (now (m .entry)) (length (now (reply .entry))) b .speed) ⌝ }
+    ensures { λ r. ⌜ (r ≡ met (now (m .entry)) (length (now (reply .entry))) (eventOf kind value) .number)
+        × (now (m .exit) ≡ met (now (m .entry)) (length (now (reply .entry))) (eventOf kind value) .next)
+        × (now (reply .exit) ≡ holding (now (reply .entry)) (onWire (met (now (m .entry)) (length (now (reply .entry))) (eventOf kind value) .reply)))
+        × (now (count .exit) ≡ length (met (now (m .entry)) (length (now (reply .entry))) (eventOf kind value) .reply))
+        × (now (speed .exit) ≡ met (now (m .entry)) (length (now (reply .entry))) (eventOf kind value) .speed) ⌝ }
 {
-    let r = receive_in_place(m, b, reply);
+    let r = meet_in_place(m, kind, value, reply);
     tell(r, count, speed)
+}
+
+// A new meter in the record, whatever stood there.
+#[no_mangle]
+pub extern "C" fn dirgemist_meter_make(
+    m: &mut Meter,
+    serial: &[u8],
+    account: &[u8],
+    password: &[u8],
+    year: u16,
+    month: u8,
+    day: u8,
+    hour: u8,
+    minute: u8,
+    second: u8,
+) -> u8
+    ensures { λ r. ⌜ (r ≡ madeOf (now (serial .entry)) (now (account .entry)) (now (password .entry)) (clockOf year month day hour minute second) .number)
+        × (now (m .exit) ≡ madeOf (now (serial .entry)) (now (account .entry)) (now (password .entry)) (clockOf year month day hour minute second) .meter) ⌝ }
+{
+    let a = making::make(
+        serial,
+        account,
+        password,
+        year,
+        month,
+        day,
+        hour,
+        minute,
+        second,
+    );
+    *m = making::meter_of(a);
+    making::number_of(a)
+}
+
+fn check(m: Meter) -> u8
+    ensures { λ r. ⌜ r ≡ checkedAs m ⌝ }
+{
+    if state::is_well_formed(m) {
+        return 1;
+    }
+    14
+}
+
+// Whether the record is well-formed.
+#[no_mangle]
+pub extern "C" fn dirgemist_meter_check(m: &Meter) -> u8
+    ensures { λ r. ⌜ r ≡ checkedAs (now (m .entry)) ⌝ }
+{
+    check(*m)
 }

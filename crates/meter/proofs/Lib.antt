@@ -1,2 +1,3 @@
 pub mod SignOn
 pub mod Known
+pub mod Tests

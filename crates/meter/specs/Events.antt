@@ -19,16 +19,22 @@ unfoldable pub silence : Meter → ℕ → Outcome
 silence m room = cond (ltb room 2048) (unheard 12 m) (cond (wellFormed m) (afterSilence m) (unheard 14 m))
 
 -- one second
+abbrev pub afterTick : Meter → Outcome
+afterTick m = silent 1 (withRegisters m (withClock (m .registers) (nextSecond (m .registers .clock))))
+
 unfoldable pub tick : Meter → Outcome
-tick m = cond (wellFormed m) (silent 1 (withRegisters m (withClock (m .registers) (nextSecond (m .registers .clock))))) (unheard 14 m)
+tick m = cond (wellFormed m) (afterTick m) (unheard 14 m)
 
 -- 0 to 1,000,000 Wh
+abbrev pub afterPulse : Meter → ℕ → Outcome
+afterPulse m wh = silent 1 (withRegisters m (withCounters (m .registers) (counted (m .registers .counters) (zoneIn (m .registers)) wh)))
+
 unfoldable pub pulse : Meter → ℕ → Outcome
-pulse m wh =
-    cond (ltb 1000000 wh) (unheard 13 m)
-    (cond (wellFormed m) (silent 1 (withRegisters m (withCounters (m .registers) (counted (m .registers .counters) (zoneIn (m .registers)) wh))))
-    (unheard 14 m))
+pulse m wh = cond (ltb 1000000 wh) (unheard 13 m) (cond (wellFormed m) (afterPulse m wh) (unheard 14 m))
 
 -- mode 0, empty receiver, attempts 0
+abbrev pub afterPowerUp : Meter → Outcome
+afterPowerUp m = silent 1 (withAttempts (inMode m 0) 0)
+
 unfoldable pub powerUp : Meter → Outcome
-powerUp m = cond (wellFormed m) (silent 1 (withAttempts (inMode m 0) 0)) (unheard 14 m)
+powerUp m = cond (wellFormed m) (afterPowerUp m) (unheard 14 m)

@@ -3,3 +3,4 @@ pub mod Acting
 pub mod SignOn
 pub mod Character
 pub mod Events
+pub mod Life

@@ -6,18 +6,29 @@ ghost use lib.ListN.{length};
 ghost use Rattle.text.specs.Writing.{holding};
 ghost use Rattle.frames.specs.Frames.{onWire};
 ghost use Rattle.state.specs.WellFormed.{wellFormed};
-ghost use Rattle.meter.specs.Outcomes.{Outcome, answerOf, speedOf, silent, unheard};
+ghost use Rattle.meter.specs.Outcomes.{answerOf, speedOf};
 ghost use Rattle.meter.specs.Character.{symbol, taken, character};
-ghost use Rattle.meter.specs.Events.{afterSilence, silence, tick, pulse, powerUp};
-use changes::in_mode;
+ghost use Rattle.meter.specs.Events.{silence};
 use changes::with_receiver;
 use receiving::Hearing;
 use state::Meter;
 
 mod acting;
+mod after;
 mod answers;
+pub mod events;
 mod lines;
 pub mod passing;
+
+// What can happen: a byte from the line, eight seconds of silence, a second, a pulse of so many Wh, power-up; or nothing that a meter knows.
+pub enum Event {
+    Character(u8),
+    Silence,
+    Tick,
+    Pulse(u32),
+    PowerUp,
+    Unknown,
+}
 
 // What an event with a reply buffer gives: the number, the reply's length, its speed, and the next state.
 pub struct Answer {
@@ -45,7 +56,7 @@ pub fn symbol_of(b: u8) -> u8
 }
 
 // A character, taken by a well-formed meter with room for any reply.
-pub fn take(m: Meter, b: u8, reply: &mut [u8]) -> Answer
+fn take(m: Meter, b: u8, reply: &mut [u8]) -> Answer
     requires { ⌜ (wellFormed m ≡ true) × (2048 ≤ length (now reply)) ⌝ }
     ensures result { λ r. ⌜ r ≡ answerOf (taken m b) ⌝ }
     ensures held { λ _. ⌜ now (reply .exit) ≡ holding (now (reply .entry)) (onWire (taken m b .reply)) ⌝ }
@@ -80,27 +91,6 @@ pub fn receive(m: Meter, b: u8, reply: &mut [u8]) -> Answer
     answers::unheard_with(14, m)
 }
 
-// Silence, met by a well-formed meter with room for the reply.
-fn fall_silent(m: Meter, reply: &mut [u8]) -> Answer
-    requires { ⌜ 2048 ≤ length (now reply) ⌝ }
-    ensures result { λ r. ⌜ r ≡ answerOf (afterSilence m) ⌝ }
-    ensures held { λ _. ⌜ now (reply .exit) ≡ holding (now (reply .entry)) (onWire (afterSilence m .reply)) ⌝ }
-{
-    if m.mode == 0 {
-        return answers::quiet(0, in_mode(m, 0));
-    }
-    if m.mode == 1 {
-        let length = replies::refuse(reply);
-        return Answer {
-            number: 1,
-            length,
-            speed: 0,
-            next: in_mode(m, 0),
-        };
-    }
-    answers::quiet(1, in_mode(m, 0))
-}
-
 // Eight seconds of silence.
 pub fn hear_nothing(m: Meter, reply: &mut [u8]) -> Answer
     ensures result { λ r. ⌜ r ≡ answerOf (silence m (length (now (reply .entry)))) ⌝ }
@@ -110,7 +100,7 @@ pub fn hear_nothing(m: Meter, reply: &mut [u8]) -> Answer
         return answers::unheard_with(12, m);
     }
     if state::is_well_formed(m) {
-        return fall_silent(m, reply);
+        return after::silence(m, reply);
     }
     answers::unheard_with(14, m)
 }

@@ -1,6 +1,7 @@
 -- The wrong answers for `meter`, `settling` and `firmware` are ruled out, by computing. Assumes nothing.
 use mathlib.Core.Path.{refl}
 use mathlib.Core.Bool.{cond}
+use Prim.Native.Nat.{ℕ}
 use lib.Count.{ones}
 use lib.ListN.{getD}
 use Rattle.line.specs.Characters.{damagedAt, seven, sent}
@@ -21,6 +22,7 @@ use Rattle.frames.specs.Commands.{bracketed, setTable}
 use Rattle.frames.specs.Session.{signOn}
 use Rattle.state.specs.declared.Meter.{Meter}
 use Rattle.state.specs.WellFormed.{limit, firstGood, heldGood, markGood, receiverGood, countersGood, tablesGood, factsGood, registersGood, wellFormed}
+use Rattle.state.specs.Making.{madeOf}
 use Rattle.receiving.specs.Hearing.{hearing, listening, confirming, framing}
 use Rattle.deciding.specs.Shape.{startGood, bareShape, content, framedShape}
 use Rattle.deciding.specs.Telling.{enclosed, inner, tableTold, told as toldBy}
@@ -32,15 +34,28 @@ use Rattle.meter.specs.Acting.{tried, acted}
 use Rattle.meter.specs.SignOn.{signsOnBy}
 use Rattle.meter.specs.Character.{symbol, lineEnded, confirmed, heard, taken, character}
 use Rattle.meter.specs.Events.{afterSilence, silence, tick, pulse, powerUp}
+use Rattle.meter.specs.declared.Event.{Event}
+use Rattle.meter.specs.declared.Event.the-variants.{Character, Silence, Tick, Pulse, PowerUp, Unknown}
+use Rattle.meter.specs.Life.{eventOf, met, refusal, happened}
 use Rattle.settling.specs.declared.Heard.{Heard}
-use Rattle.settling.specs.Settling.{heardAs, heardBy, listened}
+use Rattle.settling.specs.Settling.{heardAs, heardBy, heardOf, settles}
+use Rattle.firmware.specs.Making.{checkedAs}
 use Rattle.firmware.specs.declared.Reply.{Reply}
 use Rattle.mistakes.specs.Samples.{serial, account, password, twos, newMeter, heldIn}
-use Rattle.mistakes.specs.Events.{told, toldAll, shortPassword, shortTried, signedOn, restarted, Receiving, Passing, Settling, Lent}
+use Rattle.mistakes.specs.Events.{told, toldAll, toldMet, shortPassword, shortTried, signedOn, restarted, Receiving, Passing, Happening, Settling, Lent}
 use Rattle.mistakes.proofs.Differing.{seen, number, byte}
 
-pub events : Receiving × Passing × Settling × Lent
-unfolding ones damagedAt seven sent bccOf every stored holding between isDigit isLetter isPrintable matching sameText decimal valueFrom valueOf numberAt layoutText pattern agrees fits leap thirty daysIn realDate realTime realClock goodDigits isAccountCharacter goodAccount goodRow goodTable tableText tableRead closed frameOf bracketed setTable signOn limit firstGood heldGood markGood receiverGood countersGood tablesGood factsGood registersGood wellFormed hearing listening confirming framing startGood bareShape content framedShape enclosed inner tableTold toldBy entry bareVerdict framedVerdict shapeVerdict verdict speedOf fallen tried acted signsOnBy symbol lineEnded confirmed heard taken character serial account password twos newMeter heldIn told toldAll shortPassword shortTried signedOn restarted daysBefore dayNumber weekday nextSecond tableFor zoneIn counted afterSilence silence tick pulse powerUp heardAs heardBy listened
+-- the kinds of event, as numbers
+kindOf : Event → ℕ
+kindOf (Character b) = 0
+kindOf Silence = 1
+kindOf Tick = 2
+kindOf (Pulse wh) = 3
+kindOf PowerUp = 4
+kindOf Unknown = 5
+
+pub events : Receiving × Passing × Happening × Settling × Lent
+unfolding ones damagedAt seven sent bccOf every stored holding between isDigit isLetter isPrintable matching sameText decimal valueFrom valueOf numberAt layoutText pattern agrees fits leap thirty daysIn realDate realTime realClock goodDigits isAccountCharacter goodAccount goodRow goodTable tableText tableRead closed frameOf bracketed setTable signOn limit firstGood heldGood markGood receiverGood countersGood tablesGood factsGood registersGood wellFormed hearing listening confirming framing startGood bareShape content framedShape enclosed inner tableTold toldBy entry bareVerdict framedVerdict shapeVerdict verdict speedOf fallen tried acted signsOnBy symbol lineEnded confirmed heard taken character serial account password twos newMeter heldIn told toldAll toldMet shortPassword shortTried signedOn restarted daysBefore dayNumber weekday nextSecond tableFor zoneIn counted afterSilence silence tick pulse powerUp heardAs heardBy heardOf settles eventOf met refusal happened madeOf checkedAs kindOf
 events = (
   record {
     receive = (seen (λ (a : Answer). a .number) refl, seen (λ (a : Answer). getD (a .next .registers .tables) 144 0) refl);
@@ -49,7 +64,6 @@ events = (
     receive-sign-on = (seen (λ (a : Answer). a .speed) refl, seen (λ (a : Answer). a .next .mode) refl);
     receive-restart = (seen (λ (a : Answer). cond (a .next .receiver .mark) 1 0) refl, seen (λ (a : Answer). a .next .receiver .count) refl);
     receive-refused = (seen (λ (a : Answer). a .number) refl, seen (λ (a : Answer). a .number) refl);
-    take = (seen (λ (a : Answer). a .number) refl, seen (λ (a : Answer). getD (a .next .registers .tables) 144 0) refl);
     «symbol_of» = (number refl, number refl);
     «speed_of» = (number refl, number refl);
     «hear_nothing» = (seen (λ (a : Answer). a .length) refl, seen (λ (a : Answer). a .speed) refl);
@@ -59,9 +73,22 @@ events = (
     «take_pulse» = (seen (λ (a : Answer). a .next .registers .counters .t1) refl, seen (λ (a : Answer). a .number) refl);
     «power_up» = (seen (λ (a : Answer). a .next .attempts) refl, seen (λ (a : Answer). a .next .mode) refl);
   },
-  record { settle = (seen (λ (h : Heard). cond (h .settled) 1 0) refl, seen (λ (h : Heard). h .number) refl) },
   record {
-    «receive_in_place» = (seen (λ (r : Reply). r .length) refl, seen (λ (m : Meter). m .receiver .count) refl);
-    «dirgemist_meter_receive» = (number refl, number refl);
+    «event_of» = (seen kindOf refl, seen kindOf refl);
+    «refusal_of» = (number refl, number refl);
+    act = (seen (λ (a : Answer). a .next .registers .counters .t1) refl, seen (λ (a : Answer). a .next .registers .clock .time .second) refl);
+    meet = (seen (λ (a : Answer). a .number) refl, seen (λ (a : Answer). a .number) refl);
+    meet-reply = (byte 0 refl, byte 0 refl);
+  },
+  record {
+    settle = (seen (λ (h : Heard). cond (h .settled) 1 0) refl, seen (λ (h : Heard). h .number) refl);
+    settle-refused = (seen (λ (h : Heard). h .number) refl, seen (λ (h : Heard). h .number) refl);
+  },
+  record {
+    «meet_in_place» = (seen (λ (r : Reply). r .length) refl, seen (λ (m : Meter). m .receiver .count) refl);
+    «dirgemist_meter_meet» = (number refl, number refl);
+    dirgemist-meter-meet-lent = (seen (λ (m : Meter). getD (m .registers .tables) 144 0) refl, byte 0 refl);
+    «dirgemist_meter_make» = (number refl, byte 0 refl);
+    «dirgemist_meter_check» = (number refl, number refl);
   },
 )

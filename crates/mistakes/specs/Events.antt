@@ -9,15 +9,18 @@ use Rattle.frames.specs.Commands.{P1, W1, bracketed, setTable}
 use Rattle.state.specs.declared.Meter.{Meter}
 use Rattle.replies.specs.Fixed.{accepted, refused, identification}
 use Rattle.receiving.specs.Receivers.{restartedReceiver}
-use Rattle.state.specs.Making.{emptyReceiver}
+use Rattle.state.specs.Making.{emptyReceiver, madeOf}
 use Rattle.changes.specs.Changes.{withReceiver, inMode, withAttempts, withRegisters, withClock, withCounters}
 use Rattle.meter.specs.Outcomes.{Outcome, answerOf, speedOf, silent, unheard, saying, nak, ack}
-use Rattle.meter.specs.Character.{symbol, taken, character}
+use Rattle.meter.specs.Character.{symbol, character}
 use Rattle.meter.specs.Events.{silence, tick, pulse, powerUp}
-use Rattle.settling.specs.Settling.{goesOn, listened}
+use Rattle.meter.specs.declared.Event.the-variants.{Character, Silence, Tick, Pulse, Unknown}
+use Rattle.meter.specs.Life.{eventOf, met, refusal, happened}
+use Rattle.settling.specs.Settling.{goesOn, refuses, settles}
+use Rattle.firmware.specs.Making.{checkedAs}
 use Rattle.firmware.specs.Replies.{replyOf}
 use Rattle.mistakes.specs.RuledOut.{RuledOut}
-use Rattle.mistakes.specs.Samples.{clockAt, twos, newMeter, heldIn}
+use Rattle.mistakes.specs.Samples.{clockAt, serial, account, password, twos, newMeter, heldIn}
 
 -- table 7 with the row of '2', all but its BCC held in programming mode; and what its BCC comes to
 unfoldable pub told : Meter
@@ -25,6 +28,10 @@ told = heldIn 4 (take 35 (frameOf W1 (setTable 7 twos)))
 
 unfoldable pub toldAll : Outcome
 toldAll = character told 2048 (sent (getD (frameOf W1 (setTable 7 twos)) 35 0))
+
+-- the same as an event in numbers
+unfoldable pub toldMet : Outcome
+toldMet = met told 2048 (eventOf 0 (sent (getD (frameOf W1 (setTable 7 twos)) 35 0)))
 
 -- a password of three digits, all but its BCC held; and what its BCC comes to
 unfoldable pub shortPassword : Meter
@@ -62,9 +69,6 @@ pub record Receiving : Type 0 where
   -- a malformed state said before a short buffer; a character taken in a short buffer
   pub receive-refused : RuledOut (answerOf (character (withAttempts newMeter 4) 2047 47)) (answerOf (unheard 14 (withAttempts newMeter 4)))
       × RuledOut (answerOf (character newMeter 2047 (sent 47))) (answerOf (silent 0 (withReceiver newMeter (restartedReceiver 47))))
-  -- NAK to a good write; ACK to it, and the old tables
-  pub take : RuledOut (answerOf (taken told (sent (getD (frameOf W1 (setTable 7 twos)) 35 0)))) (answerOf (nak 9 told))
-      × RuledOut (answerOf (taken told (sent (getD (frameOf W1 (setTable 7 twos)) 35 0)))) (answerOf (ack (inMode newMeter 4)))
   -- a damaged '0' taken for a character; the parity bit left on a '1'
   pub «symbol_of» : RuledOut (symbol 176) 48 × RuledOut (symbol 177) 177
   -- 9600 baud before the password is asked for; 300 baud while it is
@@ -88,15 +92,41 @@ pub record Passing : Type 0 where
   pub «power_up» : RuledOut (answerOf (powerUp (withAttempts newMeter 3))) (answerOf (silent 1 (withAttempts newMeter 3)))
       × RuledOut (answerOf (powerUp (inMode newMeter 4))) (answerOf (silent 1 (inMode newMeter 4)))
 
+-- of `meter::events`
+pub record Happening : Type 0 where
+  -- a pulse taken as a tick; a character of nine bits taken by its low eight
+  pub «event_of» : RuledOut (eventOf 3 5) Tick × RuledOut (eventOf 0 303) (Character 47)
+  -- room asked of a pulse that is too much; no room asked of silence
+  pub «refusal_of» : RuledOut (refusal 0 (Pulse 1000001)) 12 × RuledOut (refusal 2047 Silence) 0
+  -- a pulse taken as a tick; a tick on a clock that stands
+  pub act : RuledOut (answerOf (happened newMeter (eventOf 3 5))) (answerOf (tick newMeter))
+      × RuledOut (answerOf (happened newMeter (eventOf 2 5))) (answerOf (silent 1 newMeter))
+  -- a malformed state said before a pulse that is too much; an event that is none taken for silence
+  pub meet : RuledOut (answerOf (met (withAttempts newMeter 4) 0 (Pulse 1000001))) (answerOf (unheard 14 (withAttempts newMeter 4)))
+      × RuledOut (answerOf (met newMeter 2048 Unknown)) (answerOf (met newMeter 2048 Silence))
+  -- NAK to a good write; the buffer as it was
+  pub meet-reply : RuledOut (holding (replicate 2048 9) (onWire (toldMet .reply))) (holding (replicate 2048 9) (onWire refused))
+      × RuledOut (holding (replicate 2048 9) (onWire (toldMet .reply))) (replicate 2048 9)
+
 -- of `settling`
 pub record Settling : Type 0 where
   -- the last character of a frame settled with nothing said; a character taken in a short buffer
-  pub settle : RuledOut (listened told 2048 (sent (getD (frameOf W1 (setTable 7 twos)) 35 0))) (goesOn 4 emptyReceiver)
-      × RuledOut (listened newMeter 2047 (sent 47)) (goesOn 0 (restartedReceiver 47))
+  pub settle : RuledOut (settles told 2048 (Character (sent (getD (frameOf W1 (setTable 7 twos)) 35 0)))) (goesOn 4 emptyReceiver)
+      × RuledOut (settles newMeter 2047 (Character (sent 47))) (goesOn 0 (restartedReceiver 47))
+  -- a malformed state said before a pulse that is too much; an event that is none left to the meter
+  pub settle-refused : RuledOut (settles (withAttempts newMeter 4) 0 (Pulse 1000001)) (refuses 14 (newMeter .receiver))
+      × RuledOut (settles newMeter 2048 Unknown) (settles newMeter 2048 Silence)
 
 -- of `firmware`
 pub record Lent : Type 0 where
   -- no reply to a good write; the lent state as it was
-  pub «receive_in_place» : RuledOut (replyOf toldAll) (record { number = 1; length = 0; speed = 5 }) × RuledOut (toldAll .next) told
+  pub «meet_in_place» : RuledOut (replyOf toldMet) (record { number = 1; length = 0; speed = 5 }) × RuledOut (toldMet .next) told
   -- NAK's number; the speed of the mode before the session
-  pub «dirgemist_meter_receive» : RuledOut (toldAll .number) 9 × RuledOut (toldAll .speed) 0
+  pub «dirgemist_meter_meet» : RuledOut (toldMet .number) 9 × RuledOut (toldMet .speed) 0
+  -- the old tables in the record; the buffer as it was
+  pub dirgemist-meter-meet-lent : RuledOut (toldMet .next) (inMode newMeter 4) × RuledOut (holding (replicate 2048 9) (onWire (toldMet .reply))) (replicate 2048 9)
+  -- a serial of nine digits taken; the account of bad facts kept
+  pub «dirgemist_meter_make» : RuledOut (madeOf (take 9 serial) account password (clockAt 2000 1 1 12 0 0) .number) 1
+      × RuledOut (madeOf serial account (take 7 password) (clockAt 2000 1 1 12 0 0) .meter .registers .account) account
+  -- a malformed state passed; a new one refused
+  pub «dirgemist_meter_check» : RuledOut (checkedAs (withAttempts newMeter 4)) 1 × RuledOut (checkedAs newMeter) 14

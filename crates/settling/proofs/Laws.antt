@@ -1,10 +1,10 @@
--- What listening settles is all that the character does; what it leaves meets a well-formed meter with room for any reply. Assumes nothing.
-use mathlib.Core.Path.{_≡_, refl}
+-- What is settled is all that the event does; what is left meets a well-formed meter, and nothing else refuses it. Assumes nothing.
+use mathlib.Core.Path.{_≡_, refl, _∙_}
 use mathlib.Core.Bool.{Bool, true, false, cond}
-use Prim.Native.Nat.{ℕ, _≤_}
+use Prim.Native.Nat.{ℕ}
 use native.Mathlib.Omega.{arith}
-use lib.Dec.{ltb}
-use borrow.Author.Tests.{ltb-false}
+use lib.Dec.{eqb}
+use borrow.Author.Tests.{eqb-true}
 use Rattle.line.specs.Characters.{damagedAt}
 use Rattle.state.specs.declared.Meter.{Meter}
 use Rattle.state.specs.WellFormed.{wellFormed}
@@ -13,9 +13,13 @@ use Rattle.receiving.specs.declared.Hearing.the-variants.{Drop, Hold, Restart, 
 use Rattle.receiving.specs.Hearing.{hearing}
 use Rattle.receiving.specs.Receivers.{lastHeld}
 use Rattle.meter.specs.Outcomes.{Outcome, unheard}
-use Rattle.meter.specs.Character.{symbol, heard, taken, character}
+use Rattle.meter.specs.Character.{symbol, heard, taken}
+use Rattle.meter.specs.declared.Event.{Event}
+use Rattle.meter.specs.declared.Event.the-variants.{Character, Silence, Tick, Pulse, PowerUp, Unknown}
+use Rattle.meter.specs.Life.{met, refusal, happened}
+use Rattle.meter.proofs.Tests.{met-in-order}
 use Rattle.settling.specs.declared.Heard.{Heard}
-use Rattle.settling.specs.Settling.{refuses, heardAs, heardBy, listened, settledOutcome}
+use Rattle.settling.specs.Settling.{refuses, heardAs, heardBy, heardOf, settles, settledOutcome}
 
 heard-settled : (m : Meter) (c : ℕ) (damaged : Bool) (h : Hearing) → heardAs m c damaged h .settled ≡ true → heard m c damaged h ≡ settledOutcome m (heardAs m c damaged h)
 unfolding heardAs heard
@@ -28,29 +32,38 @@ heard-settled m c damaged Confirm e = absurd (let z : _≡_ {A = ℕ} 0 1 = cc i
 heard-settled m c damaged Frame e = absurd (let z : _≡_ {A = ℕ} 0 1 = cc in omega arith)
 heard-settled m c damaged TooLong e = absurd (let z : _≡_ {A = ℕ} 0 1 = cc in omega arith)
 
-pub settled-is : (m : Meter) (room b : ℕ) → listened m room b .settled ≡ true → character m room b ≡ settledOutcome m (listened m room b)
-unfolding listened heardBy character taken
-settled-is m room b = go (ltb room 2048) (wellFormed m) _ _ (heard-settled m (symbol b) (damagedAt b) (hearing (m .mode) (m .receiver .count) (lastHeld (m .receiver)) (symbol b)))
+event-settled : (m : Meter) (e : Event) → heardOf m e .settled ≡ true → happened m e ≡ settledOutcome m (heardOf m e)
+unfolding heardOf heardBy happened taken
+event-settled m (Character b) s = heard-settled m (symbol b) (damagedAt b) (hearing (m .mode) (m .receiver .count) (lastHeld (m .receiver)) (symbol b)) s
+event-settled m Silence s = absurd (let z : _≡_ {A = ℕ} 0 1 = cc in omega arith)
+event-settled m Tick s = absurd (let z : _≡_ {A = ℕ} 0 1 = cc in omega arith)
+event-settled m (Pulse wh) s = absurd (let z : _≡_ {A = ℕ} 0 1 = cc in omega arith)
+event-settled m PowerUp s = absurd (let z : _≡_ {A = ℕ} 0 1 = cc in omega arith)
+event-settled m Unknown s = absurd (let z : _≡_ {A = ℕ} 0 1 = cc in omega arith)
+
+pub settled-is : (m : Meter) (room : ℕ) (e : Event) → settles m room e .settled ≡ true → met m room e ≡ settledOutcome m (settles m room e)
+unfolding settles
+settled-is m room e s = met-in-order m room e ∙ go (refusal room e) (eqb (refusal room e) 0) (wellFormed m) (happened m e) (heardOf m e) (event-settled m e) s
   where
-    go : (p q : Bool) (o : Outcome) (h : Heard) → (h .settled ≡ true → o ≡ settledOutcome m h)
-        → cond p (refuses 12 (m .receiver)) (cond q h (refuses 14 (m .receiver))) .settled ≡ true
-        → cond p (unheard 12 m) (cond q o (unheard 14 m)) ≡ settledOutcome m (cond p (refuses 12 (m .receiver)) (cond q h (refuses 14 (m .receiver))))
-    go true q o h f e = refl
-    go false true o h f e = f e
-    go false false o h f e = refl
+    go : (n : ℕ) (p q : Bool) (o : Outcome) (h : Heard) → (h .settled ≡ true → o ≡ settledOutcome m h)
+        → cond p (cond q h (refuses 14 (m .receiver))) (refuses n (m .receiver)) .settled ≡ true
+        → cond p (cond q o (unheard 14 m)) (unheard n m) ≡ settledOutcome m (cond p (cond q h (refuses 14 (m .receiver))) (refuses n (m .receiver)))
+    go n true true o h f s = f s
+    go n true false o h f s = refl
+    go n false q o h f s = refl
 
 -- what the meter has to act on
-pub record Left (m : Meter) (room b : ℕ) : Type 0 where
+pub record Left (m : Meter) (room : ℕ) (e : Event) : Type 0 where
   pub formed : wellFormed m ≡ true
-  pub roomy : 2048 ≤ room
-  pub all : character m room b ≡ taken m b
+  pub unrefused : refusal room e ≡ 0
+  pub all : met m room e ≡ happened m e
 
-pub left-is : (m : Meter) (room b : ℕ) → listened m room b .settled ≡ false → Left m room b
-unfolding listened character
-left-is m room b = go (ltb room 2048) refl (wellFormed m) refl (heardBy m b)
+pub left-is : (m : Meter) (room : ℕ) (e : Event) → settles m room e .settled ≡ false → Left m room e
+unfolding settles
+left-is m room e = go (eqb (refusal room e) 0) refl (wellFormed m) refl (heardOf m e)
   where
-    go : (p : Bool) → ltb room 2048 ≡ p → (q : Bool) → wellFormed m ≡ q → (h : Heard)
-        → cond p (refuses 12 (m .receiver)) (cond q h (refuses 14 (m .receiver))) .settled ≡ false → Left m room b
-    go true a q w h e = absurd (let z : _≡_ {A = ℕ} 0 1 = cc in omega arith)
-    go false a true w h e = record { formed = w; roomy = ltb-false room 2048 a; all = rw (a, w) }
-    go false a false w h e = absurd (let z : _≡_ {A = ℕ} 0 1 = cc in omega arith)
+    go : (p : Bool) → eqb (refusal room e) 0 ≡ p → (q : Bool) → wellFormed m ≡ q → (h : Heard)
+        → cond p (cond q h (refuses 14 (m .receiver))) (refuses (refusal room e) (m .receiver)) .settled ≡ false → Left m room e
+    go true a true w h s = record { formed = w; unrefused = eqb-true (refusal room e) 0 a; all = met-in-order m room e ∙ rw (a, w) }
+    go true a false w h s = absurd (let z : _≡_ {A = ℕ} 0 1 = cc in omega arith)
+    go false a q w h s = absurd (let z : _≡_ {A = ℕ} 0 1 = cc in omega arith)

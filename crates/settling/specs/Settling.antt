@@ -1,8 +1,8 @@
--- What a character does to a meter that only goes on listening: nothing but its receiver changes, and there is no reply.
+-- What an event does to a meter that only goes on listening: nothing but its receiver changes, and there is no reply.
 use mathlib.Core.Bool.{Bool, true, false, cond}
 use mathlib.Core.List.{[]}
 use Prim.Native.Nat.{ℕ}
-use lib.Dec.{ltb}
+use lib.Dec.{eqb}
 use Rattle.line.specs.Characters.{damagedAt}
 use Rattle.state.specs.declared.Receiver.{Receiver}
 use Rattle.state.specs.declared.Meter.{Meter}
@@ -15,6 +15,9 @@ use Rattle.receiving.specs.Receivers.{lastHeld, keptReceiver, restartedReceiver
 use Rattle.changes.specs.Changes.{withReceiver}
 use Rattle.meter.specs.Outcomes.{Outcome, speedOf}
 use Rattle.meter.specs.Character.{symbol}
+use Rattle.meter.specs.declared.Event.{Event}
+use Rattle.meter.specs.declared.Event.the-variants.{Character, Silence, Tick, Pulse, PowerUp, Unknown}
+use Rattle.meter.specs.Life.{refusal}
 use Rattle.settling.specs.declared.Heard.{Heard}
 
 -- answer 0, and the receiver after the character
@@ -25,7 +28,7 @@ goesOn mode r = record { settled = true; number = 0; speed = speedOf mode; recei
 abbrev pub ends : Receiver → Heard
 ends r = record { settled = false; number = 0; speed = 0; receiver = r }
 
--- 12 or 14: nothing changed, speed 0
+-- 99, 13, 12 or 14: nothing changed, speed 0
 abbrev pub refuses : ℕ → Receiver → Heard
 refuses number r = record { settled = true; number = number; speed = 0; receiver = r }
 
@@ -42,10 +45,21 @@ heardAs m c damaged TooLong = ends (m .receiver)
 unfoldable pub heardBy : Meter → ℕ → Heard
 heardBy m b = heardAs m (symbol b) (damagedAt b) (hearing (m .mode) (m .receiver .count) (lastHeld (m .receiver)) (symbol b))
 
--- a reply buffer under 2,048 gives 12, then a malformed state 14
-unfoldable pub listened : Meter → ℕ → ℕ → Heard
-listened m room b = cond (ltb room 2048) (refuses 12 (m .receiver)) (cond (wellFormed m) (heardBy m b) (refuses 14 (m .receiver)))
+-- a character may change the receiver alone; on all else the meter has to act
+unfoldable pub heardOf : Meter → Event → Heard
+heardOf m (Character b) = heardBy m b
+heardOf m Silence = ends (m .receiver)
+heardOf m Tick = ends (m .receiver)
+heardOf m (Pulse wh) = ends (m .receiver)
+heardOf m PowerUp = ends (m .receiver)
+heardOf m Unknown = ends (m .receiver)
 
--- all that comes of a settled character
+-- what refuses the event whatever the state, then a malformed state: 14
+unfoldable pub settles : Meter → ℕ → Event → Heard
+settles m room e =
+    cond (eqb (refusal room e) 0) (cond (wellFormed m) (heardOf m e) (refuses 14 (m .receiver)))
+    (refuses (refusal room e) (m .receiver))
+
+-- all that comes of a settled event
 abbrev pub settledOutcome : Meter → Heard → Outcome
 settledOutcome m h = record { number = h .number; speed = h .speed; reply = []; next = withReceiver m (h .receiver) }

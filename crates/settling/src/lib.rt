@@ -1,11 +1,15 @@
-// Most characters change nothing but the receiver. They are settled here without the rest of the state, which firmware then need not copy.
+// Most events are characters that change nothing but the receiver, or are refused. They are settled here without the rest of the state, which firmware
+// then need not copy.
 ghost use mathlib.Core.Path.{_≡_};
-ghost use Rattle.settling.specs.Settling.{goesOn, ends, refuses, heardBy, listened};
+ghost use Rattle.meter.specs.Life.{eventOf};
+ghost use Rattle.settling.specs.Settling.{goesOn, ends, refuses, heardBy, heardOf, settles};
+use meter::Event;
+use meter::events;
 use receiving::Hearing;
 use state::Meter;
 use state::Receiver;
 
-// What a character does: where it is settled, the answer's number and speed and the next receiver; otherwise the meter has to act.
+// What an event does: where it is settled, the answer's number and speed and the next receiver; otherwise the meter has to act.
 pub struct Heard {
     pub settled: bool,
     pub number: u8,
@@ -69,16 +73,33 @@ fn hear(m: Meter, b: u8) -> Heard
     }
 }
 
-// A received character, with so much room for a reply.
-pub fn settle(m: Meter, b: u8, room: usize) -> Heard
-    ensures { λ r. ⌜ r ≡ listened m room b ⌝ }
+// A character is heard; all else is left to the meter.
+fn hear_or_leave(m: Meter, e: Event) -> Heard
+    ensures { λ r. ⌜ r ≡ heardOf m e ⌝ }
 {
     let r = m.receiver;
-    if room < 2048 {
-        return refuse(12, r);
+    match e {
+        Event::Character(b) => hear(m, b),
+        Event::Silence => end(r),
+        Event::Tick => end(r),
+        Event::Pulse(wh) => end(r),
+        Event::PowerUp => end(r),
+        Event::Unknown => end(r),
+    }
+}
+
+// An event, told by a number and a value, with so much room for a reply.
+pub fn settle(m: Meter, kind: u8, value: u32, room: usize) -> Heard
+    ensures { λ r. ⌜ r ≡ settles m room (eventOf kind value) ⌝ }
+{
+    let r = m.receiver;
+    let e = events::event_of(kind, value);
+    let number = events::refusal_of(e, room);
+    if number != 0 {
+        return refuse(number, r);
     }
     if state::is_well_formed(m) {
-        return hear(m, b);
+        return hear_or_leave(m, e);
     }
     refuse(14, r)
 }

@@ -56,9 +56,10 @@ pub struct Meter {
 
 #[link(name = "firmware", kind = "static")]
 extern "C" {
-    fn dirgemist_meter_receive(
+    fn dirgemist_meter_meet(
         meter: *mut Meter,
-        byte: u8,
+        kind: u8,
+        value: u32,
         reply: *mut u8,
         room: usize,
         length: *mut usize,
@@ -104,9 +105,10 @@ pub fn receive(meter: &mut Meter, byte: u8, reply: &mut [u8]) -> Answer {
     let (mut length, mut speed) = (usize::MAX, u8::MAX);
     // SAFETY: the record has the library's layout, and the four borrows are apart and outlive the call.
     let number = unsafe {
-        dirgemist_meter_receive(
+        dirgemist_meter_meet(
             meter,
-            byte,
+            0,
+            byte.into(),
             reply.as_mut_ptr(),
             reply.len(),
             &mut length,

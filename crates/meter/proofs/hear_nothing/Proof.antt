@@ -12,7 +12,7 @@ returns c = (rw (lt-ltb _ _ (c .before .if1 .taken), c .unheard-with .ensures), 
 
 returns-2 : tie.Need-returns-2
 unfolding silence holding
-returns-2 c = (rw (le-ltb _ _ (c .before .before .before .before .before .before .if1 .left), ← c .before .before .before .before .before .is-well-formed .ensures, c .before .before .before .before .if2 .taken, c .before .before .fall-silent .ensures .0), rw (le-ltb _ _ (c .before .before .before .before .before .before .if1 .left), ← c .before .before .before .before .before .is-well-formed .ensures, c .before .before .before .before .if2 .taken) (c .before .before .fall-silent .ensures .1))
+returns-2 c = (rw (le-ltb _ _ (c .before .before .before .before .before .before .if1 .left), ← c .before .before .before .before .before .is-well-formed .ensures, c .before .before .before .before .if2 .taken, c .before .before .silence .ensures .0), rw (le-ltb _ _ (c .before .before .before .before .before .before .if1 .left), ← c .before .before .before .before .before .is-well-formed .ensures, c .before .before .before .before .if2 .taken) (c .before .before .silence .ensures .1))
 
 returns-3 : tie.Need-returns-3
 unfolding silence holding

@@ -1,21 +1,21 @@
 -- `settling::settle` meets its contract: each way out is the case of the definition that its tests name. Assumes nothing.
-use Rattle.settling.specs.Settling.{listened}
-use borrow.Author.Tests.{le-ltb, lt-ltb}
+use Rattle.settling.specs.Settling.{settles}
+use borrow.Author.Tests.{eq-eqb, ne-eqb}
 use borrow.Author.Needs.{needs}
 use Rattle.settling.proofs.settle.Statement.{statement}
 use Rattle.settling.proofs.settle.Tie as tie
 
 returns : tie.Need-returns
-unfolding listened
-returns c = rw (lt-ltb _ _ (c .before .if1 .taken), c .refuse .ensures)
+unfolding settles
+returns c = rw (← c .before .before .before .event-of .ensures, ← c .before .before .refusal-of .ensures, ne-eqb _ _ (c .before .if1 .taken), c .refuse .ensures)
 
 returns-2 : tie.Need-returns-2
-unfolding listened
-returns-2 c = rw (le-ltb _ _ (c .before .before .before .if1 .left), ← c .before .before .is-well-formed .ensures, c .before .if2 .taken, c .hear .ensures)
+unfolding settles
+returns-2 c = rw (← c .before .before .before .before .before .event-of .ensures, ← c .before .before .before .before .refusal-of .ensures, eq-eqb _ _ (c .before .before .before .if1 .left), ← c .before .before .is-well-formed .ensures, c .before .if2 .taken, c .hear-or-leave .ensures)
 
 returns-3 : tie.Need-returns-3
-unfolding listened
-returns-3 c = rw (le-ltb _ _ (c .before .before .before .if1 .left), ← c .before .before .is-well-formed .ensures, c .before .if2 .left, c .refuse2 .ensures)
+unfolding settles
+returns-3 c = rw (← c .before .before .before .before .before .event-of .ensures, ← c .before .before .before .before .refusal-of .ensures, eq-eqb _ _ (c .before .before .before .if1 .left), ← c .before .before .is-well-formed .ensures, c .before .if2 .left, c .refuse2 .ensures)
 
 pub settle-spec : {M : Type 1} → statement M
-settle-spec = tie.close (tie.spec (λ c κs. search needs) returns (λ c κs. search needs) (λ c κs. search needs) returns-2 (λ c κs. search needs) returns-3)
+settle-spec = tie.close (tie.spec (λ c κs. search needs) (λ c κs. search needs) (λ c κs. search needs) returns (λ c κs. search needs) (λ c κs. search needs) returns-2 (λ c κs. search needs) returns-3)

@@ -6,11 +6,11 @@ use Rattle.meter.proofs.passing.pass_second.Tie as tie
 
 returns : tie.Need-returns
 unfolding tick
-returns c = rw (← c .before .before .before .before .before .before .before .is-well-formed .ensures, c .before .before .before .before .before .before .if1 .taken, c .quiet .ensures, c .before .with-registers .ensures, c .before .before .with-clock .ensures, c .before .before .before .next-second .ensures)
+returns c = rw (← c .before .before .is-well-formed .ensures, c .before .if1 .taken, c .tick .ensures)
 
 returns-2 : tie.Need-returns-2
 unfolding tick
 returns-2 c = rw (← c .before .before .is-well-formed .ensures, c .before .if1 .left, c .unheard-with .ensures)
 
 pub pass-second-spec : {M : Type 1} → statement M
-pass-second-spec = tie.close (tie.spec (λ c κs. search needs) (λ c κs. search needs) (λ c κs. search needs) (λ c κs. search needs) (λ c κs. search needs) returns (λ c κs. search needs) returns-2)
+pass-second-spec = tie.close (tie.spec (λ c κs. search needs) (λ c κs. search needs) returns (λ c κs. search needs) returns-2)

@@ -6,11 +6,11 @@ use Rattle.meter.proofs.passing.power_up.Tie as tie
 
 returns : tie.Need-returns
 unfolding powerUp
-returns c = rw (← c .before .before .before .before .is-well-formed .ensures, c .before .before .before .if1 .taken, c .quiet .ensures, c .before .with-attempts .ensures, c .before .before .in-mode .ensures)
+returns c = rw (← c .before .before .is-well-formed .ensures, c .before .if1 .taken, c .power-up .ensures)
 
 returns-2 : tie.Need-returns-2
 unfolding powerUp
 returns-2 c = rw (← c .before .before .is-well-formed .ensures, c .before .if1 .left, c .unheard-with .ensures)
 
 pub power-up-spec : {M : Type 1} → statement M
-power-up-spec = tie.close (tie.spec (λ c κs. search needs) (λ c κs. search needs) (λ c κs. search needs) (λ c κs. search needs) returns (λ c κs. search needs) returns-2)
+power-up-spec = tie.close (tie.spec (λ c κs. search needs) (λ c κs. search needs) returns (λ c κs. search needs) returns-2)

@@ -12,17 +12,17 @@ returns : tie.Need-returns
 unfolding pulse
 returns c = rw (lt-ltb _ _ (c .before .if1 .taken), c .unheard-with .ensures)
 
-count-pulse-requires : tie.Need-count-pulse-requires
-count-pulse-requires c κs =
+pulse-requires : tie.Need-pulse-requires
+pulse-requires c κs =
     (counters-fit (c .before .before .before .args .m) (sym (c .before .is-well-formed .ensures) ∙ c .if2 .taken), omega arith)
 
 returns-2 : tie.Need-returns-2
 unfolding pulse
-returns-2 c = rw (le-ltb _ _ (c .before .before .before .before .if1 .left), ← c .before .before .before .is-well-formed .ensures, c .before .before .if2 .taken, c .quiet .ensures, c .before .count-pulse .ensures)
+returns-2 c = rw (le-ltb _ _ (c .before .before .before .if1 .left), ← c .before .before .is-well-formed .ensures, c .before .if2 .taken, c .pulse .ensures)
 
 returns-3 : tie.Need-returns-3
 unfolding pulse
 returns-3 c = rw (le-ltb _ _ (c .before .before .before .if1 .left), ← c .before .before .is-well-formed .ensures, c .before .if2 .left, c .unheard-with2 .ensures)
 
 pub take-pulse-spec : {M : Type 1} → statement M
-take-pulse-spec = tie.close (tie.spec (λ c κs. search needs) returns (λ c κs. search needs) count-pulse-requires (λ c κs. search needs) returns-2 (λ c κs. search needs) returns-3)
+take-pulse-spec = tie.close (tie.spec (λ c κs. search needs) returns (λ c κs. search needs) pulse-requires returns-2 (λ c κs. search needs) returns-3)

@@ -1,10 +1,10 @@
--- `meter::fall_silent` meets its contract: each way out is the case of the definition that its tests name. Assumes nothing.
+-- `meter::after::silence` meets its contract: each way out is the case of the definition that its tests name. Assumes nothing.
 use Rattle.text.specs.Writing.{holding}
 use Rattle.meter.specs.Events.{afterSilence}
 use borrow.Author.Tests.{eq-eqb, ne-eqb}
 use borrow.Author.Needs.{needs}
-use Rattle.meter.proofs.fall_silent.Statement.{statement}
-use Rattle.meter.proofs.fall_silent.Tie as tie
+use Rattle.meter.proofs.after.silence.Statement.{statement}
+use Rattle.meter.proofs.after.silence.Tie as tie
 
 returns : tie.Need-returns
 unfolding afterSilence holding
@@ -18,5 +18,5 @@ returns-3 : tie.Need-returns-3
 unfolding afterSilence holding
 returns-3 c = (rw (ne-eqb _ _ (c .before .before .before .before .if1 .left), ne-eqb _ _ (c .before .before .if2 .left), c .quiet2 .ensures, c .before .in-mode3 .ensures), rw (ne-eqb _ _ (c .before .before .before .before .if1 .left), ne-eqb _ _ (c .before .before .if2 .left)))
 
-pub fall-silent-spec : {M : Type 1} → statement M
-fall-silent-spec = tie.close (tie.spec (λ c κs. search needs) (λ c κs. search needs) returns (λ c κs. search needs) (λ c κs. search needs) (λ c. search needs) returns-2 (λ c κs. search needs) (λ c κs. search needs) returns-3)
+pub silence-spec : {M : Type 1} → statement M
+silence-spec = tie.close (tie.spec (λ c κs. search needs) (λ c κs. search needs) returns (λ c κs. search needs) (λ c κs. search needs) (λ c. search needs) returns-2 (λ c κs. search needs) (λ c κs. search needs) returns-3)

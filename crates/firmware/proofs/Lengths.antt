@@ -1,0 +1,39 @@
+-- A fact of another length is a bad fact. Assumes nothing.
+use mathlib.Core.Path.{_≡_, refl}
+use mathlib.Core.Bool.{Bool, true, false, _&&_}
+use mathlib.Core.List.{List}
+use Prim.Native.Nat.{ℕ}
+use lib.Dec.{eqb}
+use lib.ListN.{length}
+use Rattle.clock.specs.Seconds.{realClock}
+use Rattle.clock.specs.declared.Clock.{Clock}
+use Rattle.values.specs.Registers.{goodDigits, goodSerial, goodAccount, goodPassword}
+use Rattle.state.specs.WellFormed.{factsGood}
+use Rattle.state.specs.Making.{madeOf}
+use Rattle.firmware.specs.Making.{badMade}
+
+-- one of four that is false
+second-off : (p r : Bool) → (p && false) && r ≡ false
+second-off true r = refl
+second-off false r = refl
+
+third-off : (p : Bool) → p && false ≡ false
+third-off true = refl
+third-off false = refl
+
+unsuited : (s : List ℕ) → eqb (length s) 8 ≡ false → goodPassword s ≡ false
+unfolding goodDigits
+unsuited s e = rw e
+
+module _ (serial account password : List ℕ) (clock : Clock) where
+  pub serial-long : eqb (length serial) 10 ≡ false → madeOf serial account password clock ≡ badMade
+  unfolding madeOf factsGood goodDigits
+  serial-long e = rw e
+
+  pub account-long : eqb (length account) 10 ≡ false → madeOf serial account password clock ≡ badMade
+  unfolding madeOf factsGood goodAccount
+  account-long e = rw (e, second-off (goodSerial serial) (goodPassword password && realClock clock))
+
+  pub password-long : eqb (length password) 8 ≡ false → madeOf serial account password clock ≡ badMade
+  unfolding madeOf factsGood
+  password-long e = rw (unsuited password e, third-off (goodSerial serial && goodAccount account))

@@ -1,0 +1,19 @@
+-- A meter made, and a record tested, as C asks for it.
+use mathlib.Core.Bool.{cond}
+use Prim.Native.Nat.{ℕ}
+use Rattle.clock.specs.Seconds.{dateOf, timeOf}
+use Rattle.clock.specs.declared.Clock.{Clock}
+use Rattle.state.specs.declared.Made.{Made}
+use Rattle.state.specs.declared.Meter.{Meter}
+use Rattle.state.specs.WellFormed.{wellFormed}
+use Rattle.state.specs.Making.{blankMeter}
+
+abbrev pub clockOf : ℕ → ℕ → ℕ → ℕ → ℕ → ℕ → Clock
+clockOf year month day hour minute second = record { date = dateOf year month day; time = timeOf hour minute second }
+
+abbrev pub badMade : Made
+badMade = record { number = 15; meter = blankMeter }
+
+-- a well-formed record, or 14
+unfoldable pub checkedAs : Meter → ℕ
+checkedAs m = cond (wellFormed m) 1 14

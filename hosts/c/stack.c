@@ -1,0 +1,92 @@
+/* stack.c: how much stack the calls of dirgemist_meter.h take. Each event runs on a stack of its own,
+ * painted before; what was written over is what it took, less what the switch to that stack takes.
+ * Prints the most for each call, and exits with 1 where one takes more than its header says. */
+#define _GNU_SOURCE
+#include "dirgemist_meter.h"
+
+#include <stdio.h>
+#include <stdlib.h>
+#include <string.h>
+#include <ucontext.h>
+
+#define PAINT 0xA5
+#define SIZE 65536
+
+static uint8_t stack[SIZE] __attribute__((aligned(64)));
+static ucontext_t here, there;
+static struct dirgemist_meter meter;
+static uint8_t reply[DIRGEMIST_REPLY_ROOM];
+static size_t length;
+static uint8_t speed, kind;
+static uint32_t value;
+
+static void nothing(void) {}
+static void meet(void) { dirgemist_meter_meet(&meter, kind, value, reply, sizeof reply, &length, &speed); }
+static void check(void) { dirgemist_meter_check(&meter); }
+static void make(void) {
+    dirgemist_meter_make(&meter, (const uint8_t *)"1234567890", 10, (const uint8_t *)"Kiln_7 old", 10,
+                         (const uint8_t *)"20304050", 8, 2024, 2, 29, 23, 59, 59);
+}
+
+/* The bytes of the painted stack that a function wrote over. */
+static size_t deep(void (*function)(void)) {
+    memset(stack, PAINT, SIZE);
+    getcontext(&there);
+    there.uc_stack.ss_sp = stack;
+    there.uc_stack.ss_size = SIZE;
+    there.uc_link = &here;
+    makecontext(&there, function, 0);
+    swapcontext(&here, &there);
+    size_t kept = 0;
+    while (kept < SIZE && stack[kept] == PAINT) {
+        kept++;
+    }
+    return SIZE - kept;
+}
+
+static size_t most(size_t a, size_t b) {
+    return a < b ? b : a;
+}
+
+/* The most that the characters of a message take. */
+static size_t said(const char *message, size_t count) {
+    size_t took = 0;
+    for (size_t at = 0; at < count; at++) {
+        uint8_t c = (uint8_t)message[at];
+        kind = DIRGEMIST_CHARACTER;
+        value = c | (uint32_t)__builtin_parity(c) << 7;
+        took = most(took, deep(meet));
+    }
+    return took;
+}
+
+#define SAID(message) said(message, sizeof(message) - 1)
+
+static size_t happened(uint8_t what, uint32_t with) {
+    kind = what;
+    value = with;
+    return deep(meet);
+}
+
+int main(void) {
+    size_t bare = deep(nothing);
+    size_t making = deep(make) - bare;
+    size_t checking = deep(check) - bare;
+    size_t meeting = 0;
+    meeting = most(meeting, SAID("/?!\r\n\006050\r\n/?123 4567890!\r\n\006051\r\n"));
+    meeting = most(meeting, SAID("\001P1\002(20304050)\003\x61"));
+    meeting = most(meeting, SAID("\001W1\002Z(04;111111111111111111111111)\003\003"));
+    meeting = most(meeting, SAID("\001W1\002K(Kiln_8 new)\003\x10\001W1\002T(01-03-2024;00:00:00)\003\x12"));
+    meeting = most(meeting, SAID("\001R1\002E0()\003\x16\001R1\002T()\003\x37\001R1\002Z(07)\003\x3e"));
+    meeting = most(meeting, SAID("\001R1\002L()\003\x2f\001R1\002K()\003\x28\001B0\003\x71"));
+    meeting = most(meeting, happened(DIRGEMIST_TICK, 0));
+    meeting = most(meeting, happened(DIRGEMIST_PULSE, 1000000));
+    meeting = most(meeting, happened(DIRGEMIST_PULSE, 1000001));
+    meeting = most(meeting, happened(DIRGEMIST_SILENCE, 0));
+    meeting = most(meeting, happened(DIRGEMIST_POWER_UP, 0));
+    meeting = most(meeting, happened(99, 0));
+    meeting -= bare;
+    printf("stack: meet %zu, make %zu, check %zu bytes; the record has %zu\n", meeting, making, checking,
+           sizeof meter);
+    return meeting > DIRGEMIST_STACK || making > DIRGEMIST_STACK || checking > DIRGEMIST_STACK;
+}
