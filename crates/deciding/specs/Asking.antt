@@ -3,9 +3,10 @@ use mathlib.Core.Bool.{cond}
 use mathlib.Core.List.{List}
 use Prim.Native.Nat.{ℕ}
 use lib.ListN.{take, drop}
+use Rattle.line.specs.Quoted.{chars}
 use Rattle.text.specs.Classes.{sameText}
 use Rattle.text.specs.Layout.{fits}
-use mathlib.Core.List.{[], _∷_}
+use Rattle.values.specs.Edition.{editionTables}
 use Rattle.values.specs.Reading.{tableRead}
 use Rattle.values.specs.declared.reading.TableRead.{TableRead}
 use Rattle.frames.specs.Commands.{askClock, askSerial, askAccount, askEnergy}
@@ -18,7 +19,7 @@ tableNamed t = cond (t .ok) (Read (Table (t .table))) (Refuse 9)
 
 -- `Z(##)`, a number of table
 unfoldable pub tableAsked : List ℕ → Verdict
-tableAsked d = cond (fits (90 ∷ 40 ∷ 35 ∷ 35 ∷ 41 ∷ []) d) (tableNamed (tableRead 24 (take 2 (drop 2 d)))) (Refuse 9)
+tableAsked d = cond (fits (chars "Z(##)") d) (tableNamed (tableRead editionTables (take 2 (drop 2 d)))) (Refuse 9)
 
 unfoldable pub energyAsked : List ℕ → Verdict
 energyAsked d =

@@ -4,6 +4,8 @@ use mathlib.Core.List.{List}
 use Prim.Native.Nat.{ℕ, _-_}
 use lib.Dec.{eqb, leb}
 use lib.ListN.{length, getD, take, drop}
+use Rattle.line.specs.Quoted.{char}
+use Rattle.values.specs.Edition.{editionTables}
 use Rattle.values.specs.Registers.{goodAccount, goodRow}
 use Rattle.values.specs.Reading.{clockRead, tableRead}
 use Rattle.values.specs.declared.reading.ClockRead.{ClockRead}
@@ -13,7 +15,7 @@ use Rattle.deciding.specs.declared.Verdict.the-variants.{Refuse, WriteCl
 
 -- a letter with something in brackets, and what stands in them
 unfoldable pub enclosed : ℕ → List ℕ → Bool
-enclosed letter d = leb 3 (length d) && ((eqb (getD d 0 0) letter && eqb (getD d 1 0) 40) && eqb (getD d (length d - 1) 0) 41)
+enclosed letter d = leb 3 (length d) && ((eqb (getD d 0 0) letter && eqb (getD d 1 0) (char "(")) && eqb (getD d (length d - 1) 0) (char ")"))
 
 unfoldable pub inner : List ℕ → List ℕ
 inner d = take (length d - 3) (drop 2 d)
@@ -31,11 +33,11 @@ abbrev pub tableMeant : TableRead → Verdict
 tableMeant t = cond (t .ok) (WriteTable (t .table)) (Refuse 9)
 
 unfoldable pub tableTold : List ℕ → Verdict
-tableTold x = cond (eqb (getD x 2 0) 59 && goodRow (drop 3 x)) (tableMeant (tableRead 24 (take 2 x))) (Refuse 9)
+tableTold x = cond (eqb (getD x 2 0) (char ";") && goodRow (drop 3 x)) (tableMeant (tableRead editionTables (take 2 x))) (Refuse 9)
 
 unfoldable pub told : List ℕ → Verdict
 told d =
-    cond (enclosed 84 d) (clockTold (inner d))
-    (cond (enclosed 75 d) (accountTold (inner d))
-    (cond (enclosed 90 d) (tableTold (inner d))
+    cond (enclosed (char "T") d) (clockTold (inner d))
+    (cond (enclosed (char "K") d) (accountTold (inner d))
+    (cond (enclosed (char "Z") d) (tableTold (inner d))
     (Refuse 9)))

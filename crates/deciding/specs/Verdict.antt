@@ -4,10 +4,10 @@ use mathlib.Core.List.{List, [], _∷_}
 use Prim.Native.Nat.{ℕ}
 use lib.Dec.{eqb, leb}
 use lib.ListN.{getD, drop}
+use Rattle.line.specs.Quoted.{char, chars}
 use Rattle.line.specs.Checksum.{bccOf}
 use Rattle.text.specs.Classes.{sameText}
 use Rattle.text.specs.Layout.{fits}
-use Rattle.frames.specs.Commands.{bracketed}
 use Rattle.deciding.specs.Shape.{bareShape, framedShape, content}
 use Rattle.deciding.specs.Asking.{asked}
 use Rattle.deciding.specs.Telling.{told}
@@ -16,18 +16,18 @@ use Rattle.deciding.specs.declared.Verdict.the-variants.{Refuse, Leave, 
 
 -- P1: (), or eight digits in brackets
 unfoldable pub entry : List ℕ → Verdict
-entry d = cond (sameText d (bracketed [])) Enter (cond (fits (bracketed (35 ∷ 35 ∷ 35 ∷ 35 ∷ 35 ∷ 35 ∷ 35 ∷ 35 ∷ [])) d) Password (Refuse 9))
+entry d = cond (sameText d (chars "()")) Enter (cond (fits (chars "(########)") d) Password (Refuse 9))
 
 -- without STX only B0 is known; it is allowed in modes 2 to 4
 unfoldable pub bareVerdict : ℕ → ℕ → ℕ → Verdict
-bareVerdict mode a b = cond (eqb a 66 && eqb b 48) (cond (leb 2 mode && leb mode 4) Leave (Refuse 8)) (Refuse 7)
+bareVerdict mode a b = cond (eqb a (char "B") && eqb b (char "0")) (cond (leb 2 mode && leb mode 4) Leave (Refuse 8)) (Refuse 7)
 
 -- with STX: P1 in mode 2, R1 in 3 and 4, W1 in 4
 unfoldable pub framedVerdict : ℕ → ℕ → ℕ → List ℕ → Verdict
 framedVerdict mode a b d =
-    cond (eqb a 80 && eqb b 49) (cond (eqb mode 2) (entry d) (Refuse 8))
-    (cond (eqb a 82 && eqb b 49) (cond (eqb mode 3 || eqb mode 4) (asked d) (Refuse 8))
-    (cond (eqb a 87 && eqb b 49) (cond (eqb mode 4) (told d) (Refuse 8))
+    cond (eqb a (char "P") && eqb b (char "1")) (cond (eqb mode 2) (entry d) (Refuse 8))
+    (cond (eqb a (char "R") && eqb b (char "1")) (cond (eqb mode 3 || eqb mode 4) (asked d) (Refuse 8))
+    (cond (eqb a (char "W") && eqb b (char "1")) (cond (eqb mode 4) (told d) (Refuse 8))
     (Refuse 7)))
 
 unfoldable pub shapeVerdict : ℕ → List ℕ → Verdict

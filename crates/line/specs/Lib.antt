@@ -1,3 +1,5 @@
+pub mod Quoted
+pub mod Controls
 pub mod Runs
 pub mod Characters
 pub mod Checksum

@@ -1,6 +1,7 @@
 -- Document 01, "Deciding a frame": the data block.
 use mathlib.Core.List.{List, [], _∷_, _++_}
 use Prim.Native.Nat.{ℕ, zero, suc}
+use Rattle.line.specs.Quoted.{chars}
 use Rattle.clock.specs.declared.Clock.{Clock}
 use Rattle.state.specs.declared.Counters.{Counters}
 use Rattle.state.specs.declared.Registers.{Registers}
@@ -26,4 +27,4 @@ blockSets tables g = factSets (g .serial) (g .clock) (g .account) ++ (energySets
 
 -- and the line that ends it, `!` CR LF
 unfoldable pub blockData : ℕ → Registers → List ℕ
-blockData tables g = linesOf (blockSets tables g) ++ (33 ∷ 13 ∷ 10 ∷ [])
+blockData tables g = linesOf (blockSets tables g) ++ chars "!\r\n"

@@ -3,6 +3,7 @@ use mathlib.Core.Path.{_≡_}
 use mathlib.Core.List.{List, [], _∷_}
 use Prim.Native.Nat.{ℕ, _+_, _-_, _*_, _%_}
 use lib.ListN.{length, getD, take, drop}
+use Rattle.values.specs.Edition.{rowLength}
 use Rattle.state.specs.declared.Counters.{Counters}
 use Rattle.state.specs.declared.Registers.{Registers}
 
@@ -14,12 +15,12 @@ total c = (((c .t1 + c .t2) + c .t3) + c .t4) % 1000000000
 unfoldable pub energy : Counters → ℕ → ℕ
 energy c n = getD (total c ∷ c .t1 ∷ c .t2 ∷ c .t3 ∷ c .t4 ∷ []) n 0
 
--- the 24 characters of a table
+-- the characters of a table
 unfoldable pub rowOf : List ℕ → ℕ → List ℕ
-rowOf tables n = take 24 (drop ((n - 1) * 24) tables)
+rowOf tables n = take rowLength (drop ((n - 1) * rowLength) tables)
 
--- ten characters of serial and of account, and so many tables of 24
+-- ten characters of serial and of account, and so many rows
 pub record Lengths (tables : ℕ) (g : Registers) : Type 0 where
   pub serial : length (g .serial) ≡ 10
   pub account : length (g .account) ≡ 10
-  pub rows : length (g .tables) ≡ tables * 24
+  pub rows : length (g .tables) ≡ tables * rowLength

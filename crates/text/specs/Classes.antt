@@ -3,6 +3,7 @@ use mathlib.Core.Bool.{Bool, true, false, not, _&&_, _||_}
 use mathlib.Core.List.{List, [], _∷_}
 use Prim.Native.Nat.{ℕ}
 use lib.Dec.{leb, eqb}
+use Rattle.line.specs.Quoted.{char}
 
 -- lo to hi, both included
 unfoldable pub between : ℕ → ℕ → ℕ → Bool
@@ -10,25 +11,25 @@ between lo hi c = leb lo c && leb c hi
 
 unfoldable pub isDigit : ℕ → Bool
 unfolding between
-isDigit c = between 48 57 c
+isDigit c = between (char "0") (char "9") c
 
 -- 20 to 7E hex
 unfoldable pub isPrintable : ℕ → Bool
 unfolding between
-isPrintable c = between 32 126 c
+isPrintable c = between 0x20 0x7E c
 
 -- A to Z and a to z
 unfoldable pub isLetter : ℕ → Bool
 unfolding between
-isLetter c = between 65 90 c || between 97 122 c
+isLetter c = between (char "A") (char "Z") c || between (char "a") (char "z") c
 
 -- in a data set's address: letters, digits or '.'
 unfoldable pub isAddress : ℕ → Bool
-isAddress c = (isLetter c || isDigit c) || eqb c 46
+isAddress c = (isLetter c || isDigit c) || eqb c (char ".")
 
 -- in a data set's value: printable characters without `()/!`
 unfoldable pub isValue : ℕ → Bool
-isValue c = isPrintable c && (not (eqb c 40 || eqb c 41) && not (eqb c 47 || eqb c 33))
+isValue c = isPrintable c && (not (eqb c (char "(") || eqb c (char ")")) && not (eqb c (char "/") || eqb c (char "!")))
 
 -- two texts of one length, whose characters agree place by place
 unfoldable pub matching : (ℕ → ℕ → Bool) → List ℕ → List ℕ → Bool

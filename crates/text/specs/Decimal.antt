@@ -2,16 +2,17 @@
 use mathlib.Core.List.{List, [], _∷_, _++_}
 use Prim.Native.Nat.{ℕ, zero, suc, _+_, _-_, _*_, _/_, _%_}
 use lib.ListN.{take, drop}
+use Rattle.line.specs.Quoted.{char}
 
 -- the last w digits of n
 unfoldable pub decimal : ℕ → ℕ → List ℕ
 decimal zero n = []
-decimal (suc w) n = decimal w (n / 10) ++ ((48 + n % 10) ∷ [])
+decimal (suc w) n = decimal w (n / 10) ++ ((char "0" + n % 10) ∷ [])
 
 -- the number that digits say, after the digits of acc
 unfoldable pub valueFrom : ℕ → List ℕ → ℕ
 valueFrom acc [] = acc
-valueFrom acc (c ∷ cs) = valueFrom (acc * 10 + (c - 48)) cs
+valueFrom acc (c ∷ cs) = valueFrom (acc * 10 + (c - char "0")) cs
 
 unfoldable pub valueOf : List ℕ → ℕ
 unfolding valueFrom

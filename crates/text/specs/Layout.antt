@@ -4,6 +4,7 @@ use mathlib.Core.List.{List, [], _∷_, _++_}
 use Prim.Native.Nat.{ℕ, _+_, _^_}
 use lib.Dec.{eqb, ltb}
 use lib.ListN.{length, replicate}
+use Rattle.line.specs.Quoted.{char}
 use Rattle.line.specs.Runs.{every}
 use Rattle.text.specs.Classes.{isDigit, matching}
 use Rattle.text.specs.Decimal.{decimal, numberAt}
@@ -29,11 +30,11 @@ numbersFrom at (digits w ∷ ps) s = numberAt s at w ∷ numbersFrom (at + w) ps
 unfoldable pub pattern : List Piece → List ℕ
 pattern [] = []
 pattern (fixed t ∷ ps) = t ++ pattern ps
-pattern (digits w ∷ ps) = replicate w 35 ++ pattern ps
+pattern (digits w ∷ ps) = replicate w (char "#") ++ pattern ps
 
 -- one character against one of the pattern
 unfoldable pub agrees : ℕ → ℕ → Bool
-agrees p c = (eqb p 35 && isDigit c) || (not (eqb p 35) && eqb p c)
+agrees p c = (eqb p (char "#") && isDigit c) || (not (eqb p (char "#")) && eqb p c)
 
 -- a text against a pattern, as long as it
 unfoldable pub fits : List ℕ → List ℕ → Bool
@@ -50,5 +51,5 @@ numbersFit (digits w ∷ ps) (n ∷ ns) = ltb n (10 ^ w) && numbersFit ps ns
 -- no fixed character is the pattern's '#'
 unfoldable pub plain : List Piece → Bool
 plain [] = true
-plain (fixed t ∷ ps) = every (λ c. not (eqb c 35)) t && plain ps
+plain (fixed t ∷ ps) = every (λ c. not (eqb c (char "#"))) t && plain ps
 plain (digits w ∷ ps) = plain ps

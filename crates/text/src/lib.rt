@@ -84,7 +84,7 @@ pub fn all_between(s: &[u8], lo: u8, hi: u8) -> bool
 pub fn is_digit(c: u8) -> bool
     ensures { λ r. ⌜ r ≡ isDigit c ⌝ }
 {
-    (48 <= c) & (c <= 57)
+    (b'0' <= c) & (c <= b'9')
 }
 
 // Whether a character agrees with one of a pattern: '#' stands for any digit.

@@ -1,3 +1,4 @@
+pub mod Edition
 pub mod Registers
 pub mod Texts
 pub mod Numbers

@@ -4,8 +4,10 @@ use mathlib.Core.List.{List}
 use Prim.Native.Nat.{ℕ}
 use lib.Dec.{eqb, leb}
 use lib.ListN.{length}
+use Rattle.line.specs.Quoted.{char}
 use Rattle.line.specs.Runs.{every}
 use Rattle.text.specs.Classes.{between, isDigit, isLetter}
+use Rattle.values.specs.Edition.{rowLength}
 
 -- so many digits
 unfoldable pub goodDigits : ℕ → List ℕ → Bool
@@ -20,7 +22,7 @@ goodPassword = goodDigits 8
 
 -- letter, digit, space or underscore
 unfoldable pub isAccountCharacter : ℕ → Bool
-isAccountCharacter c = (isLetter c || isDigit c) || (eqb c 32 || eqb c 95)
+isAccountCharacter c = (isLetter c || isDigit c) || (eqb c (char " ") || eqb c (char "_"))
 
 -- account, ten of these
 unfoldable pub goodAccount : List ℕ → Bool
@@ -28,7 +30,7 @@ goodAccount s = eqb (length s) 10 && every isAccountCharacter s
 
 -- a table's row: 24 characters '1' to '4'
 unfoldable pub goodRow : List ℕ → Bool
-goodRow s = eqb (length s) 24 && every (between 49 52) s
+goodRow s = eqb (length s) rowLength && every (between (char "1") (char "4")) s
 
 -- a table number, of so many tables
 unfoldable pub goodTable : ℕ → ℕ → Bool

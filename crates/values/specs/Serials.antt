@@ -3,15 +3,17 @@ use mathlib.Core.Bool.{true, false, cond}
 use mathlib.Core.List.{List, [], _∷_, _++_}
 use Prim.Native.Nat.{ℕ}
 use lib.ListN.{take, drop, replicate}
+use Rattle.line.specs.Quoted.{chars}
 use Rattle.text.specs.Layout.{Piece, digits, fixed, pattern, fits}
 use Rattle.values.specs.declared.characters.SerialRead.{SerialRead}
 use Rattle.values.specs.declared.characters.AccountRead.{AccountRead}
 use Rattle.values.specs.declared.characters.RowRead.{RowRead}
+use Rattle.values.specs.Edition.{rowLength}
 use Rattle.values.specs.Registers.{goodAccount, goodRow}
 
 -- nnn nnnnnnn
 abbrev pub serialForm : List Piece
-serialForm = digits 3 ∷ fixed (32 ∷ []) ∷ digits 7 ∷ []
+serialForm = digits 3 ∷ fixed (chars " ") ∷ digits 7 ∷ []
 
 abbrev pub noSerial : SerialRead
 noSerial = record { ok = false; serial = replicate 10 0 }
@@ -24,4 +26,4 @@ unfoldable pub accountRead : List ℕ → AccountRead
 accountRead s = cond (goodAccount s) (record { ok = true; account = s }) (record { ok = false; account = replicate 10 0 })
 
 unfoldable pub rowRead : List ℕ → RowRead
-rowRead s = cond (goodRow s) (record { ok = true; row = s }) (record { ok = false; row = replicate 24 0 })
+rowRead s = cond (goodRow s) (record { ok = true; row = s }) (record { ok = false; row = replicate rowLength 0 })

@@ -2,6 +2,7 @@
 use mathlib.Core.List.{List, [], _∷_, _++_}
 use Prim.Native.Nat.{ℕ, _-_, _/_, _%_, _^_}
 use lib.ListN.{take, drop}
+use Rattle.line.specs.Quoted.{char, chars}
 use Rattle.text.specs.Layout.{Piece, digits, fixed, layoutText}
 use Rattle.clock.specs.declared.Date.{Date}
 use Rattle.clock.specs.declared.Time.{Time}
@@ -9,7 +10,7 @@ use Rattle.clock.specs.declared.Clock.{Clock}
 
 -- nnn nnnnnnn
 unfoldable pub serialText : List ℕ → List ℕ
-serialText s = take 3 s ++ (32 ∷ drop 3 s)
+serialText s = take 3 s ++ (chars " " ++ drop 3 s)
 
 -- xx
 abbrev pub tableForm : List Piece
@@ -24,21 +25,21 @@ threeTwos sep = digits 2 ∷ fixed (sep ∷ []) ∷ digits 2 ∷ fixed (sep ∷ 
 
 -- yy-mm-dd
 abbrev pub dateForm : List Piece
-dateForm = threeTwos 45
+dateForm = threeTwos (char "-")
 
 unfoldable pub dateText : Date → List ℕ
 dateText d = layoutText dateForm ((d .year - 2000) ∷ d .month ∷ d .day ∷ [])
 
 -- hh:nn:ss
 abbrev pub timeForm : List Piece
-timeForm = threeTwos 58
+timeForm = threeTwos (char ":")
 
 unfoldable pub timeText : Time → List ℕ
 timeText t = layoutText timeForm (t .hour ∷ t .minute ∷ t .second ∷ [])
 
 -- dd-mm-yyyy;hh:nn:ss
 abbrev pub clockForm : List Piece
-clockForm = digits 2 ∷ fixed (45 ∷ []) ∷ digits 2 ∷ fixed (45 ∷ []) ∷ digits 4 ∷ fixed (59 ∷ []) ∷ timeForm
+clockForm = digits 2 ∷ fixed (chars "-") ∷ digits 2 ∷ fixed (chars "-") ∷ digits 4 ∷ fixed (chars ";") ∷ timeForm
 
 unfoldable pub clockText : Clock → List ℕ
 clockText c =
@@ -46,7 +47,7 @@ clockText c =
 
 -- eeeeee.eee*kWh: so many digits in all, so many of them decimals
 abbrev pub counterForm : ℕ → ℕ → List Piece
-counterForm all decimals = digits (all - decimals) ∷ fixed (46 ∷ []) ∷ digits decimals ∷ fixed (42 ∷ 107 ∷ 87 ∷ 104 ∷ []) ∷ []
+counterForm all decimals = digits (all - decimals) ∷ fixed (chars ".") ∷ digits decimals ∷ fixed (chars "*kWh") ∷ []
 
 unfoldable pub counterText : ℕ → ℕ → ℕ → List ℕ
 counterText all decimals n = layoutText (counterForm all decimals) ((n / 10 ^ decimals) ∷ (n % 10 ^ decimals) ∷ [])

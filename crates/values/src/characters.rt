@@ -2,6 +2,7 @@
 ghost use mathlib.Core.Path.{_≡_};
 ghost use mathlib.Core.List.{_++_};
 ghost use lib.ListN.{length, take, drop};
+ghost use Rattle.values.specs.Edition.{rowLength};
 ghost use Rattle.values.specs.Serials.{serialRead, accountRead, rowRead};
 
 pub struct SerialRead {
@@ -16,7 +17,7 @@ pub struct AccountRead {
 
 pub struct RowRead {
     pub ok: bool,
-    pub row: [u8; 24],
+    pub row: [u8; crate::ROW],
 }
 
 // The ten digits around the space.
@@ -73,11 +74,11 @@ pub fn read_account(s: &[u8]) -> AccountRead
     }
 }
 
-fn row_of(s: &[u8]) -> [u8; 24]
-    requires { ⌜ length (now s) ≡ 24 ⌝ }
+fn row_of(s: &[u8]) -> [u8; crate::ROW]
+    requires { ⌜ length (now s) ≡ rowLength ⌝ }
     ensures { λ r. ⌜ r ≡ now (s .entry) ⌝ }
 {
-    let mut copy = [0u8; 24];
+    let mut copy = [0u8; crate::ROW];
     text::put(&mut copy, 0, s);
     copy
 }
@@ -92,6 +93,6 @@ pub fn read_row(s: &[u8]) -> RowRead
     }
     RowRead {
         ok: false,
-        row: [0u8; 24],
+        row: [0u8; crate::ROW],
     }
 }

@@ -10,7 +10,7 @@ mod number;
 pub mod reading;
 pub mod writing;
 
-// A table's number, 1 to 24.
+// A table's number, from 1.
 pub struct TableNo(pub u8);
 
 // A zone's number, 1 to 4.
@@ -19,18 +19,21 @@ pub struct ZoneNo(pub u8);
 // How many tables a meter of edition 1 holds.
 pub const TABLES: u8 = 24;
 
+// How many characters a table's row has, one for each hour.
+pub const ROW: usize = 24;
+
 // Whether a text is so many digits.
 pub fn is_digits(s: &[u8], n: usize) -> bool
     ensures { λ r. ⌜ r ≡ goodDigits n (now (s .entry)) ⌝ }
 {
-    (s.len() == n) & text::all_between(s, 48, 57)
+    (s.len() == n) & text::all_between(s, b'0', b'9')
 }
 
 pub fn is_account_character(c: u8) -> bool
     ensures { λ r. ⌜ r ≡ isAccountCharacter c ⌝ }
 {
-    let letter = ((65 <= c) & (c <= 90)) | ((97 <= c) & (c <= 122));
-    (letter | ((48 <= c) & (c <= 57))) | ((c == 32) | (c == 95))
+    let letter = ((b'A' <= c) & (c <= b'Z')) | ((b'a' <= c) & (c <= b'z'));
+    (letter | ((b'0' <= c) & (c <= b'9'))) | ((c == b' ') | (c == b'_'))
 }
 
 pub fn is_account(s: &[u8]) -> bool
@@ -48,7 +51,7 @@ pub fn is_account(s: &[u8]) -> bool
 pub fn is_row(s: &[u8]) -> bool
     ensures { λ r. ⌜ r ≡ goodRow (now (s .entry)) ⌝ }
 {
-    (s.len() == 24) & text::all_between(s, 49, 52)
+    (s.len() == ROW) & text::all_between(s, b'1', b'4')
 }
 
 pub fn is_table(t: TableNo, tables: u8) -> bool

@@ -3,14 +3,15 @@ ghost use mathlib.Core.Path.{_≡_};
 ghost use Prim.Native.Nat.{_+_, _-_, _<_, _≤_, _^_};
 ghost use lib.ListN.{length};
 ghost use Rattle.values.specs.Numbers.{ThreeAt, threeIn};
+ghost use Rattle.line.specs.Quoted.{char};
 ghost use Rattle.text.specs.Decimal.{valueOf, numberAt};
 
 // What a digit stands for; a character below '0' stands for nothing.
 fn digit(c: u8) -> u32
-    ensures { λ r. ⌜ r ≡ c - 48 ⌝ }
+    ensures { λ r. ⌜ r ≡ c - char "0" ⌝ }
     ensures small { λ r. ⌜ r < 256 ⌝ }
 {
-    if c < 48 { 0 } else { (c - 48) as u32 }
+    if c < b'0' { 0 } else { (c - b'0') as u32 }
 }
 
 // The number in the two digits at a place.

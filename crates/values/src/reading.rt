@@ -1,6 +1,7 @@
 // Dates, times, counters and table numbers read back from their texts.
 ghost use mathlib.Core.Path.{_≡_};
 ghost use Prim.Native.Nat.{_+_, _<_};
+ghost use Rattle.values.specs.Edition.{counterDigits, counterDecimals};
 ghost use Rattle.values.specs.Numbers.{ClockAt, CounterAt};
 ghost use Rattle.values.specs.Reading.{someDate, someTime, someClock, noClock, clockIn, counterIn, someTable, dateRead, timeRead, clockRead, counterRead, tableRead};
 use crate::TableNo;
@@ -192,7 +193,7 @@ pub fn read_clock(s: &[u8]) -> ClockRead
 // The Wh of a counter's text.
 fn counter_in(s: &[u8]) -> u32
     requires { ⌜ CounterAt (now s) ⌝ }
-    ensures { λ r. ⌜ r ≡ counterIn 9 3 (now (s .entry)) ⌝ }
+    ensures { λ r. ⌜ r ≡ counterIn counterDigits counterDecimals (now (s .entry)) ⌝ }
 {
     let kwh = number(&s[0..6]);
     let rest = number(&s[7..10]);
@@ -201,7 +202,7 @@ fn counter_in(s: &[u8]) -> u32
 
 // A counter's Wh from `eeeeee.eee*kWh`.
 pub fn read_counter(s: &[u8]) -> CounterRead
-    ensures { λ r. ⌜ r ≡ counterRead 9 3 (now (s .entry)) ⌝ }
+    ensures { λ r. ⌜ r ≡ counterRead counterDigits counterDecimals (now (s .entry)) ⌝ }
 {
     if text::has_form(b"######.###*kWh", s) {
         return CounterRead {

@@ -3,6 +3,7 @@ ghost use mathlib.Core.Path.{_≡_};
 ghost use Prim.Native.Nat.{_+_, _-_, _≤_, _<_};
 ghost use lib.ListN.{length};
 ghost use Rattle.text.specs.Writing.{stored};
+ghost use Rattle.values.specs.Edition.{counterDigits, counterDecimals};
 ghost use Rattle.values.specs.Texts.{serialText, tableText, dateText, timeText, clockText, counterText};
 use crate::TableNo;
 use clock::Clock;
@@ -27,7 +28,7 @@ pub fn put_table(buf: &mut [u8], at: usize, t: TableNo) -> usize
     ensures held { λ _. ⌜ now (buf .exit) ≡ stored (now (buf .entry)) at (tableText (t .0)) ⌝ }
 {
     let n = t.0;
-    let digits = [48 + n / 10 % 10, 48 + n % 10];
+    let digits = [b'0' + n / 10 % 10, b'0' + n % 10];
     text::put(buf, at, &digits)
 }
 
@@ -47,14 +48,14 @@ pub fn put_date(buf: &mut [u8], at: usize, date: Date) -> usize
     let m = date.month;
     let d = date.day;
     let shown = [
-        48 + (y / 10 % 10) as u8,
-        48 + (y % 10) as u8,
+        b'0' + (y / 10 % 10) as u8,
+        b'0' + (y % 10) as u8,
         b'-',
-        48 + m / 10 % 10,
-        48 + m % 10,
+        b'0' + m / 10 % 10,
+        b'0' + m % 10,
         b'-',
-        48 + d / 10 % 10,
-        48 + d % 10,
+        b'0' + d / 10 % 10,
+        b'0' + d % 10,
     ];
     text::put(buf, at, &shown)
 }
@@ -69,14 +70,14 @@ pub fn put_time(buf: &mut [u8], at: usize, time: Time) -> usize
     let n = time.minute;
     let s = time.second;
     let shown = [
-        48 + h / 10 % 10,
-        48 + h % 10,
+        b'0' + h / 10 % 10,
+        b'0' + h % 10,
         b':',
-        48 + n / 10 % 10,
-        48 + n % 10,
+        b'0' + n / 10 % 10,
+        b'0' + n % 10,
         b':',
-        48 + s / 10 % 10,
-        48 + s % 10,
+        b'0' + s / 10 % 10,
+        b'0' + s % 10,
     ];
     text::put(buf, at, &shown)
 }
@@ -92,16 +93,16 @@ pub fn put_clock(buf: &mut [u8], at: usize, c: Clock) -> usize
     let m = date.month;
     let y = date.year;
     let shown = [
-        48 + d / 10 % 10,
-        48 + d % 10,
+        b'0' + d / 10 % 10,
+        b'0' + d % 10,
         b'-',
-        48 + m / 10 % 10,
-        48 + m % 10,
+        b'0' + m / 10 % 10,
+        b'0' + m % 10,
         b'-',
-        48 + (y / 10 / 10 / 10 % 10) as u8,
-        48 + (y / 10 / 10 % 10) as u8,
-        48 + (y / 10 % 10) as u8,
-        48 + (y % 10) as u8,
+        b'0' + (y / 10 / 10 / 10 % 10) as u8,
+        b'0' + (y / 10 / 10 % 10) as u8,
+        b'0' + (y / 10 % 10) as u8,
+        b'0' + (y % 10) as u8,
         b';',
     ];
     let a = text::put(buf, at, &shown);
@@ -112,21 +113,21 @@ pub fn put_clock(buf: &mut [u8], at: usize, c: Clock) -> usize
 pub fn put_counter(buf: &mut [u8], at: usize, wh: u32) -> usize
     requires { ⌜ at + 14 ≤ length (now buf) ⌝ }
     ensures next { λ r. ⌜ r ≡ at + 14 ⌝ }
-    ensures held { λ _. ⌜ now (buf .exit) ≡ stored (now (buf .entry)) at (counterText 9 3 wh) ⌝ }
+    ensures held { λ _. ⌜ now (buf .exit) ≡ stored (now (buf .entry)) at (counterText counterDigits counterDecimals wh) ⌝ }
 {
     let e = wh / 1000;
     let f = wh % 1000;
     let shown = [
-        48 + (e / 10 / 10 / 10 / 10 / 10 % 10) as u8,
-        48 + (e / 10 / 10 / 10 / 10 % 10) as u8,
-        48 + (e / 10 / 10 / 10 % 10) as u8,
-        48 + (e / 10 / 10 % 10) as u8,
-        48 + (e / 10 % 10) as u8,
-        48 + (e % 10) as u8,
+        b'0' + (e / 10 / 10 / 10 / 10 / 10 % 10) as u8,
+        b'0' + (e / 10 / 10 / 10 / 10 % 10) as u8,
+        b'0' + (e / 10 / 10 / 10 % 10) as u8,
+        b'0' + (e / 10 / 10 % 10) as u8,
+        b'0' + (e / 10 % 10) as u8,
+        b'0' + (e % 10) as u8,
         b'.',
-        48 + (f / 10 / 10 % 10) as u8,
-        48 + (f / 10 % 10) as u8,
-        48 + (f % 10) as u8,
+        b'0' + (f / 10 / 10 % 10) as u8,
+        b'0' + (f / 10 % 10) as u8,
+        b'0' + (f % 10) as u8,
         b'*',
         b'k',
         b'W',
