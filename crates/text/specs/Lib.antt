@@ -3,3 +3,4 @@ pub mod Classes
 pub mod Decimal
 pub mod Layout
 pub mod Beginnings
+pub mod DataSet
