@@ -29,14 +29,6 @@ length-frames tables text p =
     let es = p .entries in
     sym (ap length (lines-are tables 0 es (good-rising tables es (p .good)))) ∙ length-lines (postText es) (length es)
 
--- what a buffer begins with is within it
-pub begun : (out shown : List ℕ) (size : ℕ) → size ≡ length shown → (after : List ℕ) → after ≡ holding out shown
-    → (size ≤ length after) × (size ≡ length (take size after))
-unfolding holding
-begun out shown size e after h =
-    let within : size ≤ length after = omega (arith, ap length h, length-append shown (drop (length shown) out)) in
-    (within, sym (length-take-le size after within))
-
 module _ (tables : ℕ) (text out : List ℕ) (number size place : ℕ) (after : List ℕ) (e : ExportedAs tables text out number size place after) where
   done-shows : Done tables text out number size place after → ShowsExport tables text out 1 size after
   unfolding ExportShown

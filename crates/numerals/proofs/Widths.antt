@@ -12,7 +12,7 @@ use lib.Seq.{set-comm}
 use Rattle.text.specs.Decimal.{decimal, valueOf}
 use Rattle.text.specs.Writing.{stored}
 use Rattle.text.proofs.Decimal.{length-decimal, value-decimal}
-use Rattle.text.proofs.Writing.{stored-append, and-then}
+use Rattle.text.proofs.Writing.{stored-append}
 use Rattle.numerals.specs.Numerals.{widthWithin, widthOf, digitsOf, numberLine}
 
 -- a digit fewer is left
@@ -104,18 +104,6 @@ line-long n m =
 
 pub line-few : (n m : ℕ) → length (numberLine n m) ≤ 42
 line-few n m = omega (arith, line-long n m, digits-few n, digits-few m)
-
--- the four pieces of a line, put in one after the other
-module _ (buf : List ℕ) (at n m : ℕ) (a : List ℕ) (space : ℕ) (b : List ℕ) (second : ℕ) (c : List ℕ) (end : ℕ) (d : List ℕ)
-    (e1 : a ≡ stored buf at (digitsOf n)) (p1 : space ≡ at + length (digitsOf n))
-    (e2 : b ≡ stored a space (32 ∷ [])) (p2 : second ≡ space + 1)
-    (e3 : c ≡ stored b second (digitsOf m)) (p3 : end ≡ second + length (digitsOf m))
-    (e4 : d ≡ stored c end (10 ∷ [])) where
-  pub line-put : d ≡ stored buf at (numberLine n m)
-  unfolding numberLine
-  line-put =
-      and-then buf at (digitsOf n) a space ((32 ∷ []) ++ (digitsOf m ++ (10 ∷ []))) d e1 p1
-      (and-then a space (32 ∷ []) b second (digitsOf m ++ (10 ∷ [])) d e2 p2 (and-then b second (digitsOf m) c end (10 ∷ []) d e3 p3 e4))
 
 -- the digits say the number
 pub digits-say : (n : ℕ) → n < 10 ^ 20 → valueOf (digitsOf n) ≡ n

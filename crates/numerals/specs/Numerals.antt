@@ -3,6 +3,8 @@ use mathlib.Core.Bool.{cond}
 use mathlib.Core.List.{List, [], _∷_, _++_}
 use Prim.Native.Nat.{ℕ, zero, suc, _/_}
 use lib.Dec.{ltb}
+use Rattle.line.specs.Controls.{LF}
+use Rattle.line.specs.Quoted.{chars}
 use Rattle.text.specs.Decimal.{decimal}
 
 -- how many digits n has, where it has one more than the limit at most
@@ -21,4 +23,4 @@ digitsOf n = decimal (widthOf n) n
 
 -- two numbers with a space between them, and LF
 unfoldable pub numberLine : ℕ → ℕ → List ℕ
-numberLine n m = digitsOf n ++ ((32 ∷ []) ++ (digitsOf m ++ (10 ∷ [])))
+numberLine n m = digitsOf n ++ (chars " " ++ (digitsOf m ++ (LF ∷ [])))

@@ -2,7 +2,8 @@
 use native.Mathlib.Omega.{arith}
 use Prim.Native.Nat.{_*_, _≤_}
 use lib.ListN.{length}
-use Rattle.exporting.proofs.Answers.{begun, shows-frames, shows-place}
+use Rattle.numerals.proofs.Begun.{begun}
+use Rattle.exporting.proofs.Answers.{shows-frames, shows-place}
 use borrow.Author.Needs.{needs}
 use Rattle.exporting.proofs.show.Statement.{statement}
 use Rattle.exporting.proofs.show.Tie as tie

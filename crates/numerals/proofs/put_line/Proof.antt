@@ -1,6 +1,9 @@
 -- `numerals::put_line` meets its contract: two numbers, the space and LF, put in one after the other. Assumes nothing.
 use native.Mathlib.Omega.{arith}
-use Rattle.numerals.proofs.Widths.{digits-few, line-long, line-put}
+use mathlib.Core.List.{[], _∷_}
+use Rattle.numerals.specs.Numerals.{digitsOf, numberLine}
+use Rattle.numerals.proofs.Widths.{digits-few, line-long}
+use Rattle.numerals.proofs.Begun.{four-put}
 use borrow.Author.Needs.{needs}
 use Rattle.numerals.proofs.put_line.Statement.{statement}
 use Rattle.numerals.proofs.put_line.Tie as tie
@@ -22,6 +25,7 @@ put-requires-4 c κs =
     omega (arith, digits-few (a .n), digits-few (a .m), c .before .before .before .before .before .before .before .before .before .before .before .before .before .put .ensures .0, c .before .before .before .before .before .before .before .before .put2 .ensures .0, c .before .before .before .before .put3 .ensures .0)
 
 returns : tie.Need-returns
+unfolding numberLine
 returns c =
     let a = c .before .before .before .before .before .before .before .before .before .before .before .before .before .before .before .before .before .before .before .args in
     let number = c .before .before .before .before .before .before .before .before .before .before .before .before .before .before .before .before .put .ensures in
@@ -29,7 +33,7 @@ returns c =
     let other = c .before .before .before .before .before .before .before .put3 .ensures in
     let end = c .before .before .put4 .ensures in (
       omega (arith, line-long (a .n) (a .m), number .0, space .0, other .0, end .0),
-      line-put (a .buf .now) (a .at) (a .n) (a .m) _ _ _ _ _ _ _ (number .1) (number .0) (space .1) (space .0) (other .1) (other .0) (end .1),
+      four-put (a .buf .now) (a .at) (digitsOf (a .n)) (32 ∷ []) (digitsOf (a .m)) (10 ∷ []) _ _ _ _ _ _ _ (number .1) (number .0) (space .1) (space .0) (other .1) (other .0) (end .1),
     )
 
 pub put-line-spec : {M : Type 1} → statement M
