@@ -20,42 +20,69 @@ pub struct Input {
 fn keep(buf: &mut [u8], at: usize, piece: &[u8]) -> usize
     requires { ⌜ at ≤ length (now buf) ⌝ }
     ensures next { λ r. ⌜ r ≡ at + length (take (length (now (buf .entry)) - at) (now (piece .entry))) ⌝ }
+    ensures within { λ r. ⌜ r ≤ length (now (buf .entry)) ⌝ }
     ensures held { λ _. ⌜ now (buf .exit) ≡ stored (now (buf .entry)) at (take (length (now (buf .entry)) - at) (now (piece .entry))) ⌝ }
 {
     let room = buf.len() - at;
     text::put(buf, at, text::first(piece, room))
 }
 
+// What one read gave: whether more may come, whether it ended, and how many bytes are kept then.
+pub struct Turn {
+    pub more: bool,
+    pub ended: bool,
+    pub length: usize,
+}
+
+// Reads once, and keeps what there is room for.
+fn take_piece(buf: &mut [u8], held: usize) -> Turn
+    requires { ⌜ held ≤ length (now buf) ⌝ }
+    ensures { λ r. ⌜ r .length ≤ length (now (buf .entry)) ⌝ }
+{
+    let mut piece = io::large_buffer();
+    let got = libc::read(STDIN_FILENO, &mut piece);
+    if got <= 0 {
+        return Turn {
+            more: false,
+            ended: got == 0,
+            length: held,
+        };
+    }
+    let n = io::count(got, &piece);
+    let kept = keep(buf, held, &piece[..n]);
+    Turn {
+        more: true,
+        ended: false,
+        length: kept,
+    }
+}
+
 // Reads standard input to its end and keeps as many of its first bytes as the buffer holds: whoever writes a longer input is not cut off.
 pub fn read_all(buf: &mut [u8]) -> Input
     ensures { λ r. ⌜ (r .length ≤ length (now (buf .exit))) × (r .length ≡ length (take (r .length) (now (buf .exit)))) ⌝ }
 {
-    let mut piece = io::large_buffer();
-    let mut length = 0;
+    let mut kept = 0;
     let mut pieces = PIECES;
     while 0 < pieces {
-        let got = libc::read(STDIN_FILENO, &mut piece);
-        if got < 0 {
-            io::write_all(STDERR_FILENO, b"the input can't be read\n");
+        let turn = take_piece(buf, kept);
+        kept = turn.length;
+        if !turn.more {
             return Input {
-                ended: false,
-                length,
+                ended: turn.ended,
+                length: kept,
             };
         }
-        if got == 0 {
-            return Input {
-                ended: true,
-                length,
-            };
-        }
-        let n = io::count(got, &piece);
-        length = keep(buf, length, &piece[..n]);
         pieces -= 1;
     }
     Input {
         ended: false,
-        length,
+        length: kept,
     }
+}
+
+// Says that the input was not read.
+pub fn complain() {
+    io::write_all(STDERR_FILENO, b"the input can't be read\n");
 }
 
 // Writes all that a program has to say.
