@@ -17,7 +17,7 @@ changedTo s (suc n) = changedTo s n ++ (sent (bitXor (getD s n 0) (getD change n
 
 -- all 36, the last of them the BCC
 unfoldable pub changedLine : List ℕ → List ℕ
-changedLine s = changedTo s 35 ++ (sent (bitXor (bitXor (bccOf (take 32 s)) (getD s 32 0)) 44) ∷ [])
+changedLine s = changedTo s 35 ++ (sent (bitXor (bccOf (take 33 s)) 44) ∷ [])
 
 -- n lines
 unfoldable pub changedLines : List ℕ → ℕ → List ℕ

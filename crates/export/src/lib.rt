@@ -78,9 +78,9 @@ fn write_frame(changes: &[u8; 36], text: &[u8], at: usize, out: &mut [u8])
         out[at + j] = line::wire(copy[j] ^ changes[j]);
         j += 1;
     }
-    // The BCC of the first 32 columns and the row's last; 44 is what the fixed parts of line and frame differ in.
-    let sum = line::bcc(&copy[..32]);
-    out[at + 35] = line::wire((sum ^ copy[32]) ^ 44);
+    // The BCC of the line up to the row's end; 44 is what the fixed parts of line and frame differ in.
+    let sum = line::bcc(&copy[..33]);
+    out[at + 35] = line::wire(sum ^ 44);
 }
 
 // Writes the frames of so many lines.
