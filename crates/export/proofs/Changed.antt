@@ -25,7 +25,7 @@ use Rattle.frames.specs.Commands.{W1, setTable}
 use Rattle.frames.proofs.Table.{tableBody, table-frame, length-body}
 use Rattle.post.specs.Grammar.{lineText}
 use Rattle.post.proofs.Lines.{line-columns, row-length, row-zones, length-line, between-high, every-at}
-use Rattle.export.specs.Changed.{change, changedTo, changedLine}
+use Rattle.export.specs.Changed.{differing, change, changedTo, changedLine}
 
 pub append-nil : (l : List ℕ) → l ++ [] ≡ l
 append-nil [] = refl
@@ -54,6 +54,13 @@ changed-last buf at s x =
     ∙ set-set (stored buf at (changedTo s 35)) (at + 35) (sent (bitXor (getD s 35 0) (getD change 35 0))) x
     ∙ stored-snoc buf at (changedTo s 35) x 35 (length-changed s 35)
 
+pub differing-at : (s t : List ℕ) (n : ℕ) → n < length s → n < length t → getD (differing s t) n 0 ≡ bitXor (getD s n 0) (getD t n 0)
+unfolding differing
+differing-at [] t n h k = absurd (omega arith)
+differing-at (c ∷ s) [] n h k = absurd (omega arith)
+differing-at (c ∷ s) (d ∷ t) zero h k = refl
+differing-at (c ∷ s) (d ∷ t) (suc n) h k = differing-at s t n (le-of-suc-le-suc h) (le-of-suc-le-suc k)
+
 -- two texts, changed by one another all at once
 unfoldable changes : List ℕ → List ℕ → List ℕ
 changes [] ds = []
@@ -74,7 +81,7 @@ length-changes (c ∷ s) [] n h k = k
 length-changes (c ∷ s) (x ∷ d) zero h k = omega arith
 length-changes (c ∷ s) (x ∷ d) (suc n) h k = omega (arith, length-changes s d n (le-of-suc-le-suc h) (le-of-suc-le-suc k))
 
-length-change : length change ≡ 36
+pub length-change : length change ≡ 36
 unfolding change
 length-change = refl
 

@@ -72,4 +72,4 @@ returns c =
     last (a .out .now) (l .out) (drop (a .at) (a .text .now)) (copied .result) (a .at) (l .j) _ (copied .ensures) (l .inv .2) (omega arith) (c .before .bcc .result) (c .before .bcc .ensures) (c .wire2 .ensures)
 
 pub write-frame-spec : {M : Type 1} → statement M
-write-frame-spec = tie.close (tie.spec Inv-loop μ-loop line-at-requires loop-holds (λ c. omega arith) (λ c. omega arith) (λ c κs. tt) (λ c. omega arith) (λ c. omega arith) (λ c. omega arith) (λ c. omega arith) loop-again (λ c. omega arith) slice-aggregate-bcc (λ c κs. tt) (λ c. omega arith) (λ c κs. tt) (λ c. omega arith) (λ c. omega arith) same-length returns)
+write-frame-spec = tie.close (tie.spec Inv-loop μ-loop line-at-requires loop-holds (λ c. omega arith) (λ c. omega arith) (λ c κs. tt) (λ c. omega arith) (λ c. omega arith) (λ c. omega arith) (λ c. omega arith) loop-again (λ c. omega arith) slice-aggregate-bcc (λ c κs. tt) (λ c κs. tt) (λ c. omega arith) (λ c. omega arith) same-length returns)
