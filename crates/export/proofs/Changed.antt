@@ -12,7 +12,6 @@ use lib.ListN.{length, getD, take, drop, set, replicate, length-append, length-m
 use lib.Seq.{take-suc, take-all, take-at, take-append-le, set-set}
 use Rattle.line.specs.Characters.{sent, seven}
 use Rattle.line.specs.Checksum.{bccOf}
-use Rattle.line.proofs.Parity.{seven-small}
 use Rattle.line.proofs.Xor.{xor-assoc, bcc-append}
 use Rattle.text.specs.Writing.{stored}
 use Rattle.text.proofs.Writing.{stored-append}
@@ -26,7 +25,7 @@ use Rattle.frames.specs.Commands.{W1, setTable}
 use Rattle.frames.proofs.Table.{tableBody, table-frame, length-body}
 use Rattle.post.specs.Grammar.{lineText}
 use Rattle.post.proofs.Lines.{line-columns, row-length, row-zones, length-line, between-high, every-at}
-use Rattle.export.specs.Changed.{change, changedTo, changedLine}
+use Rattle.export.specs.Changed.{differing, change, changedTo, changedLine}
 
 pub append-nil : (l : List ℕ) → l ++ [] ≡ l
 append-nil [] = refl
@@ -55,6 +54,13 @@ changed-last buf at s x =
     ∙ set-set (stored buf at (changedTo s 35)) (at + 35) (sent (bitXor (getD s 35 0) (getD change 35 0))) x
     ∙ stored-snoc buf at (changedTo s 35) x 35 (length-changed s 35)
 
+pub differing-at : (s t : List ℕ) (n : ℕ) → n < length s → n < length t → getD (differing s t) n 0 ≡ bitXor (getD s n 0) (getD t n 0)
+unfolding differing
+differing-at [] t n h k = absurd (omega arith)
+differing-at (c ∷ s) [] n h k = absurd (omega arith)
+differing-at (c ∷ s) (d ∷ t) zero h k = refl
+differing-at (c ∷ s) (d ∷ t) (suc n) h k = differing-at s t n (le-of-suc-le-suc h) (le-of-suc-le-suc k)
+
 -- two texts, changed by one another all at once
 unfoldable changes : List ℕ → List ℕ → List ℕ
 changes [] ds = []
@@ -75,7 +81,7 @@ length-changes (c ∷ s) [] n h k = k
 length-changes (c ∷ s) (x ∷ d) zero h k = omega arith
 length-changes (c ∷ s) (x ∷ d) (suc n) h k = omega (arith, length-changes s d n (le-of-suc-le-suc h) (le-of-suc-le-suc k))
 
-length-change : length change ≡ 36
+pub length-change : length change ≡ 36
 unfolding change
 length-change = refl
 
@@ -159,57 +165,28 @@ body-fixed : bitXor (bccOf (87 ∷ 49 ∷ 2 ∷ 90 ∷ 40 ∷ [])) (bitXor (bccO
 unfolding bccOf seven
 body-fixed = refl
 
--- a row but for its last character, and that
-row-last : (row : List ℕ) → length row ≡ 24 → row ≡ take 23 row ++ (getD row 23 0 ∷ [])
-row-last row h = sym (take-all 24 row (omega arith)) ∙ take-suc row 23 0 (omega arith)
-
-last-small : (row : List ℕ) → goodRow row ≡ true → getD row 23 0 < 128
-last-small row g =
-    let z = every-at (between 49 52) row (row-zones row g) 23 (omega (arith, row-length row g)) in
-    omega (arith, between-high 49 52 (getD row 23 0) z)
-
-row-sum : (row : List ℕ) → goodRow row ≡ true → bccOf row ≡ bitXor (bccOf (take 23 row)) (getD row 23 0)
-row-sum row g =
-    ap bccOf (row-last row (row-length row g))
-    ∙ bcc-append (take 23 row) (getD row 23 0 ∷ [])
-    ∙ ap (bitXor (bccOf (take 23 row))) (one (getD row 23 0) (last-small row g))
-  where
-    one : (x : ℕ) → x < 128 → bccOf (x ∷ []) ≡ x
-    one x h = unfold bccOf in (xor-zero-r (seven x) ∙ seven-small x h)
-
--- the first 32 columns of a line, and the next
+-- a line up to its row's end
 line-front : (n : ℕ) (row rest : List ℕ) → goodRow row ≡ true
-    → take 32 (lineText n row ++ rest) ≡ (49 ∷ 51 ∷ 49 ∷ 46 ∷ 48 ∷ 46 ∷ []) ++ (tableText n ++ ((40 ∷ []) ++ (take 23 row ++ [])))
+    → take 33 (lineText n row ++ rest) ≡ (49 ∷ 51 ∷ 49 ∷ 46 ∷ 48 ∷ 46 ∷ []) ++ (tableText n ++ ((40 ∷ []) ++ (row ++ [])))
 unfolding tableText layoutText decimal
 line-front n row rest g =
-    ap (λ (l : List ℕ). take 32 (l ++ rest)) (line-columns n row)
+    ap (λ (l : List ℕ). take 33 (l ++ rest)) (line-columns n row)
     ∙ ap (λ (l : List ℕ). 49 ∷ 51 ∷ 49 ∷ 46 ∷ 48 ∷ 46 ∷ (48 + n / 10 % 10) ∷ (48 + n % 10) ∷ 40 ∷ l)
-    (ap (take 23) (append-assoc row (41 ∷ 13 ∷ 10 ∷ []) rest) ∙ take-append-le 23 row (41 ∷ 13 ∷ 10 ∷ rest) (omega (arith, row-length row g)) ∙ sym (append-nil (take 23 row)))
-
-line-next : (n : ℕ) (row rest : List ℕ) → goodRow row ≡ true → getD (lineText n row ++ rest) 32 0 ≡ getD row 23 0
-line-next n row rest g =
-    ap (λ (l : List ℕ). getD (l ++ rest) 32 0) (line-columns n row)
-    ∙ ap (λ (l : List ℕ). getD l 23 0) (append-assoc row (41 ∷ 13 ∷ 10 ∷ []) rest)
-    ∙ List·getD-append row (41 ∷ 13 ∷ 10 ∷ rest) 0 23 (omega (arith, row-length row g))
+    (ap (take 24) (append-assoc row (41 ∷ 13 ∷ 10 ∷ []) rest) ∙ take-at row (41 ∷ 13 ∷ 10 ∷ rest) 24 (row-length row g) ∙ sym (append-nil row))
 
 -- the BCC of the line and of its frame differ in what their fixed parts do
-changed-bcc : (n : ℕ) (row rest : List ℕ) → goodRow row ≡ true
-    → bitXor (bitXor (bccOf (take 32 (lineText n row ++ rest))) (getD (lineText n row ++ rest) 32 0)) 44 ≡ bccOf (tableBody n row)
+changed-bcc : (n : ℕ) (row rest : List ℕ) → goodRow row ≡ true → bitXor (bccOf (take 33 (lineText n row ++ rest))) 44 ≡ bccOf (tableBody n row)
 unfolding tableBody
 changed-bcc n row rest g =
-    let t = bccOf (tableText n) in
-    let r = bccOf (take 23 row) in
-    let z = getD row 23 0 in
-    let sum : bccOf (take 32 (lineText n row ++ rest)) ≡ bitXor 43 (bitXor t r) =
+    let s = bitXor (bccOf (tableText n)) (bccOf row) in
+    let sum : bccOf (take 33 (lineText n row ++ rest)) ≡ bitXor 43 s =
     ap bccOf (line-front n row rest g)
-    ∙ gathered (49 ∷ 51 ∷ 49 ∷ 46 ∷ 48 ∷ 46 ∷ []) (tableText n) (40 ∷ []) (take 23 row) []
-    ∙ ap (λ (y : ℕ). bitXor y (bitXor t r)) line-fixed in
-    ap₂ (λ (x y : ℕ). bitXor (bitXor x y) 44) sum (line-next n row rest g)
-    ∙ xor-comm (bitXor (bitXor 43 (bitXor t r)) z) 44
-    ∙ ap (bitXor 44) (xor-assoc 43 (bitXor t r) z)
-    ∙ sym (xor-assoc 44 43 (bitXor (bitXor t r) z))
-    ∙ ap (bitXor 7) (xor-assoc t r z ∙ ap (bitXor t) (sym (row-sum row g)))
-    ∙ sym (gathered (87 ∷ 49 ∷ 2 ∷ 90 ∷ 40 ∷ []) (tableText n) (59 ∷ []) row (41 ∷ 3 ∷ []) ∙ ap (λ (y : ℕ). bitXor y (bitXor t (bccOf row))) body-fixed)
+    ∙ gathered (49 ∷ 51 ∷ 49 ∷ 46 ∷ 48 ∷ 46 ∷ []) (tableText n) (40 ∷ []) row []
+    ∙ ap (λ (y : ℕ). bitXor y s) line-fixed in
+    ap (λ (x : ℕ). bitXor x 44) sum
+    ∙ xor-comm (bitXor 43 s) 44
+    ∙ sym (xor-assoc 44 43 s)
+    ∙ sym (gathered (87 ∷ 49 ∷ 2 ∷ 90 ∷ 40 ∷ []) (tableText n) (59 ∷ []) row (41 ∷ 3 ∷ []) ∙ ap (λ (y : ℕ). bitXor y s) body-fixed)
 
 -- a line, changed, is the frame that sets its table
 pub changed-is : (n : ℕ) (row rest : List ℕ) → goodRow row ≡ true → changedLine (lineText n row ++ rest) ≡ onWire (frameOf W1 (setTable n row))

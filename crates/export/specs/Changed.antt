@@ -3,12 +3,29 @@ use mathlib.Core.List.{List, [], _∷_, _++_}
 use Prim.Native.Nat.{ℕ, zero, suc, _*_}
 use lib.Bits.{bitXor}
 use lib.ListN.{getD, take, drop, replicate}
+use Rattle.line.specs.Quoted.{char, chars}
+use Rattle.line.specs.Controls.{SOH, STX, ETX, LF}
 use Rattle.line.specs.Characters.{sent}
 use Rattle.line.specs.Checksum.{bccOf}
+use Rattle.values.specs.Edition.{rowLength}
 
--- the exclusive-or of a line's column and its frame's, where both are fixed; 0 where the frame has the line's
+-- the line of a table, and the frame that sets it, with LF in the place of the BCC
+unfoldable pub lineForm : List ℕ
+lineForm = chars "131.0.00(" ++ (replicate rowLength (char "1") ++ chars ")\r\n")
+
+unfoldable pub frameForm : List ℕ
+frameForm = SOH ∷ (chars "W1" ++ (STX ∷ (chars "Z(00;" ++ (replicate rowLength (char "1") ++ (char ")" ∷ ETX ∷ LF ∷ [])))))
+
+-- in which bits two texts differ, column by column
+unfoldable pub differing : List ℕ → List ℕ → List ℕ
+differing [] t = []
+differing (c ∷ s) [] = []
+differing (c ∷ s) (d ∷ t) = bitXor c d ∷ differing s t
+
+-- where both are fixed; 0 where the frame has the line's
 unfoldable pub change : List ℕ
-change = 48 ∷ 100 ∷ 0 ∷ 44 ∷ 106 ∷ 6 ∷ 0 ∷ 0 ∷ 19 ∷ (replicate 24 0 ++ (0 ∷ 14 ∷ 0 ∷ []))
+unfolding differing lineForm frameForm
+change = differing lineForm frameForm
 
 -- the first n wire bytes
 unfoldable pub changedTo : List ℕ → ℕ → List ℕ
@@ -17,7 +34,7 @@ changedTo s (suc n) = changedTo s n ++ (sent (bitXor (getD s n 0) (getD change n
 
 -- all 36, the last of them the BCC
 unfoldable pub changedLine : List ℕ → List ℕ
-changedLine s = changedTo s 35 ++ (sent (bitXor (bitXor (bccOf (take 32 s)) (getD s 32 0)) 44) ∷ [])
+changedLine s = changedTo s 35 ++ (sent (bitXor (bccOf (take 33 s)) 44) ∷ [])
 
 -- n lines
 unfoldable pub changedLines : List ℕ → ℕ → List ℕ

@@ -6,45 +6,10 @@ ghost use Rattle.text.specs.Writing.{stored};
 ghost use Rattle.export.specs.Frames.{ExportedAs};
 ghost use Rattle.export.specs.Changed.{change, changedLine, changedLines};
 
-// What a line's column differs from its frame's in.
-const CHANGE: [u8; 36] = [
-    48,
-    100,
-    0,
-    44,
-    106,
-    6,
-    0,
-    0,
-    19,
-    0,
-    0,
-    0,
-    0,
-    0,
-    0,
-    0,
-    0,
-    0,
-    0,
-    0,
-    0,
-    0,
-    0,
-    0,
-    0,
-    0,
-    0,
-    0,
-    0,
-    0,
-    0,
-    0,
-    0,
-    0,
-    14,
-    0,
-];
+// The line of a table, and the frame that sets it, with LF in the place of the BCC: in which bits a column of the one differs from the other's.
+const LINE: [u8; 36] = *b"131.0.00(111111111111111111111111)\r\n";
+
+const FRAME: [u8; 36] = *b"\x01W1\x02Z(00;111111111111111111111111)\x03\n";
 
 // The export's answer: 1 with the length, 20 with the place, or 21.
 pub struct Exported {
@@ -67,6 +32,21 @@ fn line_at(text: &[u8], at: usize) -> [u8; 36]
     copy
 }
 
+// What a line is changed by, column by column.
+fn differences() -> [u8; 36]
+    ensures { λ r. ⌜ r ≡ change ⌝ }
+{
+    let line = LINE;
+    let frame = FRAME;
+    let mut changes = [0u8; 36];
+    let mut i = 0;
+    while i < 36 {
+        changes[i] = line[i] ^ frame[i];
+        i += 1;
+    }
+    changes
+}
+
 // Writes the frame of the line at a place to the same place of the buffer. What changes is lent, so that it is at hand for each line.
 fn write_frame(changes: &[u8; 36], text: &[u8], at: usize, out: &mut [u8])
     requires { ⌜ (now changes ≡ change) × (at + 36 ≤ length (now text)) × (at + 36 ≤ length (now out)) ⌝ }
@@ -78,9 +58,9 @@ fn write_frame(changes: &[u8; 36], text: &[u8], at: usize, out: &mut [u8])
         out[at + j] = line::wire(copy[j] ^ changes[j]);
         j += 1;
     }
-    // The BCC of the first 32 columns and the row's last; 44 is what the fixed parts of line and frame differ in.
-    let sum = line::bcc(&copy[..32]);
-    out[at + 35] = line::wire((sum ^ copy[32]) ^ 44);
+    // The BCC of the line up to the row's end; 44 is what the fixed parts of line and frame differ in.
+    let sum = line::bcc(&copy[..33]);
+    out[at + 35] = line::wire(sum ^ 44);
 }
 
 // Writes the frames of so many lines.
@@ -88,7 +68,7 @@ fn write_frames(text: &[u8], lines: usize, out: &mut [u8])
     requires { ⌜ (36 * lines ≤ length (now text)) × (36 * lines ≤ length (now out)) ⌝ }
     ensures { λ _. ⌜ now (out .exit) ≡ stored (now (out .entry)) 0 (changedLines (now (text .entry)) lines) ⌝ }
 {
-    let changes = CHANGE;
+    let changes = differences();
     let mut i = 0;
     while i < lines {
         write_frame(&changes, text, 36 * i, out);

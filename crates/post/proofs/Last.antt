@@ -1,14 +1,14 @@
 -- What the tests for the last line, and for its first character, say. Assumes nothing.
-use mathlib.Core.Path.{_≡_, refl, sym, ap, _∙_}
-use mathlib.Core.Bool.{Bool, true, false, _&&_, and-true}
-use mathlib.Core.List.{List, [], _∷_}
+use mathlib.Core.Path.{_≡_}
+use mathlib.Core.Bool.{true, false, _&&_}
+use mathlib.Core.List.{List}
 use Prim.Native.Nat.{ℕ, _<_, _≤_}
 use native.Mathlib.Omega.{arith}
 use borrow.Author.Tests.{ltb-true, eqb-true, lt-ltb, eq-eqb}
 use lib.Dec.{ltb, eqb}
 use lib.ListN.{length, getD}
-use Rattle.line.proofs.Runs.{and-left, and-right, and-assoc}
-use Rattle.text.specs.Classes.{matching, sameText}
+use Rattle.line.proofs.Runs.{and-left, and-right}
+use Rattle.text.specs.Classes.{sameText}
 use Rattle.text.proofs.Matching.{same-is, same-self}
 use Rattle.post.specs.Grammar.{lastLine}
 use Rattle.post.specs.Columns.{beginsLast, isLast}
@@ -42,13 +42,3 @@ module _ (above : ℕ) (s : List ℕ) where
   not-last e h l =
       let t : isLast above s ≡ true = rw (lt-ltb 0 above h, l, same-self lastLine) in
       (let z : _≡_ {A = ℕ} 0 1 = cc in omega arith)
-
--- three characters against the last line's
-pub last-three : (s : List ℕ) → length s ≡ 3 → ((eqb (getD s 0 0) 33 && eqb (getD s 1 0) 13) && eqb (getD s 2 0) 10) ≡ sameText s lastLine
-unfolding sameText matching lastLine
-last-three [] h = absurd (omega arith)
-last-three (x ∷ []) h = absurd (omega arith)
-last-three (x ∷ y ∷ []) h = absurd (omega arith)
-last-three (x ∷ y ∷ z ∷ []) h =
-    and-assoc (eqb x 33) (eqb y 13) (eqb z 10) ∙ ap (λ (b : Bool). eqb x 33 && (eqb y 13 && b)) (sym (and-true (eqb z 10)))
-last-three (x ∷ y ∷ z ∷ w ∷ s) h = absurd (omega arith)

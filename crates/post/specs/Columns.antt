@@ -5,15 +5,17 @@ use mathlib.Core.List.{List, [], _∷_, _++_}
 use Prim.Native.Nat.{ℕ, zero, suc, _+_, _-_, _*_, _<_, _≤_}
 use lib.Dec.{ltb, leb, eqb}
 use lib.ListN.{length, getD, take, drop, replicate}
+use Rattle.line.specs.Quoted.{char, chars}
 use Rattle.text.specs.Classes.{between, sameText}
+use Rattle.values.specs.Edition.{rowLength}
 use Rattle.post.specs.Grammar.{lastLine}
 
 -- the lowest and the highest character of each column
 unfoldable pub lowest : List ℕ
-lowest = 49 ∷ 51 ∷ 49 ∷ 46 ∷ 48 ∷ 46 ∷ 48 ∷ 48 ∷ 40 ∷ (replicate 24 49 ++ (41 ∷ 13 ∷ 10 ∷ []))
+lowest = chars "131.0.00(" ++ (replicate rowLength (char "1") ++ chars ")\r\n")
 
 unfoldable pub highest : List ℕ
-highest = 49 ∷ 51 ∷ 49 ∷ 46 ∷ 48 ∷ 46 ∷ 57 ∷ 57 ∷ 40 ∷ (replicate 24 52 ++ (41 ∷ 13 ∷ 10 ∷ []))
+highest = chars "131.0.99(" ++ (replicate rowLength (char "4") ++ chars ")\r\n")
 
 unfoldable pub columnFits : List ℕ → ℕ → Bool
 columnFits s j = between (getD lowest j 0) (getD highest j 0) (getD s j 0)
@@ -25,13 +27,13 @@ columnsFit s (suc n) = columnsFit s n && columnFits s n
 
 -- the tens digit, the number and the row of a line
 unfoldable pub tensOf : List ℕ → ℕ
-tensOf s = getD s 6 0 - 48
+tensOf s = getD s 6 0 - char "0"
 
 unfoldable pub numberOf : List ℕ → ℕ
-numberOf s = (getD s 6 0 - 48) * 10 + (getD s 7 0 - 48)
+numberOf s = (getD s 6 0 - char "0") * 10 + (getD s 7 0 - char "0")
 
 unfoldable pub rowOf : List ℕ → List ℕ
-rowOf s = take 24 (drop 9 s)
+rowOf s = take rowLength (drop 9 s)
 
 -- the number may come below another, of so many tables
 unfoldable pub mayFollow : ℕ → ℕ → ℕ → Bool
@@ -76,7 +78,7 @@ pub record FirstStray (s : List ℕ) (column : ℕ) : Type 0 where
 
 -- a line stands above, and the text begins like the last line
 unfoldable pub beginsLast : ℕ → List ℕ → Bool
-beginsLast above s = ltb 0 above && (ltb 0 (length s) && eqb (getD s 0 0) 33)
+beginsLast above s = ltb 0 above && (ltb 0 (length s) && eqb (getD s 0 0) (char "!"))
 
 -- a line stands above, and the text is the last line
 unfoldable pub isLast : ℕ → List ℕ → Bool

@@ -4,6 +4,7 @@ use mathlib.Core.Bool.{Bool, true, false, _&&_}
 use mathlib.Core.List.{List, [], _∷_, _++_}
 use Prim.Native.Nat.{ℕ}
 use lib.Dec.{ltb}
+use Rattle.line.specs.Quoted.{chars}
 use Rattle.values.specs.Registers.{goodRow, goodTable}
 use Rattle.values.specs.Texts.{tableText}
 
@@ -14,7 +15,7 @@ pub record Entry : Type 0 where
 
 -- 131.0.xx(row) CR LF
 unfoldable pub lineText : ℕ → List ℕ → List ℕ
-lineText n row = (49 ∷ 51 ∷ 49 ∷ 46 ∷ 48 ∷ 46 ∷ []) ++ (tableText n ++ (40 ∷ (row ++ (41 ∷ 13 ∷ 10 ∷ []))))
+lineText n row = chars "131.0." ++ (tableText n ++ (chars "(" ++ (row ++ chars ")\r\n")))
 
 -- the lines, one below the other
 unfoldable pub linesText : List Entry → List ℕ
@@ -23,7 +24,7 @@ linesText (e ∷ es) = lineText (e .number) (e .row) ++ linesText es
 
 -- ! CR LF
 unfoldable pub lastLine : List ℕ
-lastLine = 33 ∷ 13 ∷ 10 ∷ []
+lastLine = chars "!\r\n"
 
 unfoldable pub postText : List Entry → List ℕ
 postText es = linesText es ++ lastLine

@@ -4,89 +4,16 @@ ghost use mathlib.Core.Path.{_≡_};
 ghost use mathlib.Core.Bool.{true, false};
 ghost use Prim.Native.Nat.{ℕ, _+_, _*_, _<_, _≤_};
 ghost use lib.ListN.{length, getD, drop};
+ghost use Rattle.text.specs.Beginnings.{Longest};
 ghost use Rattle.post.specs.Grammar.{lastLine, IsPost};
-ghost use Rattle.post.specs.Place.{Longest, CheckedAs};
+ghost use Rattle.post.specs.Place.{CheckedAs};
 ghost use Rattle.post.specs.Columns.{lowest, highest, columnFits, nextNumber, straying, smaller, StraysFirst, FirstStray, LinePlace, LastPlace, beginsLast, isLast, TookLine, LineRises};
 ghost use Rattle.post.specs.Rest.{Rest, Scanned};
 
 // The lowest and the highest character of each column of a line, `131.0.xx(row)` CR LF.
-const LOWEST: [u8; 36] = [
-    49,
-    51,
-    49,
-    46,
-    48,
-    46,
-    48,
-    48,
-    40,
-    49,
-    49,
-    49,
-    49,
-    49,
-    49,
-    49,
-    49,
-    49,
-    49,
-    49,
-    49,
-    49,
-    49,
-    49,
-    49,
-    49,
-    49,
-    49,
-    49,
-    49,
-    49,
-    49,
-    49,
-    41,
-    13,
-    10,
-];
+const LOWEST: [u8; 36] = *b"131.0.00(111111111111111111111111)\r\n";
 
-const HIGHEST: [u8; 36] = [
-    49,
-    51,
-    49,
-    46,
-    48,
-    46,
-    57,
-    57,
-    40,
-    52,
-    52,
-    52,
-    52,
-    52,
-    52,
-    52,
-    52,
-    52,
-    52,
-    52,
-    52,
-    52,
-    52,
-    52,
-    52,
-    52,
-    52,
-    52,
-    52,
-    52,
-    52,
-    52,
-    52,
-    41,
-    13,
-    10,
-];
+const HIGHEST: [u8; 36] = *b"131.0.99(444444444444444444444444)\r\n";
 
 // The check's answer: 1, or 20 with the place.
 pub struct Checked {
@@ -130,7 +57,7 @@ fn smaller(a: u8, b: u8) -> u8
     a
 }
 
-// The first column from a place on that strays, of those that three windows of 16 hold, and their end where none does. All are seen at
+// The first column from a place on that strays, of those that three windows of a width hold, and their end where none does. All are seen at
 // once. The last window has bounds of its own: a copy that one window alone reads need not stand in memory.
 fn stray_in(
     low: &[u8; 36],
@@ -139,16 +66,17 @@ fn stray_in(
     ceiling: &[u8; 36],
     text: &[u8],
     at: usize,
+    width: u8,
     second: u8,
     third: u8,
 ) -> usize
-    requires { ⌜ (now low ≡ lowest) × (now high ≡ highest) × (now floor ≡ lowest) × (now ceiling ≡ highest) × (second ≤ 16) × (third ≤ second + 16) × (third ≤ 20) × (at + third + 16 ≤ length (now text)) × (second ≤ third) ⌝ }
-    ensures { λ r. ⌜ StraysFirst (drop at (now (text .entry))) (third + 16) r ⌝ }
+    requires { ⌜ (now low ≡ lowest) × (now high ≡ highest) × (now floor ≡ lowest) × (now ceiling ≡ highest) × (second ≤ width) × (third ≤ second + width) × (third + width ≤ 36) × (at + third + width ≤ length (now text)) × (second ≤ third) ⌝ }
+    ensures { λ r. ⌜ StraysFirst (drop at (now (text .entry))) (third + width) r ⌝ }
 {
-    let end = third + 16;
+    let end = third + width;
     let mut column: u8 = end;
     let mut j: u8 = 0;
-    while j < 16 {
+    while j < width {
         let i = j as usize;
         let first = straying(column_fits(low, high, text, at, i), j, end);
         let next = straying(
@@ -176,28 +104,35 @@ fn stray_at(text: &[u8], at: usize) -> usize
     let high = HIGHEST;
     let floor = LOWEST;
     let ceiling = HIGHEST;
-    stray_in(&low, &high, &floor, &ceiling, text, at, 16, 20)
+    stray_in(&low, &high, &floor, &ceiling, text, at, 16, 16, 20)
 }
 
-// The same in a text shorter than a line that holds a window: the last ends where the text does.
-fn late_stray(s: &[u8]) -> usize
-    requires { ⌜ (16 ≤ length (now s)) × (length (now s) < 36) ⌝ }
+// The same in a text shorter than a line that three windows hold: the last ends where the text does.
+fn late_stray(s: &[u8], width: u8) -> usize
+    requires { ⌜ (width ≤ length (now s)) × (length (now s) ≤ 3 * width) × (length (now s) < 36) ⌝ }
     ensures { λ r. ⌜ FirstStray (now (s .entry)) r ⌝ }
 {
     let low = LOWEST;
     let high = HIGHEST;
-    let third = (s.len() - 16) as u8;
-    stray_in(&low, &high, &low, &high, s, 0, smaller(16, third), third)
+    let third = (s.len() - width as usize) as u8;
+    stray_in(
+        &low,
+        &high,
+        &low,
+        &high,
+        s,
+        0,
+        width,
+        smaller(width, third),
+        third,
+    )
 }
 
-// The first column that strays in a text shorter than a line.
-fn first_stray(s: &[u8]) -> usize
+// The same, column by column.
+fn each_stray(s: &[u8]) -> usize
     requires { ⌜ length (now s) < 36 ⌝ }
     ensures { λ r. ⌜ FirstStray (now (s .entry)) r ⌝ }
 {
-    if 16 <= s.len() {
-        return late_stray(s);
-    }
     let low = LOWEST;
     let high = HIGHEST;
     let mut j = 0;
@@ -210,6 +145,23 @@ fn first_stray(s: &[u8]) -> usize
     j
 }
 
+// The first column that strays in a text shorter than a line: in windows as wide as it has room for.
+fn first_stray(s: &[u8]) -> usize
+    requires { ⌜ length (now s) < 36 ⌝ }
+    ensures { λ r. ⌜ FirstStray (now (s .entry)) r ⌝ }
+{
+    if 16 <= s.len() {
+        return late_stray(s, 16);
+    }
+    if 8 <= s.len() {
+        return late_stray(s, 8);
+    }
+    if 4 <= s.len() {
+        return late_stray(s, 4);
+    }
+    each_stray(s)
+}
+
 // The number of the line that stands at a place, below another, from its first stray column; 0 where none does that may come next.
 fn next_number(text: &[u8], at: usize, stray: usize, above: u8, tables: u8) -> u8
     requires { ⌜ (at + 36 ≤ length (now text)) × FirstStray (drop at (now text)) stray ⌝ }
@@ -218,7 +170,7 @@ fn next_number(text: &[u8], at: usize, stray: usize, above: u8, tables: u8) -> u
     if stray < 36 {
         return 0;
     }
-    let n = (text[at + 6] - 48) * 10 + (text[at + 7] - 48);
+    let n = (text[at + 6] - b'0') * 10 + (text[at + 7] - b'0');
     if n <= above {
         return 0;
     }
@@ -262,7 +214,7 @@ fn line_place(s: &[u8], stray: usize, above: u8, tables: u8) -> usize
     if stray < 7 {
         return stray;
     }
-    let tens = (s[6] - 48) * 10;
+    let tens = (s[6] - b'0') * 10;
     if tables < tens {
         return 6;
     }
@@ -272,7 +224,7 @@ fn line_place(s: &[u8], stray: usize, above: u8, tables: u8) -> usize
     if stray < 8 {
         return stray;
     }
-    let number = tens + (s[7] - 48);
+    let number = tens + (s[7] - b'0');
     if number <= above {
         return 7;
     }
@@ -290,13 +242,13 @@ fn last_place(s: &[u8]) -> usize
     if s.len() < 2 {
         return 1;
     }
-    if s[1] != 13 {
+    if s[1] != b'\r' {
         return 1;
     }
     if s.len() < 3 {
         return 2;
     }
-    if s[2] != 10 {
+    if s[2] != b'\n' {
         return 2;
     }
     3
@@ -312,7 +264,7 @@ fn begins_last(s: &[u8], above: u8) -> bool
     if s.len() == 0 {
         return false;
     }
-    s[0] == 33
+    s[0] == b'!'
 }
 
 // Whether a text below some line is the last line.
@@ -322,10 +274,7 @@ fn is_last(s: &[u8], above: u8) -> bool
     if above == 0 {
         return false;
     }
-    if s.len() != 3 {
-        return false;
-    }
-    ((s[0] == 33) & (s[1] == 13)) & (s[2] == 10)
+    text::same(s, b"!\r\n")
 }
 
 // The place of what stands below the lines, where it begins with no line.

@@ -24,15 +24,14 @@ module _ (buf out s copy : List ℕ) (at j x : ℕ) (same : copy ≡ take 36 s) 
   turn : j < 36 → x ≡ sent (bitXor (getD copy j 0) (getD change j 0)) → set out (at + j) x ≡ stored buf at (changedTo s (j + 1))
   turn h w = rw (e, w, column j h) (changed-next buf at s j)
 
-  last : j ≡ 36 → (sum : ℕ) → sum ≡ bccOf (take 32 copy) → x ≡ sent (bitXor (bitXor sum (getD copy 32 0)) 44) → set out (at + 35) x ≡ stored buf at (changedLine s)
+  last : j ≡ 36 → (sum : ℕ) → sum ≡ bccOf (take 33 copy) → x ≡ sent (bitXor sum 44) → set out (at + 35) x ≡ stored buf at (changedLine s)
   unfolding changedLine
   last k sum b w =
-      let first : take 32 copy ≡ take 32 s = ap (take 32) same ∙ take-take 32 36 s (omega arith) in
-      let v : x ≡ sent (bitXor (bitXor (bccOf (take 32 s)) (getD s 32 0)) 44) =
-      w ∙ ap₂ (λ (y z : ℕ). sent (bitXor (bitXor y z) 44)) (b ∙ ap bccOf first) (column 32 (omega arith)) in
+      let first : take 33 copy ≡ take 33 s = ap (take 33) same ∙ take-take 33 36 s (omega arith) in
+      let v : x ≡ sent (bitXor (bccOf (take 33 s)) 44) = w ∙ ap (λ (y : ℕ). sent (bitXor y 44)) (b ∙ ap bccOf first) in
       rw (e, k, v) (changed-last buf at s _)
 
-long : (text copy : List ℕ) (at : ℕ) → at + 36 ≤ length text → copy ≡ take 36 (drop at text) → 32 ≤ length copy
+long : (text copy : List ℕ) (at : ℕ) → at + 36 ≤ length text → copy ≡ take 36 (drop at text) → 33 ≤ length copy
 long text copy at h e = omega (arith, ap length e, length-take-le 36 (drop at text) (omega (arith, length-drop at text)))
 
 abbrev Inv-loop : tie.InvT-loop
@@ -60,7 +59,7 @@ slice-aggregate-bcc : tie.Need-slice-aggregate-bcc Inv-loop μ-loop
 slice-aggregate-bcc c =
     let a = (c .before .before .before .before .before .before .args) in
     let copied = c .before .before .before .line-at in
-    sym (length-take-le 32 (copied .result) (long (a .text .now) (copied .result) (a .at) (c .before .before .before .before .before .before .pre .1) (copied .ensures)))
+    sym (length-take-le 33 (copied .result) (long (a .text .now) (copied .result) (a .at) (c .before .before .before .before .before .before .pre .1) (copied .ensures)))
 
 same-length : tie.Need-same-length Inv-loop μ-loop
 same-length c = simp length-set (c .before .before .before .before .loop .inv .1)
@@ -73,4 +72,4 @@ returns c =
     last (a .out .now) (l .out) (drop (a .at) (a .text .now)) (copied .result) (a .at) (l .j) _ (copied .ensures) (l .inv .2) (omega arith) (c .before .bcc .result) (c .before .bcc .ensures) (c .wire2 .ensures)
 
 pub write-frame-spec : {M : Type 1} → statement M
-write-frame-spec = tie.close (tie.spec Inv-loop μ-loop line-at-requires loop-holds (λ c. omega arith) (λ c. omega arith) (λ c κs. tt) (λ c. omega arith) (λ c. omega arith) (λ c. omega arith) (λ c. omega arith) loop-again (λ c. omega arith) slice-aggregate-bcc (λ c κs. tt) (λ c. omega arith) (λ c κs. tt) (λ c. omega arith) (λ c. omega arith) same-length returns)
+write-frame-spec = tie.close (tie.spec Inv-loop μ-loop line-at-requires loop-holds (λ c. omega arith) (λ c. omega arith) (λ c κs. tt) (λ c. omega arith) (λ c. omega arith) (λ c. omega arith) (λ c. omega arith) loop-again (λ c. omega arith) slice-aggregate-bcc (λ c κs. tt) (λ c κs. tt) (λ c. omega arith) (λ c. omega arith) same-length returns)

@@ -17,8 +17,8 @@ abbrev μ-loop : tie.MeasureT-loop
 μ-loop text lines out₀ changes i₀ out i = lines - i
 
 loop-holds : tie.Need-loop-holds Inv-loop μ-loop
-unfolding stored changedLines change
-loop-holds c = (refl, omega arith, refl, refl)
+unfolding stored changedLines
+loop-holds c = (c .differences .ensures, omega arith, refl, refl)
 
 write-frame-requires : tie.Need-write-frame-requires Inv-loop μ-loop
 write-frame-requires c κs = (c .before .before .before .loop .inv .0, omega arith, omega arith)
@@ -26,7 +26,7 @@ write-frame-requires c κs = (c .before .before .before .loop .inv .0, omega ari
 loop-again : tie.Need-loop-again Inv-loop μ-loop
 loop-again c =
     let l = (c .before .before .before .before .before .before .loop) in
-    let a = (c .before .before .before .before .before .before .before .before .before .args) in
+    let a = (c .before .before .before .before .before .before .before .before .before .before .args) in
     let t = a .text .now in
     let e : c .before .before .write-frame .last .1 .1 .1 .0 ≡ stored (l .out) (36 * l .i) (changedLine (drop (36 * l .i) t)) = c .before .before .write-frame .ensures in (
       l .inv .0,
@@ -41,9 +41,9 @@ same-length c = c .before .loop .inv .2
 returns : tie.Need-returns Inv-loop μ-loop
 returns c =
     let l = (c .before .loop) in
-    let a = (c .before .before .before .before .args) in
+    let a = (c .before .before .before .before .before .args) in
     let e : l .i ≡ a .lines = omega arith in
     l .inv .3 ∙ ap (λ (i : ℕ). stored (a .out .now) 0 (changedLines (a .text .now) i)) e
 
 pub write-frames-spec : {M : Type 1} → statement M
-write-frames-spec = tie.close (tie.spec Inv-loop μ-loop loop-holds (λ c. omega arith) write-frame-requires (λ c. omega arith) (λ c. omega arith) loop-again same-length returns)
+write-frames-spec = tie.close (tie.spec Inv-loop μ-loop (λ c κs. tt) loop-holds (λ c. omega arith) write-frame-requires (λ c. omega arith) (λ c. omega arith) loop-again same-length returns)
