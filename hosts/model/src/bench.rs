@@ -210,11 +210,7 @@ fn state(fields: &[&[u8]]) -> Option<Meter> {
     Some(Meter {
         mode: decimal(mode)?,
         count: decimal(count)?,
-        mark: match decimal::<u8>(mark)? {
-            0 => false,
-            1 => true,
-            _ => return None,
-        },
+        mark: decimal(mark)?,
         held: exactly::<PLACES>(held)?,
         serial: exactly(serial)?,
         account: exactly(account)?,
@@ -231,7 +227,7 @@ pub fn dump(meter: &Meter) -> String {
     let mut line = String::new();
     put(
         &mut line,
-        format_args!("{} {} {} ", meter.mode, meter.count, u8::from(meter.mark)),
+        format_args!("{} {} {} ", meter.mode, meter.count, meter.mark),
     );
     for field in [
         &meter.held[..],
