@@ -3,7 +3,8 @@
 use std::env;
 use std::path::PathBuf;
 
-const LIBRARIES: [&str; 3] = ["firmware", "forum", "headlink"];
+/// `speed` is no part of this crate: a benchmark links it, if it is there.
+const LIBRARIES: [&str; 4] = ["firmware", "forum", "headlink", "speed"];
 
 fn main() {
     let here = PathBuf::from(env::var_os("CARGO_MANIFEST_DIR").expect("cargo sets it"));
@@ -15,6 +16,8 @@ fn main() {
     // A library that was built anew must be linked anew.
     for library in LIBRARIES {
         let file = libraries.join(format!("lib{library}.a"));
-        println!("cargo:rerun-if-changed={}", file.display());
+        if file.exists() {
+            println!("cargo:rerun-if-changed={}", file.display());
+        }
     }
 }

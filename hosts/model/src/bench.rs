@@ -260,7 +260,7 @@ pub fn dump(meter: &Meter) -> String {
 }
 
 /// One or more decimal digits whose value fits.
-fn decimal<N: TryFrom<u64>>(field: &[u8]) -> Option<N> {
+pub(crate) fn decimal<N: TryFrom<u64>>(field: &[u8]) -> Option<N> {
     if field.is_empty() {
         return None;
     }
@@ -277,7 +277,7 @@ fn decimal<N: TryFrom<u64>>(field: &[u8]) -> Option<N> {
 }
 
 /// The bytes of a field in lower-case hex, `-` for none.
-fn hex(field: &[u8]) -> Option<Vec<u8>> {
+pub(crate) fn hex(field: &[u8]) -> Option<Vec<u8>> {
     if field == b"-" {
         return Some(Vec::new());
     }
@@ -299,7 +299,7 @@ fn nibble(digit: u8) -> Option<u8> {
 }
 
 /// A hex field of just this many bytes.
-fn exactly<const N: usize>(field: &[u8]) -> Option<[u8; N]> {
+pub(crate) fn exactly<const N: usize>(field: &[u8]) -> Option<[u8; N]> {
     hex(field)?.try_into().ok()
 }
 

@@ -7,8 +7,14 @@ use std::slice;
 
 // The C library that the standard library links anyway.
 extern "C" {
-    fn mmap(at: *mut c_void, size: usize, may: c_int, how: c_int, file: c_int, from: i64)
-        -> *mut c_void;
+    fn mmap(
+        at: *mut c_void,
+        size: usize,
+        may: c_int,
+        how: c_int,
+        file: c_int,
+        from: i64,
+    ) -> *mut c_void;
     fn mprotect(at: *mut c_void, size: usize, may: c_int) -> c_int;
     fn munmap(at: *mut c_void, size: usize) -> c_int;
     fn sysconf(name: c_int) -> c_long;
@@ -33,7 +39,14 @@ impl Guarded {
         unsafe {
             let page = sysconf(PAGE_SIZE) as usize;
             let size = most.max(1).next_multiple_of(page);
-            let all = mmap(null_mut(), size + 2 * page, NOTHING, PRIVATE_WITHOUT_FILE, -1, 0);
+            let all = mmap(
+                null_mut(),
+                size + 2 * page,
+                NOTHING,
+                PRIVATE_WITHOUT_FILE,
+                -1,
+                0,
+            );
             assert!(all as isize != -1, "no memory");
             let start = all.byte_add(page);
             assert_eq!(mprotect(start, size, READ_AND_WRITE), 0, "no memory");
@@ -52,7 +65,11 @@ impl Guarded {
             *self = Guarded::new(size);
         }
         self.at_the_start = !self.at_the_start;
-        let offset = if self.at_the_start { 0 } else { self.size - size };
+        let offset = if self.at_the_start {
+            0
+        } else {
+            self.size - size
+        };
         // SAFETY: the offset lies within the pages.
         unsafe { self.start.add(offset) }
     }

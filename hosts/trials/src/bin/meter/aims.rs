@@ -1,14 +1,14 @@
 //! Scripts by chance, each line aimed at the state that the lines before it left: mostly what would
 //! lead on, often what comes near to it, sometimes noise.
 
-use trials::chance::Chance;
 use crate::player::{wire, Player};
-use trials::program::Played;
 use crate::reached::Reached;
 use crate::sweeps::new_line;
-use trials::words::*;
 use model::bench::dump;
 use model::meter::{Clock, Meter, ETX, LF, PLACES, SOH, STX};
+use trials::chance::Chance;
+use trials::program::Played;
+use trials::words::*;
 
 /// One script of about so many events.
 pub fn script(name: String, seed: u64, events: u64, reached: &mut Reached) -> Played {

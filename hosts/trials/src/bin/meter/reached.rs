@@ -721,7 +721,10 @@ fn broken_ranges(meter: &Meter) -> Vec<&'static str> {
     let (held, unused) = meter.held.split_at(count.min(63));
     must(held.iter().all(|&c| c < 128), "held above 127");
     must(unused.iter().all(|&c| c == 0), "unused place");
-    must(!held.is_empty() || meter.mark != 1, "mark of an empty receiver");
+    must(
+        !held.is_empty() || meter.mark != 1,
+        "mark of an empty receiver",
+    );
     must(meter.mark < 2, "mark");
     if let Some(&first) = held.first() {
         match meter.mode {

@@ -1,12 +1,12 @@
 //! Scripts that go through a whole range, place by place, where chance could leave gaps.
 
-use trials::chance::Chance;
 use crate::player::{wire, Player};
-use trials::program::Played;
 use crate::reached::Reached;
-use trials::words::*;
 use model::bench::{dump, LINE_MOST};
 use model::meter::{days_in_month, Clock, Meter, ETX, LF, PLACES, SOH, STX};
+use trials::chance::Chance;
+use trials::program::Played;
+use trials::words::*;
 
 /// All sweeps, each a script of its own.
 pub fn all(

@@ -1,9 +1,9 @@
 //! The texts of the trial: whole families gone through one by one, then chance.
 
-use trials::chance::Chance;
 use crate::compare::Text;
 use model::post::{text_of, Row, Table, HOURS, LAST, LINE, LONGEST, TABLES};
 use std::ops::ControlFlow;
+use trials::chance::Chance;
 
 /// Where the row stands in a line.
 const ROW: std::ops::Range<usize> = 9..9 + HOURS;
