@@ -161,6 +161,8 @@ impl Firmware for Wrong {
         }
         let mut answer = ruled(&mut self.meter, kind, value, reply);
         let row = self.meter.tables != before.tables;
+        let days = (before.clock.day, self.meter.clock.day);
+        let leaps = kind == 2 && self.meter.clock.month == 2 && days == (28, 29);
         match self.fault {
             Some(Fault::WritesPastTheReply) if answer.length > 0 => {
                 reply[answer.length] = !reply[answer.length];
@@ -193,13 +195,9 @@ impl Firmware for Wrong {
                     }
                 }
             }
-            Some(Fault::LosesTheLeapDay)
-                if (self.meter.clock.month, self.meter.clock.day) == (2, 29) =>
-            {
-                if kind == 2 && before.clock.day == 28 {
-                    self.meter.clock.month = 3;
-                    self.meter.clock.day = 1;
-                }
+            Some(Fault::LosesTheLeapDay) if leaps => {
+                self.meter.clock.month = 3;
+                self.meter.clock.day = 1;
             }
             Some(Fault::StaysInDecember)
                 if kind == 2 && self.meter.clock.year != before.clock.year =>
