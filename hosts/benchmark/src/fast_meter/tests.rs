@@ -166,6 +166,7 @@ fn command(chance: &mut Chance) -> Vec<u8> {
             0 => framed(b"B0", None),
             1 => framed(b"P1", Some(b"()")),
             2 => framed(b"B0", Some(b"")),
+            3 => framed(b"R1", Some(b"T(\x1F)")),
             _ => framed(
                 &[chance.one_of(b"BPRWx"), chance.one_of(b"01")],
                 Some(b"T()"),
