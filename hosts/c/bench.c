@@ -1,7 +1,7 @@
-/* bench.c: a meter on the tester's bench. It meets the events of a script from standard input, and a
- * transcript on standard output says what it answered; README has the commands. The record lies in
- * memory that ends, and after every other `new` and `set` that starts, where its size says, and so
- * do the reply buffers. */
+/* bench.c: a meter on the tester's bench. It meets the events of a script from standard input, and
+ * a transcript on standard output says what it answered. The record lies in memory that ends, and
+ * after every other `new` and `set` that starts, where its size says, and so do the reply
+ * buffers. */
 #include "script.h"
 
 #include "dirgemist_meter.h"
@@ -23,7 +23,8 @@ struct field {
     {name, kind, offsetof(type, member), sizeof(((type *)0)->member)}
 
 /* Sets the fields of a record by as many words. */
-static bool set_fields(const struct field *fields, size_t count, const struct word *words, void *record) {
+static bool set_fields(const struct field *fields, size_t count, const struct word *words,
+                       void *record) {
     for (size_t at = 0; at < count; at++) {
         const struct field *field = &fields[at];
         uint8_t *place = (uint8_t *)record + field->offset;
@@ -106,9 +107,15 @@ struct facts {
 #define NEEDED 9
 
 static const struct field facts[] = {
-    FACT(BYTES, "SERIAL", serial),   FACT(BYTES, "ACCOUNT", account), FACT(BYTES, "PASSWORD", password),
-    FACT(NUMBER, "YEAR", year),      FACT(NUMBER, "MONTH", month),    FACT(NUMBER, "DAY", day),
-    FACT(NUMBER, "HOUR", hour),      FACT(NUMBER, "MINUTE", minute),  FACT(NUMBER, "SECOND", second),
+    FACT(BYTES, "SERIAL", serial),
+    FACT(BYTES, "ACCOUNT", account),
+    FACT(BYTES, "PASSWORD", password),
+    FACT(NUMBER, "YEAR", year),
+    FACT(NUMBER, "MONTH", month),
+    FACT(NUMBER, "DAY", day),
+    FACT(NUMBER, "HOUR", hour),
+    FACT(NUMBER, "MINUTE", minute),
+    FACT(NUMBER, "SECOND", second),
 };
 
 static struct facts usual(void) {
@@ -128,8 +135,9 @@ static struct dirgemist_meter *other_place(void) {
 }
 
 static uint8_t make(struct dirgemist_meter *at, const struct facts *f) {
-    return dirgemist_meter_make(at, f->serial, sizeof f->serial, f->account, sizeof f->account, f->password, sizeof f->password, f->year, f->month,
-                                f->day, f->hour, f->minute, f->second);
+    return dirgemist_meter_make(at, f->serial, sizeof f->serial, f->account, sizeof f->account,
+                                f->password, sizeof f->password, f->year, f->month, f->day,
+                                f->hour, f->minute, f->second);
 }
 
 static bool play_new(const struct word *words, size_t count) {
@@ -293,7 +301,8 @@ static const struct {
 static bool play(const struct word *words, size_t count) {
     for (size_t at = 0; at < COUNT(commands); at++) {
         if (is(words[0], commands[at].name)) {
-            return commands[at].least < count && count <= commands[at].most + 1 && commands[at].play(words + 1, count - 1);
+            return commands[at].least < count && count <= commands[at].most + 1 &&
+                   commands[at].play(words + 1, count - 1);
         }
     }
     return false;

@@ -1,5 +1,6 @@
-/* forum.c: uses the post check and the export as the forum server does, and tries the fixed cases of document 01.
- * Buffers are memory of their exact size, and all 24 frames are compared. Prints one line, and exits with 1 on any difference. */
+/* forum.c: uses the post check and the export as the forum server does, and tries the fixed cases
+ * of document 01. Buffers are memory of their exact size, and all 24 frames are compared. Prints
+ * one line, and exits with 1 on any difference. */
 #include "exactly.h"
 
 #include "dirgemist.h"
@@ -44,9 +45,10 @@ static void frames_of(uint8_t *frames, int lines) {
     }
 }
 
-/* One text through both functions, in a buffer of `room` bytes of 0x5A; what the export wrote is compared with `frames`. */
-static void try_text(const char *what, const void *text, size_t text_length, size_t room, uint8_t number, size_t length, size_t place,
-                     const uint8_t *frames) {
+/* One text through both functions, in a buffer of `room` bytes of 0x5A; what the export wrote is
+ * compared with `frames`. */
+static void try_text(const char *what, const void *text, size_t text_length, size_t room,
+                     uint8_t number, size_t length, size_t place, const uint8_t *frames) {
     const uint8_t *own = lent(text, text_length);
     uint8_t *out = exactly(room);
     memset(out, 0x5A, room);

@@ -1,7 +1,7 @@
 /* headbench.c: the reading head and the posts on the tester's bench. A line of a script from
- * standard input is one call, and a line of the transcript on standard output says what it answered;
- * README has the commands. What is lent lies in memory that ends, and in every other call that
- * starts, where its size says. */
+ * standard input is one call, and a line of the transcript on standard output says what it
+ * answered. What is lent lies in memory that ends, and in every other call that starts, where its
+ * size says. */
 #include "script.h"
 
 #include "dirgemist.h"
@@ -39,8 +39,8 @@ struct call {
     void (*play)(const struct given *given);
 };
 
-static struct buffer buffer;                /* what a call writes to */
-static struct pages texts;                  /* what it only reads: one text a line */
+static struct buffer buffer; /* what a call writes to */
+static struct pages texts;   /* what it only reads: one text a line */
 static bool text_at_the_start;
 
 static bool take_text(struct word word, struct given *given) {
@@ -113,7 +113,7 @@ static void unwrite(void) {
 }
 
 #define TELL(...) \
-    put_numbers((const uint64_t[]){__VA_ARGS__}, sizeof((const uint64_t[]){__VA_ARGS__}) / sizeof(uint64_t))
+    put_numbers((const uint64_t[]){__VA_ARGS__}, COUNT(((const uint64_t[]){__VA_ARGS__})))
 
 static uint8_t *room_lent(uint64_t room) {
     unwrite();
@@ -130,12 +130,12 @@ static void put_written(uint8_t answer, size_t beside, size_t length) {
 
 /* ---- Commands built: after `build NAME` comes ROOM, and then the fields. */
 
-#define BUILD(name, call)                                         \
-    static void name(const struct given *g) {                     \
-        uint8_t *out = room_lent(g[0].number);                    \
-        size_t room = buffer.room, *length = numbers[0];          \
-        uint8_t answer = call;                                    \
-        put_written(answer, *length, *length);                    \
+#define BUILD(name, call)                                \
+    static void name(const struct given *g) {            \
+        uint8_t *out = room_lent(g[0].number);           \
+        size_t room = buffer.room, *length = numbers[0]; \
+        uint8_t answer = call;                           \
+        put_written(answer, *length, *length);           \
     }
 #define N(place) ((uint8_t)g[place].number)
 #define T(place) g[place].text, g[place].length
@@ -148,9 +148,11 @@ BUILD(password, dirgemist_head_password(T(1), out, room, length))
 BUILD(clock_asked, dirgemist_head_read_clock(out, room, length))
 BUILD(number_asked, dirgemist_head_read_serial(out, room, length))
 BUILD(account_asked, dirgemist_head_read_account(out, room, length))
-BUILD(energy_asked, N(1) == 0 ? dirgemist_head_read_total(out, room, length) : dirgemist_head_read_zone(N(1), out, room, length))
+BUILD(energy_asked, N(1) == 0 ? dirgemist_head_read_total(out, room, length)
+                              : dirgemist_head_read_zone(N(1), out, room, length))
 BUILD(table_asked, dirgemist_head_read_table(N(1), out, room, length))
-BUILD(set_clock, dirgemist_head_write_clock((uint16_t)g[1].number, N(2), N(3), N(4), N(5), N(6), out, room, length))
+BUILD(set_clock, dirgemist_head_write_clock((uint16_t)g[1].number, N(2), N(3), N(4), N(5), N(6),
+                                            out, room, length))
 BUILD(set_account, dirgemist_head_write_account(T(1), out, room, length))
 BUILD(set_table, dirgemist_head_write_table(N(1), T(2), out, room, length))
 BUILD(sign_off, dirgemist_head_sign_off(out, room, length))
@@ -158,7 +160,8 @@ BUILD(sign_off, dirgemist_head_sign_off(out, room, length))
 /* ---- Values read back: after `value NAME` comes the value. */
 
 /* One that is characters, as many as the call writes. */
-static void characters(uint8_t (*call)(const uint8_t *, size_t, uint8_t *, size_t), const struct given *g, size_t count) {
+static void characters(uint8_t (*call)(const uint8_t *, size_t, uint8_t *, size_t),
+                       const struct given *g, size_t count) {
     uint8_t *out = room_lent(count);
     put_number(call(T(0), out, count));
     put(' ');
@@ -231,7 +234,8 @@ static void part(const struct given *g) {
 /* Where there is no set its places are 0, and the reader stays. */
 static void next(const struct given *g) {
     unwrite();
-    size_t at = g[0].number, *address = numbers[0], *value = numbers[1], *after = numbers[2], *place = numbers[3];
+    size_t at = g[0].number;
+    size_t *address = numbers[0], *value = numbers[1], *after = numbers[2], *place = numbers[3];
     uint8_t answer = dirgemist_head_next(T(1), at, address, value, after, place);
     bool set = answer == DIRGEMIST_HEAD_DONE;
     TELL(answer, *place, set ? at : 0, *address, set ? at + *address + 1 : 0, *value, *after);
@@ -270,7 +274,8 @@ static bool play(const struct word *words, size_t count) {
     for (size_t at = 0; at < COUNT(calls); at++) {
         const struct call *call = &calls[at];
         size_t names = *call->second == '\0' ? 1 : 2;
-        if (count >= names && is(words[0], call->name) && (names == 1 || is(words[1], call->second))) {
+        bool named = count >= names && is(words[0], call->name);
+        if (named && (names == 1 || is(words[1], call->second))) {
             return play_call(call, words + names, count - names);
         }
     }

@@ -8,10 +8,10 @@
 
 #include <errno.h>
 
-#define LINE_MOST 262143             /* characters of a line; a longer one is an error */
-#define BYTES_MOST (LINE_MOST / 2)   /* so many bytes can a word of a line have at most */
-#define WORDS_MOST 256               /* a line of more words is an error */
-#define FILLING 0xAA                 /* what a lent buffer holds before the call */
+#define LINE_MOST 262143           /* characters of a line; a longer one is an error */
+#define BYTES_MOST (LINE_MOST / 2) /* so many bytes can a word of a line have at most */
+#define WORDS_MOST 256             /* a line of more words is an error */
+#define FILLING 0xAA               /* what a lent buffer holds before the call */
 
 #define COUNT(array) (sizeof(array) / sizeof *(array))
 
@@ -26,7 +26,8 @@ struct line {
     size_t count;
 };
 
-/* ---- The transcript. It goes out before the script is waited for, so that a person can play too. */
+/* ---- The transcript. It goes out before more of the script is waited for, so that a person can
+ * play too. */
 
 static char transcript[1 << 16];
 static size_t told;

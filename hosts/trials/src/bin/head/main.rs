@@ -928,10 +928,11 @@ fn run(seed: u64) -> Result<u64, String> {
 }
 
 fn main() -> ExitCode {
-    let seed = match std::env::args().nth(1).map(|seed| seed.parse()) {
+    let arguments: Vec<String> = std::env::args().skip(1).collect();
+    let seed = match arguments.first().map(|seed| seed.parse()) {
         None => 20_240_229,
-        Some(Ok(seed)) => seed,
-        Some(Err(_)) => {
+        Some(Ok(seed)) if arguments.len() == 1 => seed,
+        _ => {
             eprintln!("usage: head [seed], a decimal number");
             return ExitCode::from(2);
         }

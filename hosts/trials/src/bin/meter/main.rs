@@ -40,7 +40,7 @@ fn trial() -> Result<String, String> {
             .parse::<u64>()
             .map_err(|_| format!("'{text}' is not a number")),
     };
-    let Some(program) = arguments.first() else {
+    let Some(program) = arguments.first().filter(|_| arguments.len() <= 3) else {
         return Err("usage: meter PROGRAM [SEED [EVENTS]]".into());
     };
     let seed = number(1, SEED)?;
