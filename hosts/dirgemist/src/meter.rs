@@ -95,6 +95,10 @@ pub struct Meter {
     pub registers: Registers,
 }
 
+// The layout is C's; hosts/c/firmware.c holds the header to the same figures.
+const _: () = assert!(size_of::<Receiver>() == 65 && size_of::<Registers>() == 628);
+const _: () = assert!(size_of::<Meter>() == 696);
+
 /// What can happen to a meter.
 #[derive(Clone, Copy, Debug, PartialEq, Eq)]
 pub enum Event {
