@@ -1,7 +1,8 @@
 /* dirgemist_meter.h: the meter's side of the optical link, for firmware that keeps the meter's state in a record of its own.
  *
- * The record may lie anywhere and may be kept, copied or stored as it is. Its fields are the state of document 01; any values of
- * their types may stand there, and a call first tells whether they are well-formed. mark is 0 or 1.
+ * The record may lie anywhere and may be kept, copied or stored as it is. Its fields are the state of
+ * document 01, and every one of them is a number: any bytes at all may stand there, and a call first
+ * tells whether they are well-formed.
  * The function keeps nothing between calls: two meters may be served from two threads at once.
  * It is proved, for all states, bytes and buffers, to do what its paragraph says.
  *
@@ -10,7 +11,6 @@
 #ifndef DIRGEMIST_METER_H
 #define DIRGEMIST_METER_H
 
-#include <stdbool.h>
 #include <stddef.h>
 #include <stdint.h>
 
@@ -37,26 +37,29 @@ struct dirgemist_clock {
     struct dirgemist_time time;
 };
 
-/* What was received of a line or frame so far: 0 from count on, and mark where one of them came damaged. */
+/* What was received of a line or frame so far: 0 from count on. mark is 1 where one of them came
+ * damaged, else 0; no other number is well-formed. */
 struct dirgemist_receiver {
     uint8_t held[63];
     uint8_t count;
-    bool mark;
+    uint8_t mark;
 };
 
 /* The zones' counters in Wh, each under 1,000,000,000. */
 struct dirgemist_counters {
-    uint32_t t1;
-    uint32_t t2;
-    uint32_t t3;
-    uint32_t t4;
+    uint32_t zones[4];
+};
+
+/* What a meter has for life: texts without an end mark. */
+struct dirgemist_facts {
+    uint8_t serial[10];
+    uint8_t password[8];
 };
 
 /* Texts without an end mark; the tables are 24 rows of 24 characters '1' to '4'. */
 struct dirgemist_registers {
-    uint8_t serial[10];
+    struct dirgemist_facts facts;
     uint8_t account[10];
-    uint8_t password[8];
     struct dirgemist_clock clock;
     struct dirgemist_counters counters;
     uint8_t tables[576];

@@ -12,7 +12,13 @@ _Static_assert(sizeof(struct dirgemist_date) == 4, "date");
 _Static_assert(sizeof(struct dirgemist_time) == 3, "time");
 _Static_assert(sizeof(struct dirgemist_clock) == 8, "clock");
 _Static_assert(sizeof(struct dirgemist_receiver) == 65, "receiver");
+_Static_assert(offsetof(struct dirgemist_receiver, count) == 63, "count's place");
+_Static_assert(offsetof(struct dirgemist_receiver, mark) == 64, "mark's place");
 _Static_assert(sizeof(struct dirgemist_counters) == 16, "counters");
+_Static_assert(sizeof(struct dirgemist_facts) == 18, "facts");
+_Static_assert(offsetof(struct dirgemist_facts, password) == 10, "password's place");
+_Static_assert(offsetof(struct dirgemist_registers, facts) == 0, "facts' place");
+_Static_assert(offsetof(struct dirgemist_registers, account) == 18, "account's place");
 _Static_assert(offsetof(struct dirgemist_registers, clock) == 28, "clock's place");
 _Static_assert(offsetof(struct dirgemist_registers, counters) == 36, "counters' place");
 _Static_assert(offsetof(struct dirgemist_registers, tables) == 52, "tables' place");
@@ -67,7 +73,7 @@ static void say(struct dirgemist_meter *meter, const char *what, const char *mes
     for (size_t at = 0; at < reply_length && at < *length; at++) {
         expect(buffer[at] == with_parity((uint8_t)reply[at]), what);
     }
-    expect(meter->receiver.count == 0 && !meter->receiver.mark, what);
+    expect(meter->receiver.count == 0 && meter->receiver.mark == 0, what);
     give_back(got_speed, sizeof *got_speed);
     give_back(length, sizeof *length);
     give_back(buffer, room);
@@ -79,11 +85,11 @@ static void say(struct dirgemist_meter *meter, const char *what, const char *mes
 int main(void) {
     struct dirgemist_meter *meter = exactly(sizeof *meter);
     memset(meter, 0, sizeof *meter);
-    memcpy(meter->registers.serial, "1234567890", 10);
+    memcpy(meter->registers.facts.serial, "1234567890", 10);
     memcpy(meter->registers.account, "Kiln_7 old", 10);
-    memcpy(meter->registers.password, "20304050", 8);
+    memcpy(meter->registers.facts.password, "20304050", 8);
     meter->registers.clock = (struct dirgemist_clock){{2024, 2, 29}, {23, 5, 9}};
-    meter->registers.counters = (struct dirgemist_counters){1500, 2, 3, 999999999};
+    meter->registers.counters = (struct dirgemist_counters){{1500, 2, 3, 999999999}};
     memset(meter->registers.tables, '1', sizeof meter->registers.tables);
     struct dirgemist_meter kept = *meter;
 
@@ -108,14 +114,12 @@ int main(void) {
 
     /* Everything but the row is as it was. */
     memcpy(kept.registers.tables + 23 * 24, "444433332222111144443333", 24);
-    expect(memcmp(meter->registers.serial, kept.registers.serial, 10) == 0, "serial");
+    expect(memcmp(meter->registers.facts.serial, kept.registers.facts.serial, 10) == 0, "serial");
     expect(memcmp(meter->registers.account, kept.registers.account, 10) == 0, "account");
-    expect(memcmp(meter->registers.password, kept.registers.password, 8) == 0, "password");
+    expect(memcmp(meter->registers.facts.password, kept.registers.facts.password, 8) == 0, "password");
     expect(meter->registers.clock.date.year == 2024 && meter->registers.clock.date.month == 2 && meter->registers.clock.date.day == 29, "date");
     expect(meter->registers.clock.time.hour == 23 && meter->registers.clock.time.minute == 5 && meter->registers.clock.time.second == 9, "time");
-    expect(meter->registers.counters.t1 == 1500 && meter->registers.counters.t2 == 2 && meter->registers.counters.t3 == 3
-               && meter->registers.counters.t4 == 999999999,
-           "counters");
+    expect(memcmp(&meter->registers.counters, &kept.registers.counters, sizeof kept.registers.counters) == 0, "counters");
     expect(memcmp(meter->registers.tables, kept.registers.tables, sizeof kept.registers.tables) == 0, "tables");
 
     /* The refusals that change nothing: too little room, then a state that is not well-formed. */
@@ -127,6 +131,9 @@ int main(void) {
     expect(hear(meter, '/', buffer, DIRGEMIST_REPLY_ROOM, &length, &speed) == 14 && length == 0 && speed == 0, "attempts 4");
     expect(meter->attempts == 4 && meter->receiver.count == 0, "nothing held");
     meter->attempts = 0;
+    meter->receiver.mark = 2;
+    expect(hear(meter, '/', buffer, DIRGEMIST_REPLY_ROOM, &length, &speed) == 14 && meter->receiver.mark == 2, "a mark of 2");
+    meter->receiver.mark = 0;
     expect(hear(meter, with_parity('/'), buffer, DIRGEMIST_REPLY_ROOM, &length, &speed) == 0 && meter->receiver.count == 1, "held");
     give_back(buffer, DIRGEMIST_REPLY_ROOM);
     give_back(meter, sizeof *meter);

@@ -6,6 +6,8 @@ use lib.ListN.{take, drop}
 use Rattle.text.specs.Classes.{sameText}
 use Rattle.text.specs.Layout.{fits}
 use mathlib.Core.List.{[], _∷_}
+use Rattle.values.specs.declared.Energy.the-variants.{Total}
+use Rattle.values.specs.Registers.{tables, zoneEnergy}
 use Rattle.values.specs.Reading.{tableRead}
 use Rattle.values.specs.declared.reading.TableRead.{TableRead}
 use Rattle.frames.specs.Commands.{askClock, askSerial, askAccount, askEnergy}
@@ -18,15 +20,15 @@ tableNamed t = cond (t .ok) (Read (Table (t .table))) (Refuse 9)
 
 -- `Z(##)`, a number of table
 unfoldable pub tableAsked : List ℕ → Verdict
-tableAsked d = cond (fits (90 ∷ 40 ∷ 35 ∷ 35 ∷ 41 ∷ []) d) (tableNamed (tableRead 24 (take 2 (drop 2 d)))) (Refuse 9)
+tableAsked d = cond (fits (90 ∷ 40 ∷ 35 ∷ 35 ∷ 41 ∷ []) d) (tableNamed (tableRead tables (take 2 (drop 2 d)))) (Refuse 9)
 
 unfoldable pub energyAsked : List ℕ → Verdict
 energyAsked d =
-    cond (sameText d (askEnergy 0)) (Read (Energy 0))
-    (cond (sameText d (askEnergy 1)) (Read (Energy 1))
-    (cond (sameText d (askEnergy 2)) (Read (Energy 2))
-    (cond (sameText d (askEnergy 3)) (Read (Energy 3))
-    (cond (sameText d (askEnergy 4)) (Read (Energy 4))
+    cond (sameText d (askEnergy 0)) (Read (Energy Total))
+    (cond (sameText d (askEnergy 1)) (Read (Energy (zoneEnergy 1)))
+    (cond (sameText d (askEnergy 2)) (Read (Energy (zoneEnergy 2)))
+    (cond (sameText d (askEnergy 3)) (Read (Energy (zoneEnergy 3)))
+    (cond (sameText d (askEnergy 4)) (Read (Energy (zoneEnergy 4)))
     (tableAsked d)))))
 
 unfoldable pub asked : List ℕ → Verdict

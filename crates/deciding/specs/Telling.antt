@@ -4,7 +4,7 @@ use mathlib.Core.List.{List}
 use Prim.Native.Nat.{ℕ, _-_}
 use lib.Dec.{eqb, leb}
 use lib.ListN.{length, getD, take, drop}
-use Rattle.values.specs.Registers.{goodAccount, goodRow}
+use Rattle.values.specs.Registers.{goodAccount, goodRow, tables}
 use Rattle.values.specs.Reading.{clockRead, tableRead}
 use Rattle.values.specs.declared.reading.ClockRead.{ClockRead}
 use Rattle.values.specs.declared.reading.TableRead.{TableRead}
@@ -31,7 +31,7 @@ abbrev pub tableMeant : TableRead → Verdict
 tableMeant t = cond (t .ok) (WriteTable (t .table)) (Refuse 9)
 
 unfoldable pub tableTold : List ℕ → Verdict
-tableTold x = cond (eqb (getD x 2 0) 59 && goodRow (drop 3 x)) (tableMeant (tableRead 24 (take 2 x))) (Refuse 9)
+tableTold x = cond (eqb (getD x 2 0) 59 && goodRow (drop 3 x)) (tableMeant (tableRead tables (take 2 x))) (Refuse 9)
 
 unfoldable pub told : List ℕ → Verdict
 told d =

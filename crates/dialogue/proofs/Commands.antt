@@ -11,7 +11,7 @@ use lib.ListN.{length, take, drop, replicate, length-append}
 use lib.Seq.{take-at}
 use Rattle.line.specs.Checksum.{bccOf}
 use Rattle.line.specs.Runs.{every}
-use Rattle.line.proofs.Runs.{and-left, and-right, and-both, every-append}
+use Rattle.line.proofs.Runs.{and-left, and-right, and-both, every-append, every-weaker}
 use Rattle.text.specs.Classes.{between, isPrintable, matching, sameText}
 use Rattle.text.specs.Writing.{stored}
 use Rattle.text.specs.Decimal.{decimal}
@@ -19,12 +19,12 @@ use Rattle.text.specs.Layout.{layoutText}
 use Rattle.values.specs.Registers.{goodPassword, goodAccount, goodRow, goodTable}
 use Rattle.values.specs.Texts.{tableText}
 use Rattle.values.proofs.Rules.{digits-long, account-long, row-long, zone-most}
-use Rattle.datasets.proofs.Characters.{every-within}
 use Rattle.frames.specs.Frames.{frameOf, onWire}
 use Rattle.frames.specs.Commands.{P1, R1, bracketed, setAccount, setTable}
 use Rattle.frames.specs.Session.{passwordData}
+use Rattle.state.specs.Sizes.{tables, rowLength}
 use Rattle.state.specs.declared.Registers.{Registers}
-use Rattle.changes.specs.Changes.{withAccount, withTables}
+use Rattle.state.specs.Setting.{withAccount, withTables, withRow}
 use Rattle.deciding.specs.Verdict.{framedVerdict, entry, verdict}
 use Rattle.deciding.specs.Asking.{asked}
 use Rattle.deciding.specs.Telling.{told}
@@ -39,7 +39,7 @@ use Rattle.dialogue.proofs.Feeding.{Fed}
 use Rattle.dialogue.proofs.Held.{Fit, idle, holding}
 use Rattle.dialogue.proofs.Rules.{besides, inFrame, printable-besides}
 use Rattle.dialogue.proofs.Frames.{heldFrame, verdict-is, frame-fed}
-use Rattle.dialogue.proofs.Meant.{entry-plain, entry-password, asked-clock, asked-serial, asked-account, asked-energy, asked-table, told-clock, told-account, told-table}
+use Rattle.dialogue.proofs.Meant.{entry-plain, entry-password, asked-clock, asked-serial, asked-account, asked-total, zone-least, asked-zone, asked-table, told-clock, told-account, told-table}
 
 -- a frame in a mode that allows it goes by its data
 module _ (mode : ℕ) (d : List ℕ) (printable : every isPrintable d ≡ true) where
@@ -68,14 +68,14 @@ command-decided (password p) mode h k = by-entry mode (dataOf (password p)) (com
 command-decided readClock mode h k = by-asked mode (dataOf readClock) (command-printable readClock h) k ∙ asked-clock
 command-decided readSerial mode h k = by-asked mode (dataOf readSerial) (command-printable readSerial h) k ∙ asked-serial
 command-decided readAccount mode h k = by-asked mode (dataOf readAccount) (command-printable readAccount h) k ∙ asked-account
-command-decided readTotal mode h k = by-asked mode (dataOf readTotal) (command-printable readTotal h) k ∙ asked-energy 0 (lit≤ tt)
-command-decided (readZone n) mode h k = by-asked mode (dataOf (readZone n)) (command-printable (readZone n) h) k ∙ asked-energy n (zone-most n h)
+command-decided readTotal mode h k = by-asked mode (dataOf readTotal) (command-printable readTotal h) k ∙ asked-total
+command-decided (readZone n) mode h k = by-asked mode (dataOf (readZone n)) (command-printable (readZone n) h) k ∙ asked-zone n (zone-least n h) (zone-most n h)
 command-decided (readTable n) mode h k = by-asked mode (dataOf (readTable n)) (command-printable (readTable n) h) k ∙ asked-table n h
 command-decided (writeClock c) mode h k = by-told mode (dataOf (writeClock c)) (command-printable (writeClock c) h) k ∙ told-clock c h
 command-decided (writeAccount a) mode h k = by-told mode (dataOf (writeAccount a)) (command-printable (writeAccount a) h) k ∙ told-account a h
 command-decided (writeTable n row) mode h k =
     by-told mode (dataOf (writeTable n row)) (command-printable (writeTable n row) h) k
-    ∙ told-table n row (and-left (goodTable 24 n) (goodRow row) h) (and-right (goodTable 24 n) (goodRow row) h)
+    ∙ told-table n row (and-left (goodTable tables n) (goodRow row) h) (and-right (goodTable tables n) (goodRow row) h)
 
 -- what stood in the brackets, as the meter takes it from what it holds
 given : (x : List ℕ) (n : ℕ) (zs : List ℕ) → length x ≡ n → take n (((x ++ (41 ∷ [])) ++ (3 ∷ [])) ++ zs) ≡ x
@@ -93,9 +93,9 @@ account-given : (a zs : List ℕ) → goodAccount a ≡ true → take 10 (drop 6
 unfolding lettersOf dataOf setAccount bracketed
 account-given a zs h = given a 10 zs (account-long a h)
 
-row-given : (n : ℕ) (row zs : List ℕ) → goodRow row ≡ true → take 24 (drop 9 (1 ∷ ((bodyOf (writeTable n row) ++ (3 ∷ [])) ++ zs))) ≡ row
+row-given : (n : ℕ) (row zs : List ℕ) → goodRow row ≡ true → take rowLength (drop 9 (1 ∷ ((bodyOf (writeTable n row) ++ (3 ∷ [])) ++ zs))) ≡ row
 unfolding lettersOf dataOf setTable bracketed tableText layoutText decimal
-row-given n row zs h = given row 24 zs (row-long row h)
+row-given n row zs h = given row rowLength zs (row-long row h)
 
 module _ (mode a : ℕ) (g : Registers) where
   -- and it does what the command says
@@ -104,7 +104,7 @@ module _ (mode a : ℕ) (g : Registers) where
   command-done enter h = refl
   command-done (password p) h =
       unfold tried triedWith in
-      ap (λ (x : List ℕ). cond (eqb a 3) (nak 11 (idle mode a g)) (cond (sameText x (g .password)) (ack (idle 4 0 g)) (nak 10 (idle mode (a + 1) g))))
+      ap (λ (x : List ℕ). cond (eqb a 3) (nak 11 (idle mode a g)) (cond (sameText x (g .facts .password)) (ack (idle 4 0 g)) (nak 10 (idle mode (a + 1) g))))
       (password-given p (spare (bodyOf (password p))) h)
   command-done readClock h = refl
   command-done readSerial h = refl
@@ -115,9 +115,9 @@ module _ (mode a : ℕ) (g : Registers) where
   command-done (writeClock c) h = refl
   command-done (writeAccount x) h = ap (λ (x : List ℕ). ack (idle mode a (withAccount g x))) (account-given x (spare (bodyOf (writeAccount x))) h)
   command-done (writeTable n row) h =
-      rw (and-left (goodTable 24 n) (goodRow row) h)
-      (ap (λ (x : List ℕ). ack (idle mode a (withTables g (stored (g .tables) ((n - 1) * 24) x))))
-      (row-given n row (spare (bodyOf (writeTable n row))) (and-right (goodTable 24 n) (goodRow row) h)))
+      rw (and-left (goodTable tables n) (goodRow row) h)
+      (ap (λ (x : List ℕ). ack (idle mode a (withTables g (withRow (g .tables) n x))))
+      (row-given n row (spare (bodyOf (writeTable n row))) (and-right (goodTable tables n) (goodRow row) h)))
 
 -- a command is allowed in no mode below 2
 pub allowed-low : (c : Command) (mode : ℕ) → allowedAt c mode ≡ true → 2 ≤ mode
@@ -136,8 +136,8 @@ allowed-low c mode = pick (sameText (lettersOf c) P1) (sameText (lettersOf c) R1
 body-plain : (c : Command) → goodFields c ≡ true → every inFrame (bodyOf c) ≡ true
 unfolding every
 body-plain c h =
-    every-append inFrame (lettersOf c) (2 ∷ dataOf c) (every-within isPrintable inFrame prints (lettersOf c) (letters-printable c))
-    (and-both (inFrame 2) (every inFrame (dataOf c)) (unfold besides in refl) (every-within isPrintable inFrame prints (dataOf c) (command-printable c h)))
+    every-append inFrame (lettersOf c) (2 ∷ dataOf c) (every-weaker isPrintable inFrame prints (lettersOf c) (letters-printable c))
+    (and-both (inFrame 2) (every inFrame (dataOf c)) (unfold besides in refl) (every-weaker isPrintable inFrame prints (dataOf c) (command-printable c h)))
   where
     prints : (x : ℕ) → isPrintable x ≡ true → inFrame x ≡ true
     prints x = printable-besides 1 1 x (lit< tt) (lit< tt)

@@ -4,13 +4,13 @@ use mathlib.Core.Bool.{true, false, cond, _&&_, and-true}
 use mathlib.Core.List.{List, [], _∷_, _++_}
 use Prim.Native.Nat.{ℕ, zero, suc, _+_, _-_, _/_, _%_, _^_, _≤_, _<_}
 use native.Mathlib.Omega.{arith}
-use borrow.Author.Tests.{le-leb, lt-ltb}
+use borrow.Author.Tests.{le-leb, leb-true, lt-ltb}
 use lib.Dec.{eqb, leb}
 use lib.ListN.{length, getD, take, length-append}
 use lib.Seq.{take-at, getD-append-seam}
 use Rattle.line.specs.Runs.{every}
-use Rattle.line.proofs.Runs.{and-right}
-use Rattle.text.specs.Classes.{isDigit, matching, sameText}
+use Rattle.line.proofs.Runs.{and-left, and-right}
+use Rattle.text.specs.Classes.{between, isDigit, matching, sameText}
 use Rattle.text.specs.Decimal.{decimal, valueOf}
 use Rattle.text.specs.Layout.{Piece, digits, fixed, layoutText, pattern, fits, agrees, numbersFit, plain}
 use Rattle.text.proofs.Decimal.{decimal-value, value-lt, digit-is}
@@ -18,13 +18,15 @@ use Rattle.text.proofs.Forms.{text-fits}
 use Rattle.text.proofs.Matching.{matching-length}
 use Rattle.clock.specs.declared.Clock.{Clock}
 use Rattle.clock.specs.Seconds.{realClock}
-use Rattle.values.specs.Registers.{goodDigits, goodPassword, goodAccount, goodRow, goodTable}
+use Rattle.values.specs.declared.Energy.the-variants.{Total}
+use Rattle.values.specs.Registers.{zoneEnergy, goodZone, goodDigits, goodPassword, goodAccount, goodRow, goodTable}
 use Rattle.values.specs.Texts.{tableText, clockText}
 use Rattle.values.specs.Reading.{tableRead}
 use Rattle.values.proofs.RoundTrip.{clock-reads-back, table-reads-back}
 use Rattle.values.proofs.Rules.{digits-long}
 use Rattle.frames.specs.Commands.{bracketed, askClock, askSerial, askAccount, askEnergy, askTable, setClock, setAccount, setTable}
 use Rattle.frames.specs.Session.{enterData, passwordData}
+use Rattle.state.specs.Sizes.{tables}
 use Rattle.replies.specs.declared.Ask.the-variants as ask
 use Rattle.deciding.specs.declared.Verdict.the-variants.{Refuse, Enter, Password, Read, WriteClock, WriteAccount, WriteTable}
 use Rattle.deciding.specs.Asking.{tableNamed, tableAsked, energyAsked, asked}
@@ -73,17 +75,25 @@ pub asked-account : asked askAccount ≡ Read ask.Account
 unfolding asked askClock askSerial askAccount bracketed sameText matching
 asked-account = refl
 
-pub asked-energy : (n : ℕ) → n ≤ 4 → asked (askEnergy n) ≡ Read (ask.Energy n)
+pub asked-total : asked (askEnergy 0) ≡ Read (ask.Energy Total)
 unfolding asked energyAsked askClock askSerial askAccount askEnergy bracketed sameText matching
-asked-energy zero h = refl
-asked-energy (suc zero) h = refl
-asked-energy (suc (suc zero)) h = refl
-asked-energy (suc (suc (suc zero))) h = refl
-asked-energy (suc (suc (suc (suc zero)))) h = refl
-asked-energy (suc (suc (suc (suc (suc n))))) h = absurd (omega arith)
+asked-total = refl
+
+pub zone-least : (n : ℕ) → goodZone n ≡ true → 1 ≤ n
+unfolding goodZone between
+zone-least n h = leb-true 1 n (and-left (leb 1 n) (leb n 4) h)
+
+pub asked-zone : (n : ℕ) → 1 ≤ n → n ≤ 4 → asked (askEnergy n) ≡ Read (ask.Energy (zoneEnergy n))
+unfolding asked energyAsked askClock askSerial askAccount askEnergy bracketed sameText matching
+asked-zone zero l h = absurd (omega arith)
+asked-zone (suc zero) l h = refl
+asked-zone (suc (suc zero)) l h = refl
+asked-zone (suc (suc (suc zero))) l h = refl
+asked-zone (suc (suc (suc (suc zero)))) l h = refl
+asked-zone (suc (suc (suc (suc (suc n))))) l h = absurd (omega arith)
 
 -- Z(xx), of two digits
-two-asked : (x y : ℕ) → isDigit x ≡ true → isDigit y ≡ true → asked (90 ∷ 40 ∷ x ∷ y ∷ 41 ∷ []) ≡ tableNamed (tableRead 24 (x ∷ y ∷ []))
+two-asked : (x y : ℕ) → isDigit x ≡ true → isDigit y ≡ true → asked (90 ∷ 40 ∷ x ∷ y ∷ 41 ∷ []) ≡ tableNamed (tableRead tables (x ∷ y ∷ []))
 unfolding asked energyAsked tableAsked askClock askSerial askAccount askEnergy bracketed sameText matching fits agrees
 two-asked x y hx hy = rw (hx, hy)
 
@@ -95,11 +105,11 @@ digits-are : (n : ℕ) → (48 + n / 10 % 10) ∷ (48 + n % 10) ∷ [] ≡ table
 unfolding tableText layoutText decimal
 digits-are n = refl
 
-pub asked-table : (n : ℕ) → goodTable 24 n ≡ true → asked (askTable n) ≡ Read (ask.Table (record { 0 = n }))
+pub asked-table : (n : ℕ) → goodTable tables n ≡ true → asked (askTable n) ≡ Read (ask.Table (record { 0 = n }))
 asked-table n good =
     ap asked (ask-table-is n)
     ∙ two-asked (48 + n / 10 % 10) (48 + n % 10) (digit-is (n / 10 % 10) (omega arith)) (digit-is (n % 10) (omega arith))
-    ∙ ap (λ (t : List ℕ). tableNamed (tableRead 24 t)) (digits-are n)
+    ∙ ap (λ (t : List ℕ). tableNamed (tableRead tables t)) (digits-are n)
     ∙ ap tableNamed (table-reads-back 24 n (omega arith) good)
 
 -- W1
@@ -141,15 +151,15 @@ pub told-account : (a : List ℕ) → goodAccount a ≡ true → told (setAccoun
 unfolding setAccount accountTold
 told-account a good = told-by 75 a ∙ (rw good)
 
-two-told : (x y : ℕ) (row : List ℕ) → goodRow row ≡ true → tableTold (x ∷ y ∷ 59 ∷ row) ≡ tableMeant (tableRead 24 (x ∷ y ∷ []))
+two-told : (x y : ℕ) (row : List ℕ) → goodRow row ≡ true → tableTold (x ∷ y ∷ 59 ∷ row) ≡ tableMeant (tableRead tables (x ∷ y ∷ []))
 unfolding tableTold
 two-told x y row good = rw good
 
-pub told-table : (n : ℕ) (row : List ℕ) → goodTable 24 n ≡ true → goodRow row ≡ true → told (setTable n row) ≡ WriteTable (record { 0 = n })
+pub told-table : (n : ℕ) (row : List ℕ) → goodTable tables n ≡ true → goodRow row ≡ true → told (setTable n row) ≡ WriteTable (record { 0 = n })
 unfolding setTable
 told-table n row good-n good =
     told-by 90 (tableText n ++ (59 ∷ row))
     ∙ ap (λ (t : List ℕ). tableTold (t ++ (59 ∷ row))) (sym (digits-are n))
     ∙ two-told (48 + n / 10 % 10) (48 + n % 10) row good
-    ∙ ap (λ (t : List ℕ). tableMeant (tableRead 24 t)) (digits-are n)
+    ∙ ap (λ (t : List ℕ). tableMeant (tableRead tables t)) (digits-are n)
     ∙ ap tableMeant (table-reads-back 24 n (omega arith) good-n)

@@ -1,16 +1,20 @@
 // What passes without a reply: a second, a pulse, a power-up.
 ghost use mathlib.Core.Path.{_≡_};
+ghost use mathlib.Core.Bool.{true};
 ghost use Prim.Native.Nat.{_≤_};
-ghost use Rattle.changes.specs.Changes.{withRegisters, withCounters};
-ghost use Rattle.changes.specs.Zones.{zoneIn, counted, CountersFit};
+ghost use Rattle.state.specs.WellFormed.{wellFormed};
+ghost use Rattle.state.specs.Setting.{withRegisters, withCounters};
+ghost use Rattle.tariff.specs.Zones.{zoneIn, counted};
 ghost use Rattle.meter.specs.Outcomes.{answerOf};
 ghost use Rattle.meter.specs.Events.{tick, pulse, powerUp};
 use crate::Answer;
 use crate::answers;
-use changes::in_mode;
-use changes::with_attempts;
-use changes::with_registers;
 use state::Meter;
+use state::setting::in_mode;
+use state::setting::with_attempts;
+use state::setting::with_clock;
+use state::setting::with_counters;
+use state::setting::with_registers;
 
 // One second has passed.
 pub fn pass_second(m: Meter) -> Answer
@@ -19,24 +23,21 @@ pub fn pass_second(m: Meter) -> Answer
     if state::is_well_formed(m) {
         let g = m.registers;
         let c = g.clock;
-        return answers::quiet(
-            1,
-            with_registers(m, changes::with_clock(g, clock::next_second(c))),
-        );
+        return answers::quiet(1, with_registers(m, with_clock(g, clock::next_second(c))));
     }
     answers::unheard_with(14, m)
 }
 
 // The Wh of a pulse, counted by a well-formed meter.
 fn count_pulse(m: Meter, wh: u32) -> Meter
-    requires { ⌜ CountersFit (m .registers .counters) × (wh ≤ 1000000) ⌝ }
+    requires { ⌜ (wellFormed m ≡ true) × (wh ≤ 1000000) ⌝ }
     ensures { λ r. ⌜ r ≡ withRegisters m (withCounters (m .registers) (counted (m .registers .counters) (zoneIn (m .registers)) wh)) ⌝ }
 {
     let g = m.registers;
     let c = g.counters;
     with_registers(
         m,
-        changes::with_counters(g, changes::count(c, changes::zone_in(g), wh)),
+        with_counters(g, tariff::count(c, tariff::zone_in(g), wh)),
     )
 }
 

@@ -1,6 +1,5 @@
--- The wrong answers for `receiving`, `deciding` and `changes` are ruled out, by computing. Assumes nothing.
+-- The wrong answers for `state::setting`, `receiving`, `deciding` and `tariff` are ruled out, by computing. Assumes nothing.
 use mathlib.Core.Path.{refl}
-use mathlib.Core.Bool.{cond}
 use Prim.Native.Nat.{ℕ}
 use lib.ListN.{getD}
 use Rattle.line.specs.Characters.{seven}
@@ -19,6 +18,7 @@ use Rattle.state.specs.declared.Receiver.{Receiver}
 use Rattle.state.specs.declared.Counters.{Counters}
 use Rattle.state.specs.declared.Registers.{Registers}
 use Rattle.state.specs.declared.Meter.{Meter}
+use Rattle.state.specs.Setting.{counterOf}
 use Rattle.receiving.specs.declared.Hearing.{Hearing}
 use Rattle.receiving.specs.declared.Hearing.the-variants.{Drop, Hold, Restart, Empty, Line, Confirm, Frame, TooLong}
 use Rattle.receiving.specs.Hearing.{hearing, listening, confirming, framing}
@@ -26,9 +26,9 @@ use Rattle.deciding.specs.declared.Verdict.{Verdict}
 use Rattle.deciding.specs.declared.Verdict.the-variants.{Refuse, Leave, Enter, Password, Read, WriteClock, WriteAccount, WriteTable}
 use Rattle.deciding.specs.Shape.{startGood, bareShape, content, framedShape}
 use Rattle.deciding.specs.Verdict.{entry, bareVerdict, framedVerdict, shapeVerdict, verdict}
-use Rattle.changes.specs.Zones.{tableFor, zoneIn, counted}
+use Rattle.tariff.specs.Zones.{tableFor, zoneIn, counted}
 use Rattle.mistakes.specs.Samples.{serial, account, twos, newMeter, used, heldIn}
-use Rattle.mistakes.specs.Receiving.{Hearings, Decisions, Changes}
+use Rattle.mistakes.specs.Receiving.{Setting, Hearings, Decisions, Tariff}
 use Rattle.mistakes.proofs.Differing.{seen, number, byte}
 
 -- each case as a number
@@ -58,30 +58,42 @@ hearings =
     record {
       hear = (seen hearingCase refl, seen hearingCase refl);
       «last_held» = (number refl, number refl);
-      keep = (seen (λ (r : Receiver). cond (r .mark) 1 0) refl, seen (λ (r : Receiver). r .count) refl);
-      restart = (seen (λ (r : Receiver). cond (r .mark) 1 0) refl, seen (λ (r : Receiver). r .count) refl);
-      empty = (seen (λ (r : Receiver). cond (r .mark) 1 0) refl, seen (λ (r : Receiver). r .count) refl);
+      keep = (seen (λ (r : Receiver). r .mark) refl, seen (λ (r : Receiver). r .count) refl);
+      restart = (seen (λ (r : Receiver). r .mark) refl, seen (λ (r : Receiver). r .count) refl);
     }
 
 pub decisions : Decisions
 unfolding seven bccOf every between isDigit isPrintable matching sameText decimal layoutText agrees fits tableText closed frameOf bracketed setTable startGood bareShape content framedShape entry bareVerdict framedVerdict shapeVerdict verdict verdictCase twos
 decisions = record { decide = (seen verdictCase refl, seen verdictCase refl) }
 
-pub changes : Changes
-unfolding stored decimal leap daysBefore dayNumber weekday tableFor zoneIn counted serial account twos newMeter used heldIn
-changes =
+pub setting : Setting
+unfolding stored decimal serial account twos newMeter used heldIn
+setting =
     record {
+      «empty_receiver» = (seen (λ (r : Receiver). r .mark) refl, seen (λ (r : Receiver). r .count) refl);
+      «with_held» = (seen (λ (r : Receiver). r .count) refl, seen (λ (r : Receiver). r .count) refl);
+      «with_mark» = (seen (λ (r : Receiver). r .mark) refl, seen (λ (r : Receiver). r .count) refl);
       «with_receiver» = (seen (λ (m : Meter). m .receiver .count) refl, seen (λ (m : Meter). m .mode) refl);
       «in_mode» = (seen (λ (m : Meter). m .receiver .count) refl, seen (λ (m : Meter). m .attempts) refl);
       «with_attempts» = (seen (λ (m : Meter). m .attempts) refl, seen (λ (m : Meter). m .attempts) refl);
-      «with_registers» = (seen (λ (m : Meter). m .registers .counters .t1) refl, seen (λ (m : Meter). m .mode) refl);
+      «with_registers» = (seen (λ (m : Meter). counterOf (m .registers .counters) 1) refl, seen (λ (m : Meter). m .mode) refl);
       «with_clock» = (seen (λ (g : Registers). g .clock .date .year) refl, seen (λ (g : Registers). g .clock .date .year) refl);
       «with_account» = (seen (λ (g : Registers). getD (g .account) 0 0) refl, seen (λ (g : Registers). getD (g .account) 9 0) refl);
       «with_tables» = (seen (λ (g : Registers). getD (g .tables) 0 0) refl, seen (λ (g : Registers). getD (g .tables) 575 0) refl);
-      «with_counters» = (seen (λ (g : Registers). g .counters .t1) refl, seen (λ (g : Registers). g .counters .t4) refl);
+      «with_counters» = (seen (λ (g : Registers). counterOf (g .counters) 1) refl, seen (λ (g : Registers). counterOf (g .counters) 4) refl);
       ten = (byte 0 refl, byte 0 refl);
       «with_row» = (byte 144 refl, byte 145 refl);
+      «row_start» = (number refl, number refl);
+      «with_zones» = (seen (λ (c : Counters). counterOf c 1) refl, seen (λ (c : Counters). counterOf c 2) refl);
+      «zone_place» = (number refl, number refl);
+      «counter_of» = (number refl, number refl);
+    }
+
+pub tariff : Tariff
+unfolding stored decimal leap daysBefore dayNumber weekday tableFor zoneIn counted serial account twos newMeter used heldIn
+tariff =
+    record {
       «table_for» = (number refl, number refl);
       «zone_in» = (number refl, number refl);
-      count = (seen (λ (c : Counters). c .t2) refl, seen (λ (c : Counters). c .t1) refl);
+      count = (seen (λ (c : Counters). counterOf c 2) refl, seen (λ (c : Counters). counterOf c 1) refl);
     }

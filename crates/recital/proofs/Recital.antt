@@ -8,16 +8,18 @@ use borrow.Author.Tests.{leb-true}
 use lib.Dec.{leb}
 use lib.ListN.{length}
 use Rattle.line.specs.Runs.{every}
-use Rattle.line.proofs.Runs.{and-left, and-right}
+use Rattle.line.proofs.Runs.{and-left, and-right, every-weaker}
 use Rattle.text.specs.Classes.{between}
-use Rattle.values.specs.Registers.{goodTable}
+use Rattle.values.specs.declared.Energy.the-variants.{Total}
+use Rattle.values.specs.Registers.{goodTable, energyNo, zoneEnergy}
 use Rattle.frames.specs.Frames.{blockOf}
+use Rattle.state.specs.Sizes.{tables}
 use Rattle.state.specs.declared.Registers.{Registers}
 use Rattle.state.specs.declared.Meter.{Meter}
 use Rattle.state.specs.WellFormed.{registersGood, wellFormed}
-use Rattle.state.proofs.Facts.{formed}
+use Rattle.state.proofs.Parts.{formed}
 use Rattle.datasets.specs.Sets.{DataSet, linesOf, tableSet}
-use Rattle.datasets.proofs.Characters.{Within, within, every-within}
+use Rattle.datasets.proofs.Characters.{Within, within}
 use Rattle.replies.specs.declared.Ask.{Ask}
 use Rattle.replies.specs.declared.Ask.the-variants as ask
 use Rattle.replies.specs.Shown.{rowOf}
@@ -35,7 +37,7 @@ use Rattle.meter.specs.Acting.{acted}
 use Rattle.promises.specs.Writes.{answerable}
 use Rattle.promises.proofs.Verdicts.{read-answerable}
 use Rattle.recital.specs.Recital.{Register, row, Recites, tableNumbers, rows, blockSays, answerSays, ReadsBack}
-use Rattle.recital.proofs.Registers.{and-then, and-none, energy-small, energy-reads, serial-reads, account-reads, date-reads, time-reads, counters-small, row-reads}
+use Rattle.recital.proofs.Registers.{and-then, and-none, own-energy-reads, serial-reads, account-reads, date-reads, time-reads, row-reads}
 
 -- what a meter shows may stand in a block
 content : Within (between 10 126) isContent
@@ -46,7 +48,7 @@ content = within (between 10 126) isContent refl (λ c h. omega (arith, leb-true
 reads-back : (c : List ℕ) (xs : List Register) (ds : List DataSet) (at : ℕ) → every (between 10 126) c ≡ true
     → readAll c ≡ record { sets = ds; number = 0; place = at } → Recites ds xs → ReadsBack c xs
 reads-back c xs ds at shows read h =
-    let k = every-within (between 10 126) isContent content c shows in
+    let k = every-weaker (between 10 126) isContent content c shows in
     record {
       strips = λ out room. block-strips c out k room ∙ ap (λ (n : ℕ). record { number = 1; length = n }) (sym (block-long c));
       stripped = λ out room. block-strips-into c out k room;
@@ -57,55 +59,52 @@ reads-back c xs ds at shows read h =
     }
 
 -- the rows of tables that are there
-rows-read : (g : Registers) → registersGood g ≡ true → (ns : List ℕ) → every (goodTable 24) ns ≡ true
+rows-read : (g : Registers) → registersGood g ≡ true → (ns : List ℕ) → every (goodTable tables) ns ≡ true
     → Recites (map (λ n. tableSet n (rowOf (g .tables) n)) ns) (rows (g .tables) ns)
 unfolding every rows
 rows-read g good [] h = and-none
 rows-read g good (n ∷ ns) h =
     and-then (row n (rowOf (g .tables) n)) (tableSet n (rowOf (g .tables) n)) (rows (g .tables) ns) (map (λ n. tableSet n (rowOf (g .tables) n)) ns)
-    (row-reads g good n (and-left (goodTable 24 n) (every (goodTable 24) ns) h)) (rows-read g good ns (and-right (goodTable 24 n) (every (goodTable 24) ns) h))
+    (row-reads g good n (and-left (goodTable tables n) (every (goodTable tables) ns) h)) (rows-read g good ns (and-right (goodTable tables n) (every (goodTable tables) ns) h))
 
-tables-are : (tables : List ℕ) → tableSets tables 24 ≡ map (λ n. tableSet n (rowOf tables n)) tableNumbers
+tables-are : (all : List ℕ) → tableSets all tables ≡ map (λ n. tableSet n (rowOf all n)) tableNumbers
 unfolding tableSets tableNumbers
-tables-are tables = refl
+tables-are all = refl
 
-numbers-good : every (goodTable 24) tableNumbers ≡ true
+numbers-good : every (goodTable tables) tableNumbers ≡ true
 unfolding every goodTable between tableNumbers
 numbers-good = refl
 
-block-recites : (g : Registers) → registersGood g ≡ true → Recites (blockSets 24 g) (blockSays g)
-unfolding blockSets factSets energySets blockSays shown.energy
+block-recites : (g : Registers) → registersGood g ≡ true → Recites (blockSets tables g) (blockSays g)
+unfolding blockSets factSets energySets blockSays shown.energy energyNo
 block-recites g good =
-    let small = counters-small g good in
-    let tables = rw (← tables-are (g .tables)) at (rows-read g good tableNumbers numbers-good) in
+    let all = rw (← tables-are (g .tables)) at (rows-read g good tableNumbers numbers-good) in
     and-then _ _ _ _ (serial-reads g good)
     (and-then _ _ _ _ (date-reads g good)
     (and-then _ _ _ _ (time-reads g good)
     (and-then _ _ _ _ (account-reads g good)
-    (and-then _ _ _ _ (energy-reads 1 (g .counters .t1) (small .first))
-    (and-then _ _ _ _ (energy-reads 2 (g .counters .t2) (small .second))
-    (and-then _ _ _ _ (energy-reads 3 (g .counters .t3) (small .third))
-    (and-then _ _ _ _ (energy-reads 4 (g .counters .t4) (small .fourth))
-    (and-then _ _ _ _ (energy-reads 0 (shown.energy (g .counters) 0) (energy-small (g .counters) small 0)) tables))))))))
+    (and-then _ _ _ _ (own-energy-reads g good (zoneEnergy 1))
+    (and-then _ _ _ _ (own-energy-reads g good (zoneEnergy 2))
+    (and-then _ _ _ _ (own-energy-reads g good (zoneEnergy 3))
+    (and-then _ _ _ _ (own-energy-reads g good (zoneEnergy 4))
+    (and-then _ _ _ _ (own-energy-reads g good Total) all))))))))
 
 answer-recites : (g : Registers) → registersGood g ≡ true → (a : Ask) → answerable a ≡ true → Recites (askedSets g a) (answerSays g a)
 unfolding askedSets answerSays answerable
 answer-recites g good ask.Clock h = and-then _ _ _ _ (time-reads g good) (and-then _ _ _ _ (date-reads g good) and-none)
 answer-recites g good ask.Serial h = and-then _ _ _ _ (serial-reads g good) and-none
 answer-recites g good ask.Account h = and-then _ _ _ _ (account-reads g good) and-none
-answer-recites g good (ask.Energy n) h =
-    let wh = shown.energy (g .counters) n in
-    and-then _ _ _ _ (energy-reads n wh (energy-small (g .counters) (counters-small g good) n)) and-none
+answer-recites g good (ask.Energy e) h = and-then _ _ _ _ (own-energy-reads g good e) and-none
 answer-recites g good (ask.Table t) h = and-then _ _ _ _ (row-reads g good (t .0) h) and-none
 
 module _ (m : Meter) (f : wellFormed m ≡ true) where
   -- the data block: all 33 data sets in order
-  pub block-reads-back : ReadsBack (blockData 24 (m .registers)) (blockSays (m .registers))
+  pub block-reads-back : ReadsBack (blockData tables (m .registers)) (blockSays (m .registers))
   unfolding blockData lastLine
   block-reads-back =
       let g = m .registers in
       let good = formed m f .registers in
-      reads-back (blockData 24 g) (blockSays g) (blockSets 24 g) (length (linesOf (blockSets 24 g))) (block-shown 24 g good) (sets-read-back (blockSets 24 g) (block-good 24 g good))
+      reads-back (blockData tables g) (blockSays g) (blockSets tables g) (length (linesOf (blockSets tables g))) (block-shown tables g good) (sets-read-back (blockSets tables g) (block-good tables g good))
       (block-recites g good)
 
   -- and every answer to R1

@@ -6,6 +6,7 @@ use native.Mathlib.Omega.{arith}
 use lib.Dec.{ltb}
 use borrow.Author.Tests.{ltb-false}
 use Rattle.line.specs.Characters.{damagedAt}
+use Rattle.state.specs.Sizes.{replyRoom}
 use Rattle.state.specs.declared.Meter.{Meter}
 use Rattle.state.specs.WellFormed.{wellFormed}
 use Rattle.receiving.specs.declared.Hearing.{Hearing}
@@ -30,7 +31,7 @@ heard-settled m c damaged TooLong e = absurd (let z : _≡_ {A = ℕ} 0 1 = cc i
 
 pub settled-is : (m : Meter) (room b : ℕ) → listened m room b .settled ≡ true → character m room b ≡ settledOutcome m (listened m room b)
 unfolding listened heardBy character taken
-settled-is m room b = go (ltb room 2048) (wellFormed m) _ _ (heard-settled m (symbol b) (damagedAt b) (hearing (m .mode) (m .receiver .count) (lastHeld (m .receiver)) (symbol b)))
+settled-is m room b = go (ltb room replyRoom) (wellFormed m) _ _ (heard-settled m (symbol b) (damagedAt b) (hearing (m .mode) (m .receiver .count) (lastHeld (m .receiver)) (symbol b)))
   where
     go : (p q : Bool) (o : Outcome) (h : Heard) → (h .settled ≡ true → o ≡ settledOutcome m h)
         → cond p (refuses 12 (m .receiver)) (cond q h (refuses 14 (m .receiver))) .settled ≡ true
@@ -42,15 +43,15 @@ settled-is m room b = go (ltb room 2048) (wellFormed m) _ _ (heard-settled m (sy
 -- what the meter has to act on
 pub record Left (m : Meter) (room b : ℕ) : Type 0 where
   pub formed : wellFormed m ≡ true
-  pub roomy : 2048 ≤ room
+  pub roomy : replyRoom ≤ room
   pub all : character m room b ≡ taken m b
 
 pub left-is : (m : Meter) (room b : ℕ) → listened m room b .settled ≡ false → Left m room b
 unfolding listened character
-left-is m room b = go (ltb room 2048) refl (wellFormed m) refl (heardBy m b)
+left-is m room b = go (ltb room replyRoom) refl (wellFormed m) refl (heardBy m b)
   where
-    go : (p : Bool) → ltb room 2048 ≡ p → (q : Bool) → wellFormed m ≡ q → (h : Heard)
+    go : (p : Bool) → ltb room replyRoom ≡ p → (q : Bool) → wellFormed m ≡ q → (h : Heard)
         → cond p (refuses 12 (m .receiver)) (cond q h (refuses 14 (m .receiver))) .settled ≡ false → Left m room b
     go true a q w h e = absurd (let z : _≡_ {A = ℕ} 0 1 = cc in omega arith)
-    go false a true w h e = record { formed = w; roomy = ltb-false room 2048 a; all = rw (a, w) }
+    go false a true w h e = record { formed = w; roomy = ltb-false room replyRoom a; all = rw (a, w) }
     go false a false w h e = absurd (let z : _≡_ {A = ℕ} 0 1 = cc in omega arith)

@@ -4,6 +4,7 @@ use mathlib.Core.List.{[]}
 use Prim.Native.Nat.{ℕ}
 use lib.Dec.{ltb}
 use Rattle.line.specs.Characters.{damagedAt}
+use Rattle.state.specs.Sizes.{replyRoom}
 use Rattle.state.specs.declared.Receiver.{Receiver}
 use Rattle.state.specs.declared.Meter.{Meter}
 use Rattle.state.specs.WellFormed.{wellFormed}
@@ -12,7 +13,7 @@ use Rattle.receiving.specs.declared.Hearing.{Hearing}
 use Rattle.receiving.specs.declared.Hearing.the-variants.{Drop, Hold, Restart, Empty, Line, Confirm, Frame, TooLong}
 use Rattle.receiving.specs.Hearing.{hearing}
 use Rattle.receiving.specs.Receivers.{lastHeld, keptReceiver, restartedReceiver}
-use Rattle.changes.specs.Changes.{withReceiver}
+use Rattle.state.specs.Setting.{withReceiver}
 use Rattle.meter.specs.Outcomes.{Outcome, speedOf}
 use Rattle.meter.specs.Character.{symbol}
 use Rattle.settling.specs.declared.Heard.{Heard}
@@ -44,7 +45,7 @@ heardBy m b = heardAs m (symbol b) (damagedAt b) (hearing (m .mode) (m .receiver
 
 -- a reply buffer under 2,048 gives 12, then a malformed state 14
 unfoldable pub listened : Meter → ℕ → ℕ → Heard
-listened m room b = cond (ltb room 2048) (refuses 12 (m .receiver)) (cond (wellFormed m) (heardBy m b) (refuses 14 (m .receiver)))
+listened m room b = cond (ltb room replyRoom) (refuses 12 (m .receiver)) (cond (wellFormed m) (heardBy m b) (refuses 14 (m .receiver)))
 
 -- all that comes of a settled character
 abbrev pub settledOutcome : Meter → Heard → Outcome

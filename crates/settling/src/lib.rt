@@ -3,6 +3,7 @@ ghost use mathlib.Core.Path.{_≡_};
 ghost use Rattle.settling.specs.Settling.{goesOn, ends, refuses, heardBy, listened};
 use receiving::Hearing;
 use state::Meter;
+use state::REPLY_ROOM;
 use state::Receiver;
 
 // What a character does: where it is settled, the answer's number and speed and the next receiver; otherwise the meter has to act.
@@ -61,7 +62,7 @@ fn hear(m: Meter, b: u8) -> Heard
         Hearing::Drop => go_on(m.mode, r),
         Hearing::Hold => go_on(m.mode, receiving::keep(r, c, damaged)),
         Hearing::Restart => go_on(m.mode, receiving::restart(c)),
-        Hearing::Empty => go_on(m.mode, receiving::empty()),
+        Hearing::Empty => go_on(m.mode, state::setting::empty_receiver()),
         Hearing::Line => end(r),
         Hearing::Confirm => end(r),
         Hearing::Frame => end(r),
@@ -74,7 +75,7 @@ pub fn settle(m: Meter, b: u8, room: usize) -> Heard
     ensures { λ r. ⌜ r ≡ listened m room b ⌝ }
 {
     let r = m.receiver;
-    if room < 2048 {
+    if room < REPLY_ROOM {
         return refuse(12, r);
     }
     if state::is_well_formed(m) {

@@ -6,6 +6,8 @@ use lib.Dec.{eqb, leb}
 use lib.ListN.{length}
 use Rattle.line.specs.Runs.{every}
 use Rattle.text.specs.Classes.{between, isDigit, isLetter}
+use Rattle.values.specs.declared.Energy.{Energy}
+use Rattle.values.specs.declared.Energy.the-variants.{Total, Zone}
 
 -- so many digits
 unfoldable pub goodDigits : ℕ → List ℕ → Bool
@@ -26,13 +28,28 @@ isAccountCharacter c = (isLetter c || isDigit c) || (eqb c 32 || eqb c 95)
 unfoldable pub goodAccount : List ℕ → Bool
 goodAccount s = eqb (length s) 10 && every isAccountCharacter s
 
--- a table's row: 24 characters '1' to '4'
-unfoldable pub goodRow : List ℕ → Bool
-goodRow s = eqb (length s) 24 && every (between 49 52) s
+-- a table's row: 24 characters '1' to '4', one an hour
+abbrev pub rowLength : ℕ
+rowLength = 24
 
--- a table number, of so many tables
+unfoldable pub goodRow : List ℕ → Bool
+goodRow s = eqb (length s) rowLength && every (between 49 52) s
+
+-- a table number, of so many tables; a meter of edition 1 has 24
+abbrev pub tables : ℕ
+tables = 24
+
 unfoldable pub goodTable : ℕ → ℕ → Bool
-goodTable tables n = between 1 tables n
+goodTable most n = between 1 most n
 
 unfoldable pub goodZone : ℕ → Bool
 goodZone n = between 1 4 n
+
+-- what stands for an energy in asks and addresses: 0 is the total, 1 to 4 are the zones
+unfoldable pub energyNo : Energy → ℕ
+energyNo Total = 0
+energyNo (Zone z) = z .0
+
+-- the energy of a zone
+abbrev pub zoneEnergy : ℕ → Energy
+zoneEnergy n = Zone (record { 0 = n })

@@ -7,7 +7,7 @@ use model::meter::{self, Answer, PLACES};
 pub struct Receiver {
     pub held: [u8; PLACES],
     pub count: u8,
-    pub mark: bool,
+    pub mark: u8,
 }
 
 #[repr(C)]
@@ -35,16 +35,22 @@ pub struct Clock {
 
 #[repr(C)]
 #[derive(Clone, Copy, Debug, PartialEq, Eq)]
-pub struct Registers {
+pub struct Facts {
     pub serial: [u8; 10],
-    pub account: [u8; 10],
     pub password: [u8; 8],
+}
+
+#[repr(C)]
+#[derive(Clone, Copy, Debug, PartialEq, Eq)]
+pub struct Registers {
+    pub facts: Facts,
+    pub account: [u8; 10],
     pub clock: Clock,
     pub counters: [u32; 4],
     pub tables: [[u8; 24]; 24],
 }
 
-/// The record as the library lays it out; four counters in a row lie as an array of four.
+/// The record as the library lays it out; a record of one array lies as the array.
 #[repr(C)]
 #[derive(Clone, Copy, Debug, PartialEq, Eq)]
 pub struct Meter {
@@ -74,12 +80,14 @@ impl From<&meter::Meter> for Meter {
             receiver: Receiver {
                 held: m.held,
                 count: m.count,
-                mark: m.mark,
+                mark: u8::from(m.mark),
             },
             registers: Registers {
-                serial: m.serial,
+                facts: Facts {
+                    serial: m.serial,
+                    password: m.password,
+                },
                 account: m.account,
-                password: m.password,
                 clock: Clock {
                     date: Date {
                         year: m.clock.year,

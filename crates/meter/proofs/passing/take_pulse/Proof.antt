@@ -1,6 +1,5 @@
 -- `meter::passing::take_pulse` meets its contract: each way out is the case of the definition that its tests name. Assumes nothing.
 use mathlib.Core.Path.{sym, _∙_}
-use Rattle.meter.proofs.Known.{counters-fit}
 use native.Mathlib.Omega.{arith}
 use Rattle.meter.specs.Events.{pulse}
 use borrow.Author.Tests.{le-ltb, lt-ltb}
@@ -14,7 +13,7 @@ returns c = rw (lt-ltb _ _ (c .before .if1 .taken), c .unheard-with .ensures)
 
 count-pulse-requires : tie.Need-count-pulse-requires
 count-pulse-requires c κs =
-    (counters-fit (c .before .before .before .args .m) (sym (c .before .is-well-formed .ensures) ∙ c .if2 .taken), omega arith)
+    (sym (c .before .is-well-formed .ensures) ∙ c .if2 .taken, omega arith)
 
 returns-2 : tie.Need-returns-2
 unfolding pulse
