@@ -20,7 +20,6 @@
 #ifndef DIRGEMIST_METER_H
 #define DIRGEMIST_METER_H
 
-#include <stdbool.h>
 #include <stddef.h>
 #include <stdint.h>
 
@@ -48,26 +47,29 @@ struct dirgemist_clock {
     struct dirgemist_time time;
 };
 
-/* What was received of a line or frame so far: 0 from count on, and mark where one of them came damaged. */
+/* What was received of a line or frame so far: 0 from count on. mark is 1 where one of them came
+ * damaged, else 0; no other number is well-formed. */
 struct dirgemist_receiver {
     uint8_t held[63];
     uint8_t count;
-    bool mark;
+    uint8_t mark;
 };
 
 /* The zones' counters in Wh, each under 1,000,000,000. */
 struct dirgemist_counters {
-    uint32_t t1;
-    uint32_t t2;
-    uint32_t t3;
-    uint32_t t4;
+    uint32_t zones[4];
+};
+
+/* What a meter has for life: texts without an end mark. */
+struct dirgemist_facts {
+    uint8_t serial[10];
+    uint8_t password[8];
 };
 
 /* Texts without an end mark; the tables are 24 rows of 24 characters '1' to '4'. */
 struct dirgemist_registers {
-    uint8_t serial[10];
+    struct dirgemist_facts facts;
     uint8_t account[10];
-    uint8_t password[8];
     struct dirgemist_clock clock;
     struct dirgemist_counters counters;
     uint8_t tables[576];

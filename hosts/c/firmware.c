@@ -14,7 +14,13 @@ _Static_assert(sizeof(struct dirgemist_date) == 4, "date");
 _Static_assert(sizeof(struct dirgemist_time) == 3, "time");
 _Static_assert(sizeof(struct dirgemist_clock) == 8, "clock");
 _Static_assert(sizeof(struct dirgemist_receiver) == 65, "receiver");
+_Static_assert(offsetof(struct dirgemist_receiver, count) == 63, "count's place");
+_Static_assert(offsetof(struct dirgemist_receiver, mark) == 64, "mark's place");
 _Static_assert(sizeof(struct dirgemist_counters) == 16, "counters");
+_Static_assert(sizeof(struct dirgemist_facts) == 18, "facts");
+_Static_assert(offsetof(struct dirgemist_facts, password) == 10, "password's place");
+_Static_assert(offsetof(struct dirgemist_registers, facts) == 0, "facts' place");
+_Static_assert(offsetof(struct dirgemist_registers, account) == 18, "account's place");
 _Static_assert(offsetof(struct dirgemist_registers, clock) == 28, "clock's place");
 _Static_assert(offsetof(struct dirgemist_registers, counters) == 36, "counters' place");
 _Static_assert(offsetof(struct dirgemist_registers, tables) == 52, "tables' place");
@@ -48,8 +54,8 @@ static uint8_t filled[ROOM];
 /* Whether two records hold the same state; what lies between the fields is not looked at. */
 static int same(const struct dirgemist_meter *a, const struct dirgemist_meter *b) {
 #define SAME(field) (memcmp(&a->field, &b->field, sizeof a->field) == 0)
-    return SAME(mode) && SAME(attempts) && SAME(receiver) && SAME(registers.serial)
-           && SAME(registers.account) && SAME(registers.password) && SAME(registers.clock.date)
+    return SAME(mode) && SAME(attempts) && SAME(receiver) && SAME(registers.facts.serial)
+           && SAME(registers.account) && SAME(registers.facts.password) && SAME(registers.clock.date)
            && SAME(registers.clock.time) && SAME(registers.counters) && SAME(registers.tables);
 #undef SAME
 }
@@ -121,9 +127,9 @@ static uint8_t make(struct dirgemist_meter *meter, const char *serial, const cha
 
 static void makes(struct dirgemist_meter *meter) {
     struct dirgemist_meter blank = {0};
-    memset(blank.registers.serial, '0', sizeof blank.registers.serial);
+    memset(blank.registers.facts.serial, '0', sizeof blank.registers.facts.serial);
     memset(blank.registers.account, ' ', sizeof blank.registers.account);
-    memset(blank.registers.password, '0', sizeof blank.registers.password);
+    memset(blank.registers.facts.password, '0', sizeof blank.registers.facts.password);
     memset(blank.registers.tables, '1', sizeof blank.registers.tables);
     blank.registers.clock.date = (struct dirgemist_date){2000, 1, 1};
 
@@ -155,9 +161,9 @@ static void makes(struct dirgemist_meter *meter) {
         expect(dirgemist_meter_check(meter) == 1, "the blank meter is well-formed");
     }
     struct dirgemist_meter wanted = blank;
-    memcpy(wanted.registers.serial, "1234567890", 10);
+    memcpy(wanted.registers.facts.serial, "1234567890", 10);
     memcpy(wanted.registers.account, "Kiln_7 old", 10);
-    memcpy(wanted.registers.password, "20304050", 8);
+    memcpy(wanted.registers.facts.password, "20304050", 8);
     wanted.registers.clock = (struct dirgemist_clock){{2024, 2, 29}, {23, 5, 9}};
     expect(make(meter, "1234567890", "Kiln_7 old", "20304050", 2024, 2, 29, 23, 5, 9) == 1, "made");
     expect(same(meter, &wanted), "a new meter");
@@ -306,7 +312,7 @@ static int is_formed(const struct dirgemist_meter *meter) {
     int leap = date->year % 4 == 0;
     return account && zones && all_within(held->held, 63, 0, 127)
            && all_within(held->held + held->count, 63 - held->count, 0, 0)
-           && all_within(have->serial, 10, '0', '9') && all_within(have->password, 8, '0', '9')
+           && all_within(have->facts.serial, 10, '0', '9') && all_within(have->facts.password, 8, '0', '9')
            && all_within(have->tables, sizeof have->tables, '1', '4') && date->year >= 2000
            && date->year <= 2099 && date->month >= 1 && date->month <= 12 && date->day >= 1
            && date->day <= days[date->month - 1] - (date->month == 2 && !leap) && time->hour <= 23
@@ -325,8 +331,6 @@ static void takes_anything(struct dirgemist_meter *meter, long *formed) {
         for (size_t n = 0; n < count; n++) {
             bytes[i % 4 == 0 ? n : any() % sizeof made] = (uint8_t)(i % 8 == 5 ? '1' + any() % 4 : any());
         }
-        /* Until the record's mark is a number, only the two bytes of a bool may stand there. */
-        bytes[offsetof(struct dirgemist_meter, receiver.mark)] &= 1;
         memcpy(meter, bytes, sizeof made);
         memcpy(&before, bytes, sizeof made);
         uint8_t checked = dirgemist_meter_check(meter);

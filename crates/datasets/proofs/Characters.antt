@@ -9,7 +9,7 @@ use borrow.Author.Tests.{leb-true, eqb-true}
 use lib.Dec.{eqb, leb}
 use lib.ListN.{take, drop}
 use Rattle.line.specs.Runs.{every}
-use Rattle.line.proofs.Runs.{and-left, and-right, and-both, every-append, allBelow, below-all}
+use Rattle.line.proofs.Runs.{and-left, and-right, and-both, every-append, allBelow, below-all, every-weaker}
 use Rattle.text.specs.Classes.{between, isDigit, isLetter, isPrintable, isAddress, isValue}
 use Rattle.text.specs.Layout.{Piece, digits, fixed, layoutText}
 use Rattle.text.specs.Decimal.{decimal}
@@ -31,23 +31,6 @@ within p q e low c h = so (p c) (q c) (below-all 128 (λ c. not (p c) || q c) e 
     so : (a b : Bool) → (not a || b) ≡ true → a ≡ true → b ≡ true
     so true b e h = e
     so false b e h = absurd (let z : _≡_ {A = ℕ} 0 1 = cc in omega arith)
-
-pub every-within : (p q : ℕ → Bool) → Within p q → (s : List ℕ) → every p s ≡ true → every q s ≡ true
-unfolding every
-every-within p q w [] h = refl
-every-within p q w (c ∷ s) h = and-both (q c) (every q s) (w c (and-left (p c) (every p s) h)) (every-within p q w s (and-right (p c) (every p s) h))
-
-pub every-take : (p : ℕ → Bool) (n : ℕ) (s : List ℕ) → every p s ≡ true → every p (take n s) ≡ true
-unfolding every
-every-take p zero s h = refl
-every-take p (suc n) [] h = refl
-every-take p (suc n) (c ∷ s) h = and-both (p c) (every p (take n s)) (and-left (p c) (every p s) h) (every-take p n s (and-right (p c) (every p s) h))
-
-pub every-drop : (p : ℕ → Bool) (n : ℕ) (s : List ℕ) → every p s ≡ true → every p (drop n s) ≡ true
-unfolding every
-every-drop p zero s h = h
-every-drop p (suc n) [] h = refl
-every-drop p (suc n) (c ∷ s) h = every-drop p n s (and-right (p c) (every p s) h)
 
 between-high : (lo hi c : ℕ) → between lo hi c ≡ true → c ≤ hi
 unfolding between
@@ -116,4 +99,4 @@ layout-within p w (fixed t ∷ ps) ns h =
     every-append p t (layoutText ps ns) (and-left (every p t) (fixedAll p ps) h) (layout-within p w ps ns (and-right (every p t) (fixedAll p ps) h))
 layout-within p w (digits k ∷ ps) [] h = unfold every in refl
 layout-within p w (digits k ∷ ps) (n ∷ ns) h =
-    every-append p (decimal k n) (layoutText ps ns) (every-within isDigit p w (decimal k n) (decimal-digits k n)) (layout-within p w ps ns h)
+    every-append p (decimal k n) (layoutText ps ns) (every-weaker isDigit p w (decimal k n) (decimal-digits k n)) (layout-within p w ps ns h)

@@ -9,7 +9,7 @@ use borrow.Author.Tests.{le-leb}
 use lib.Dec.{leb}
 use lib.ListN.{length, take, drop}
 use Rattle.line.specs.Runs.{every}
-use Rattle.line.proofs.Runs.{and-left, and-right, and-both, every-append}
+use Rattle.line.proofs.Runs.{and-left, and-right, and-both, every-append, every-take, every-drop, every-weaker}
 use Rattle.text.specs.Classes.{between, isDigit, isLetter, isPrintable, isAddress, isValue}
 use Rattle.text.specs.Layout.{layoutText}
 use Rattle.text.specs.Decimal.{decimal}
@@ -21,7 +21,7 @@ use Rattle.values.specs.Texts.{serialText, tableText, dateText, timeText, count
 use Rattle.datasets.specs.Sets.{DataSet, dataSet, linesOf, lineOf, timeSet, dateSet, serialSet, accountSet, energySet, tableSet}
 use Rattle.datasets.specs.Good.{goodSet, goodSets}
 use Rattle.datasets.proofs.Lengths.{time-long, date-long, counter-long, serial-long}
-use Rattle.datasets.proofs.Characters.{every-within, every-take, every-drop, digit-shown, digit-address, account-shown, row-shown, value-line, address-line, layout-within}
+use Rattle.datasets.proofs.Characters.{digit-shown, digit-address, account-shown, row-shown, value-line, address-line, layout-within}
 
 -- an address and a value of their kinds and lengths
 good : (s : DataSet) → between 1 16 (length (s .address)) ≡ true → every isAddress (s .address) ≡ true → length (s .value) ≤ 32
@@ -42,9 +42,9 @@ serial-shown : (s : List ℕ) → every isDigit s ≡ true → every isValue (se
 unfolding serialText every
 serial-shown s h =
     every-append isValue (take 3 s) (32 ∷ drop 3 s)
-    (every-within isDigit isValue digit-shown (take 3 s) (every-take isDigit 3 s h))
+    (every-weaker isDigit isValue digit-shown (take 3 s) (every-take isDigit 3 s h))
     (and-both (isValue 32) (every isValue (drop 3 s)) (unfold isValue isPrintable between in refl)
-    (every-within isDigit isValue digit-shown (drop 3 s) (every-drop isDigit 3 s h)))
+    (every-weaker isDigit isValue digit-shown (drop 3 s) (every-drop isDigit 3 s h)))
 
 pub serial-good : (s : List ℕ) → length s ≡ 10 → every isDigit s ≡ true → goodSet (serialSet s) ≡ true
 unfolding every isAddress isLetter isDigit between
@@ -52,19 +52,19 @@ serial-good s n h = good (serialSet s) refl refl (omega (arith, serial-long s n)
 
 pub account-good : (s : List ℕ) → length s ≡ 10 → every isAccountCharacter s ≡ true → goodSet (accountSet s) ≡ true
 unfolding every isAddress isLetter isDigit between
-account-good s n h = good (accountSet s) refl refl (omega arith) (every-within isAccountCharacter isValue account-shown s h)
+account-good s n h = good (accountSet s) refl refl (omega arith) (every-weaker isAccountCharacter isValue account-shown s h)
 
 pub energy-good : (n wh : ℕ) → goodSet (energySet n wh) ≡ true
 unfolding every isAddress isLetter isDigit between counterText isValue isPrintable
 energy-good n wh =
-    good (energySet n wh) (unfold decimal in refl) (every-within isDigit isAddress digit-address (decimal 1 n) (decimal-digits 1 n))
+    good (energySet n wh) (unfold decimal in refl) (every-weaker isDigit isAddress digit-address (decimal 1 n) (decimal-digits 1 n))
     (omega (arith, counter-long wh)) (layout-within isValue digit-shown (counterForm 9 3) _ refl)
 
 pub table-good : (n : ℕ) (row : List ℕ) → length row ≤ 32 → every (between 49 52) row ≡ true → goodSet (tableSet n row) ≡ true
 unfolding every isAddress isLetter isDigit between tableText
 table-good n row short h =
     good (tableSet n row) (unfold layoutText decimal in refl) (layout-within isAddress digit-address tableForm (n ∷ []) refl) short
-    (every-within (between 49 52) isValue row-shown row h)
+    (every-weaker (between 49 52) isValue row-shown row h)
 
 pub good-append : (s t : List DataSet) → goodSets s ≡ true → goodSets t ≡ true → goodSets (s ++ t) ≡ true
 unfolding goodSets
@@ -76,8 +76,8 @@ line-shown : (address value : List ℕ) → every isAddress address ≡ true →
     → every (between 10 126) (dataSet address value) ≡ true
 unfolding dataSet every between
 line-shown address value a v =
-    every-append (between 10 126) address (40 ∷ (value ++ (41 ∷ 13 ∷ 10 ∷ []))) (every-within isAddress (between 10 126) address-line address a)
-    (every-append (between 10 126) value (41 ∷ 13 ∷ 10 ∷ []) (every-within isValue (between 10 126) value-line value v) refl)
+    every-append (between 10 126) address (40 ∷ (value ++ (41 ∷ 13 ∷ 10 ∷ []))) (every-weaker isAddress (between 10 126) address-line address a)
+    (every-append (between 10 126) value (41 ∷ 13 ∷ 10 ∷ []) (every-weaker isValue (between 10 126) value-line value v) refl)
 
 set-shown : (s : DataSet) → goodSet s ≡ true → every (between 10 126) (lineOf s) ≡ true
 unfolding goodSet

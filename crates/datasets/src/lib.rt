@@ -4,9 +4,11 @@ ghost use mathlib.Core.Path.{_≡_};
 ghost use Prim.Native.Nat.{_+_, _≤_};
 ghost use lib.ListN.{length};
 ghost use Rattle.text.specs.Writing.{stored};
+ghost use Rattle.values.specs.Registers.{energyNo};
 ghost use Rattle.datasets.specs.Sets.{lineOf, timeSet, dateSet, serialSet, accountSet, energySet, tableSet};
 use clock::Date;
 use clock::Time;
+use values::Energy;
 use values::TableNo;
 
 // A time as `0.9.1(hh:nn:ss)`.
@@ -54,11 +56,12 @@ pub fn put_account_set(buf: &mut [u8], at: usize, s: &[u8]) -> usize
 }
 
 // A counter's Wh as `15.8.n(eeeeee.eee*kWh)`.
-pub fn put_energy_set(buf: &mut [u8], at: usize, n: u8, wh: u32) -> usize
+pub fn put_energy_set(buf: &mut [u8], at: usize, e: Energy, wh: u32) -> usize
     requires { ⌜ at + 24 ≤ length (now buf) ⌝ }
     ensures next { λ r. ⌜ r ≡ at + 24 ⌝ }
-    ensures held { λ _. ⌜ now (buf .exit) ≡ stored (now (buf .entry)) at (lineOf (energySet n wh)) ⌝ }
+    ensures held { λ _. ⌜ now (buf .exit) ≡ stored (now (buf .entry)) at (lineOf (energySet (energyNo e) wh)) ⌝ }
 {
+    let n = values::energy_no(e);
     let opening = [b'1', b'5', b'.', b'8', b'.', 48 + n % 10, b'('];
     let a = text::put(buf, at, &opening);
     let b = values::writing::put_counter(buf, a, wh);

@@ -7,6 +7,8 @@ use Rattle.line.specs.Quoted.{chars}
 use Rattle.text.specs.Classes.{sameText}
 use Rattle.text.specs.Layout.{fits}
 use Rattle.values.specs.Edition.{editionTables}
+use Rattle.values.specs.declared.Energy.the-variants.{Total}
+use Rattle.values.specs.Registers.{zoneEnergy}
 use Rattle.values.specs.Reading.{tableRead}
 use Rattle.values.specs.declared.reading.TableRead.{TableRead}
 use Rattle.frames.specs.Commands.{askClock, askSerial, askAccount, askEnergy}
@@ -23,11 +25,11 @@ tableAsked d = cond (fits (chars "Z(##)") d) (tableNamed (tableRead editionTable
 
 unfoldable pub energyAsked : List ℕ → Verdict
 energyAsked d =
-    cond (sameText d (askEnergy 0)) (Read (Energy 0))
-    (cond (sameText d (askEnergy 1)) (Read (Energy 1))
-    (cond (sameText d (askEnergy 2)) (Read (Energy 2))
-    (cond (sameText d (askEnergy 3)) (Read (Energy 3))
-    (cond (sameText d (askEnergy 4)) (Read (Energy 4))
+    cond (sameText d (askEnergy 0)) (Read (Energy Total))
+    (cond (sameText d (askEnergy 1)) (Read (Energy (zoneEnergy 1)))
+    (cond (sameText d (askEnergy 2)) (Read (Energy (zoneEnergy 2)))
+    (cond (sameText d (askEnergy 3)) (Read (Energy (zoneEnergy 3)))
+    (cond (sameText d (askEnergy 4)) (Read (Energy (zoneEnergy 4)))
     (tableAsked d)))))
 
 unfoldable pub asked : List ℕ → Verdict

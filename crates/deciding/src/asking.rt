@@ -3,6 +3,8 @@ ghost use mathlib.Core.Path.{_≡_};
 ghost use Rattle.deciding.specs.Asking.{tableAsked, energyAsked, asked};
 use crate::Verdict;
 use replies::Ask;
+use values::Energy;
+use values::ZoneNo;
 
 // Z(xx)
 fn table(d: &[u8]) -> Verdict
@@ -24,19 +26,19 @@ fn energy(d: &[u8]) -> Verdict
     ensures { λ r. ⌜ r ≡ energyAsked (now (d .entry)) ⌝ }
 {
     if text::same(d, b"E0()") {
-        return Verdict::Read(Ask::Energy(0));
+        return Verdict::Read(Ask::Energy(Energy::Total));
     }
     if text::same(d, b"E1()") {
-        return Verdict::Read(Ask::Energy(1));
+        return Verdict::Read(Ask::Energy(Energy::Zone(ZoneNo(1))));
     }
     if text::same(d, b"E2()") {
-        return Verdict::Read(Ask::Energy(2));
+        return Verdict::Read(Ask::Energy(Energy::Zone(ZoneNo(2))));
     }
     if text::same(d, b"E3()") {
-        return Verdict::Read(Ask::Energy(3));
+        return Verdict::Read(Ask::Energy(Energy::Zone(ZoneNo(3))));
     }
     if text::same(d, b"E4()") {
-        return Verdict::Read(Ask::Energy(4));
+        return Verdict::Read(Ask::Energy(Energy::Zone(ZoneNo(4))));
     }
     table(d)
 }

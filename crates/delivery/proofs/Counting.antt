@@ -9,6 +9,7 @@ use native.Mathlib.Omega.{arith}
 use lib.Dec.{eqb}
 use lib.ListN.{length, getD, take, drop, replicate, drop-of-length-le}
 use Rattle.line.proofs.Runs.{left-next}
+use Rattle.state.specs.Sizes.{replyRoom, tables}
 use Rattle.state.specs.declared.Meter.{Meter}
 use Rattle.meter.specs.Character.{character}
 use Rattle.post.specs.Grammar.{Entry, IsPost}
@@ -40,21 +41,21 @@ done-most n = pick (eqb n 1)
     pick false = omega arith
 
 count-next : (m : Meter) (b : ℕ) (bs : List ℕ)
-    → acknowledgements (answered m full (b ∷ bs)) ≡ isDone (character m 2048 b .number) + acknowledgements (answered (character m 2048 b .next) full bs)
+    → acknowledgements (answered m full (b ∷ bs)) ≡ isDone (character m replyRoom b .number) + acknowledgements (answered (character m replyRoom b .next) full bs)
 unfolding answered acknowledgements
 count-next m b bs = refl
 
-left-cons : (m : Meter) (b : ℕ) (bs : List ℕ) → left m full (b ∷ bs) ≡ left (character m 2048 b .next) full bs
+left-cons : (m : Meter) (b : ℕ) (bs : List ℕ) → left m full (b ∷ bs) ≡ left (character m replyRoom b .next) full bs
 unfolding left
 left-cons m b bs = refl
 
 pub feeding-next : (m : Meter) (s : List ℕ) (i done : ℕ) (next : Meter) (more : ℕ) (after : Meter) → i < length s
-    → more ≡ done + isDone (character next 2048 (getD s i 0) .number) → after ≡ character next 2048 (getD s i 0) .next
+    → more ≡ done + isDone (character next replyRoom (getD s i 0) .number) → after ≡ character next replyRoom (getD s i 0) .next
     → Feeding m s i done next → Feeding m s (i + 1) more after
 feeding-next m s i done next more after h e t f =
     let b = getD s i 0 in
     let rest = drop (i + 1) s in
-    let d = isDone (character next 2048 b .number) in
+    let d = isDone (character next replyRoom b .number) in
     let l = left-next i s h in
     let count : acknowledgements (answered next full (drop i s)) ≡ d + acknowledgements (answered after full rest) =
     ap (λ (u : List ℕ). acknowledgements (answered next full u)) l
@@ -63,7 +64,7 @@ feeding-next m s i done next more after h e t f =
     let w = f .few in
     record {
       within = omega arith;
-      few = omega (arith, done-most (character next 2048 b .number));
+      few = omega (arith, done-most (character next replyRoom b .number));
       counted = omega (arith, f .counted);
       onward = ap (λ (x : Meter). left x full rest) t ∙ sym (left-cons next b rest) ∙ sym (ap (left next full) l) ∙ f .onward;
     }
@@ -93,7 +94,7 @@ count-once (e ∷ es) =
 
 -- what the export's answer comes to
 module _ (m : Meter) (text out : List ℕ) (number size place : ℕ) (after : List ℕ) (room : 864 ≤ length out) where
-  pub not-delivered : (number ≡ 1 → ⊥) → ExportedAs 24 text out number size place after → DeliveredAs m text 20 place 0 m
+  pub not-delivered : (number ≡ 1 → ⊥) → ExportedAs tables text out number size place after → DeliveredAs m text 20 place 0 m
   unfolding DeliveredAs ExportedAs
   not-delivered other (inl x) = absurd (other (x .done))
   not-delivered other (inr (inl x)) =
@@ -101,7 +102,7 @@ module _ (m : Meter) (text out : List ℕ) (number size place : ℕ) (after : Li
   not-delivered other (inr (inr x)) = inr (record { refused = refl; no-post = x .no-post; longest = x .longest; none = refl; kept = refl })
 
   pub was-delivered : (done : ℕ) (next : Meter) → number ≡ 1 → done ≡ acknowledgements (answered m full (take size after)) → next ≡ left m full (take size after)
-      → ExportedAs 24 text out number size place after → DeliveredAs m text 1 0 done next
+      → ExportedAs tables text out number size place after → DeliveredAs m text 1 0 done next
   unfolding DeliveredAs ExportedAs
   was-delivered done next one c e (inl x) =
       let p = x .is-post in
@@ -115,7 +116,7 @@ module _ (m : Meter) (text out : List ℕ) (number size place : ℕ) (after : Li
         no-place = refl;
         counted = count;
         fed = fed;
-        each = λ r. count ∙ ap acknowledgements (entries-fed m r (p .entries) (good-rising 24 (p .entries) (p .good)) .said-is) ∙ count-once (p .entries);
+        each = λ r. count ∙ ap acknowledgements (entries-fed m r (p .entries) (good-rising tables (p .entries) (p .good)) .said-is) ∙ count-once (p .entries);
         delivered =
             λ r.
             subst (λ (y : Meter). Delivered m (p .entries) (answered m full (framesOf (p .entries))) y) (sym fed)
@@ -140,4 +141,4 @@ one-delivery m text n p k x i q j y (inl a) (inl b) =
 one-delivery m text n p k x i q j y (inl a) (inr b) = absurd (b .no-post (a .is-post))
 one-delivery m text n p k x i q j y (inr a) (inl b) = absurd (a .no-post (b .is-post))
 one-delivery m text n p k x i q j y (inr a) (inr b) =
-    (a .refused ∙ sym (b .refused), one-longest (IsPost 24) text p q (a .longest) (b .longest), a .none ∙ sym (b .none), a .kept ∙ sym (b .kept))
+    (a .refused ∙ sym (b .refused), one-longest (IsPost tables) text p q (a .longest) (b .longest), a .none ∙ sym (b .none), a .kept ∙ sym (b .kept))

@@ -13,7 +13,8 @@ use Rattle.line.specs.Runs.{every}
 use Rattle.line.proofs.Runs.{and-left, and-right, and-both}
 use Rattle.text.specs.Classes.{between}
 use Rattle.text.specs.Writing.{stored}
-use Rattle.text.proofs.Writing.{length-stored, stored-is}
+use Rattle.text.proofs.Writing.{length-stored, stored-is, every-stored}
+use Rattle.state.specs.Sizes.{tables, rowLength}
 use Rattle.state.specs.WellFormed.{tablesGood}
 use Rattle.replies.specs.Shown.{rowOf}
 use Rattle.post.specs.Grammar.{Entry, rising}
@@ -22,27 +23,15 @@ use Rattle.text.proofs.Beginnings.{le-or-lt}
 use Rattle.post.proofs.Reading.{rising-number, rising-rest, rising-table, rising-row}
 use Rattle.delivery.specs.Acknowledged.{rowsAfter}
 
-every-set : (p : ℕ → Bool) (s : List ℕ) (i x : ℕ) → p x ≡ true → every p s ≡ true → every p (set s i x) ≡ true
-unfolding every
-every-set p [] i x hx h = h
-every-set p (c ∷ s) zero x hx h = and-both (p x) (every p s) hx (and-right (p c) (every p s) h)
-every-set p (c ∷ s) (suc i) x hx h = and-both (p c) (every p (set s i x)) (and-left (p c) (every p s) h) (every-set p s i x hx (and-right (p c) (every p s) h))
-
-every-stored : (p : ℕ → Bool) (s : List ℕ) (at : ℕ) (xs : List ℕ) → every p xs ≡ true → every p s ≡ true → every p (stored s at xs) ≡ true
-unfolding every stored
-every-stored p s at [] hx h = h
-every-stored p s at (x ∷ xs) hx h =
-    every-stored p (set s at x) (at + 1) xs (and-right (p x) (every p xs) hx) (every-set p s at x (and-left (p x) (every p xs) hx) h)
-
 -- good zones put in keep the tables good
 pub tables-stay-good : (tables : ℕ) (s : List ℕ) (at : ℕ) (row : List ℕ) → every (between 49 52) row ≡ true → tablesGood tables s ≡ true
     → tablesGood tables (stored s at row) ≡ true
 unfolding tablesGood
 tables-stay-good tables s at row good h =
-    let l = and-left (eqb (length s) (tables * 24)) (every (between 49 52) s) h in
-    let z = and-right (eqb (length s) (tables * 24)) (every (between 49 52) s) h in
-    and-both (eqb (length (stored s at row)) (tables * 24)) (every (between 49 52) (stored s at row))
-    (ap (λ (n : ℕ). eqb n (tables * 24)) (length-stored s at row) ∙ l) (every-stored (between 49 52) s at row good z)
+    let l = and-left (eqb (length s) (tables * rowLength)) (every (between 49 52) s) h in
+    let z = and-right (eqb (length s) (tables * rowLength)) (every (between 49 52) s) h in
+    and-both (eqb (length (stored s at row)) (tables * rowLength)) (every (between 49 52) (stored s at row))
+    (ap (λ (n : ℕ). eqb n (tables * rowLength)) (length-stored s at row) ∙ l) (every-stored (between 49 52) s at row z good)
 
 -- what is put in before a place, and what is put in behind a part, leaves it
 stored-before : (s : List ℕ) (at : ℕ) (xs : List ℕ) (b : ℕ) → at + length xs ≤ b → drop b (stored s at xs) ≡ drop b s
@@ -79,14 +68,14 @@ row-apart s n k row long low-n low-k other =
     split (inl h) = ⊎-elim (λ g. absurd (other (omega arith))) (λ g. inr g) (le-or-lt n k)
     split (inr h) = inl h
 
-above-all : (above : ℕ) (es : List Entry) → rising 24 above es ≡ true → (e : Entry) → List·Memᴰ e es → above < e .number
+above-all : (above : ℕ) (es : List Entry) → rising tables above es ≡ true → (e : Entry) → List·Memᴰ e es → above < e .number
 above-all above [] g e i = absurd (List·Memᴰ·not-nil i)
 above-all above (x ∷ es) g e i =
     let low = rising-number 24 above x es g in
     ⊎-elim (λ q. omega (arith, ap (λ (y : Entry). y .number) q)) (λ t. omega (arith, above-all (x .number) es (rising-rest 24 above x es g) e t)) (List·Memᴰ·cases-cons i)
 
 -- a table that is not named is as before
-pub others-kept : (s : List ℕ) (above : ℕ) (es : List Entry) → rising 24 above es ≡ true → (n : ℕ) → 1 ≤ n → ((e : Entry) → List·Memᴰ e es → e .number ≡ n → ⊥)
+pub others-kept : (s : List ℕ) (above : ℕ) (es : List Entry) → rising tables above es ≡ true → (n : ℕ) → 1 ≤ n → ((e : Entry) → List·Memᴰ e es → e .number ≡ n → ⊥)
     → rowOf (rowsAfter s es) n ≡ rowOf s n
 unfolding rowsAfter
 others-kept s above [] g n low other = refl
@@ -96,7 +85,7 @@ others-kept s above (e ∷ es) g n low other =
     (other e (List·Memᴰ·head refl))
 
 -- a named table holds its row
-pub named-held : (s : List ℕ) (above : ℕ) (es : List Entry) → rising 24 above es ≡ true → length s ≡ 576 → (e : Entry) → List·Memᴰ e es
+pub named-held : (s : List ℕ) (above : ℕ) (es : List Entry) → rising tables above es ≡ true → length s ≡ tables * rowLength → (e : Entry) → List·Memᴰ e es
     → rowOf (rowsAfter s es) (e .number) ≡ e .row
 unfolding rowsAfter
 named-held s above [] g long e i = absurd (List·Memᴰ·not-nil i)

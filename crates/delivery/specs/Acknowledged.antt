@@ -6,8 +6,7 @@ use lib.Dec.{eqb}
 use lib.ListN.{replicate}
 use Rattle.state.specs.declared.Meter.{Meter}
 use Rattle.post.specs.Grammar.{Entry}
-use Rattle.text.specs.Writing.{stored}
-use Rattle.changes.specs.Changes.{withRegisters, withTables}
+use Rattle.state.specs.Setting.{withRegisters, withTables, withRow}
 use Rattle.replies.specs.Fixed.{accepted}
 use Rattle.dialogue.specs.Feeding.{Said}
 
@@ -34,8 +33,8 @@ acknowledgedOnce (e ∷ es) = (replicate 35 nothing ++ (acknowledgement ∷ []))
 
 -- the tables with each entry's row put in its place
 unfoldable pub rowsAfter : List ℕ → List Entry → List ℕ
-rowsAfter tables [] = tables
-rowsAfter tables (e ∷ es) = rowsAfter (stored tables ((e .number - 1) * 24) (e .row)) es
+rowsAfter rows [] = rows
+rowsAfter rows (e ∷ es) = rowsAfter (withRow rows (e .number) (e .row)) es
 
 -- only the tables change
 abbrev pub deliveredTo : Meter → List Entry → Meter

@@ -1,6 +1,7 @@
 // The delivery of a post: its export, fed byte by byte to a meter.
 ghost use mathlib.Core.Path.{_≡_};
 ghost use Prim.Native.Nat.{_+_, _<_};
+ghost use Rattle.state.specs.Sizes.{replyRoom};
 ghost use Rattle.meter.specs.Outcomes.{answerOf};
 ghost use Rattle.meter.specs.Character.{character};
 ghost use Rattle.dialogue.specs.Feeding.{answered, left, full};
@@ -8,6 +9,7 @@ ghost use Rattle.delivery.specs.Acknowledged.{isDone, acknowledgements};
 ghost use Rattle.delivery.specs.Delivery.{DeliveredAs};
 use meter::Answer;
 use state::Meter;
+use state::REPLY_ROOM;
 
 // How many bytes were answered 1, and the state after them.
 pub struct Fed {
@@ -25,9 +27,9 @@ pub struct Delivered {
 
 // A byte, with a reply buffer of its own.
 fn give(m: Meter, b: u8) -> Answer
-    ensures { λ r. ⌜ r ≡ answerOf (character m 2048 b) ⌝ }
+    ensures { λ r. ⌜ r ≡ answerOf (character m replyRoom b) ⌝ }
 {
-    let mut reply = [0u8; 2048];
+    let mut reply = [0u8; REPLY_ROOM];
     meter::receive(m, b, &mut reply)
 }
 
@@ -43,8 +45,8 @@ fn is_done(number: u8) -> usize
 // One byte more.
 fn step(f: Fed, b: u8) -> Fed
     requires { ⌜ f .acknowledged < 18446744073709551615 ⌝ }
-    ensures acknowledged { λ r. ⌜ r .acknowledged ≡ f .acknowledged + isDone (character (f .next) 2048 b .number) ⌝ }
-    ensures next { λ r. ⌜ r .next ≡ character (f .next) 2048 b .next ⌝ }
+    ensures acknowledged { λ r. ⌜ r .acknowledged ≡ f .acknowledged + isDone (character (f .next) replyRoom b .number) ⌝ }
+    ensures next { λ r. ⌜ r .next ≡ character (f .next) replyRoom b .next ⌝ }
 {
     let before = f.next;
     let answer = give(before, b);

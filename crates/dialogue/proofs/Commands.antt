@@ -11,7 +11,7 @@ use lib.ListN.{length, take, drop, replicate, length-append}
 use lib.Seq.{take-at}
 use Rattle.line.specs.Checksum.{bccOf}
 use Rattle.line.specs.Runs.{every}
-use Rattle.line.proofs.Runs.{and-left, and-right, and-both, every-append}
+use Rattle.line.proofs.Runs.{and-left, and-right, and-both, every-append, every-weaker}
 use Rattle.text.specs.Classes.{between, isPrintable, matching, sameText}
 use Rattle.text.specs.Writing.{stored}
 use Rattle.text.specs.Decimal.{decimal}
@@ -20,12 +20,12 @@ use Rattle.values.specs.Edition.{editionTables, rowLength}
 use Rattle.values.specs.Registers.{goodPassword, goodAccount, goodRow, goodTable}
 use Rattle.values.specs.Texts.{tableText}
 use Rattle.values.proofs.Rules.{digits-long, account-long, row-long, zone-most}
-use Rattle.datasets.proofs.Characters.{every-within}
 use Rattle.frames.specs.Frames.{frameOf, onWire}
 use Rattle.frames.specs.Commands.{P1, R1, bracketed, setAccount, setTable}
 use Rattle.frames.specs.Session.{passwordData}
+use Rattle.state.specs.Sizes.{tables, rowLength}
 use Rattle.state.specs.declared.Registers.{Registers}
-use Rattle.changes.specs.Changes.{withAccount, withTables}
+use Rattle.state.specs.Setting.{withAccount, withTables, withRow}
 use Rattle.deciding.specs.Verdict.{framedVerdict, entry, verdict}
 use Rattle.deciding.specs.Asking.{asked}
 use Rattle.deciding.specs.Telling.{told}
@@ -40,7 +40,7 @@ use Rattle.dialogue.proofs.Feeding.{Fed}
 use Rattle.dialogue.proofs.Held.{Fit, idle, holding}
 use Rattle.dialogue.proofs.Rules.{besides, inFrame, printable-besides}
 use Rattle.dialogue.proofs.Frames.{heldFrame, verdict-is, frame-fed}
-use Rattle.dialogue.proofs.Meant.{entry-plain, entry-password, asked-clock, asked-serial, asked-account, asked-energy, asked-table, told-clock, told-account, told-table}
+use Rattle.dialogue.proofs.Meant.{entry-plain, entry-password, asked-clock, asked-serial, asked-account, asked-total, zone-least, asked-zone, asked-table, told-clock, told-account, told-table}
 
 -- a frame in a mode that allows it goes by its data
 module _ (mode : ℕ) (d : List ℕ) (printable : every isPrintable d ≡ true) where
@@ -69,8 +69,8 @@ command-decided (password p) mode h k = by-entry mode (dataOf (password p)) (com
 command-decided readClock mode h k = by-asked mode (dataOf readClock) (command-printable editionTables readClock h) k ∙ asked-clock
 command-decided readSerial mode h k = by-asked mode (dataOf readSerial) (command-printable editionTables readSerial h) k ∙ asked-serial
 command-decided readAccount mode h k = by-asked mode (dataOf readAccount) (command-printable editionTables readAccount h) k ∙ asked-account
-command-decided readTotal mode h k = by-asked mode (dataOf readTotal) (command-printable editionTables readTotal h) k ∙ asked-energy 0 (lit≤ tt)
-command-decided (readZone n) mode h k = by-asked mode (dataOf (readZone n)) (command-printable editionTables (readZone n) h) k ∙ asked-energy n (zone-most n h)
+command-decided readTotal mode h k = by-asked mode (dataOf readTotal) (command-printable editionTables readTotal h) k ∙ asked-total
+command-decided (readZone n) mode h k = by-asked mode (dataOf (readZone n)) (command-printable editionTables (readZone n) h) k ∙ asked-zone n (zone-least n h) (zone-most n h)
 command-decided (readTable n) mode h k = by-asked mode (dataOf (readTable n)) (command-printable editionTables (readTable n) h) k ∙ asked-table n h
 command-decided (writeClock c) mode h k = by-told mode (dataOf (writeClock c)) (command-printable editionTables (writeClock c) h) k ∙ told-clock c h
 command-decided (writeAccount a) mode h k = by-told mode (dataOf (writeAccount a)) (command-printable editionTables (writeAccount a) h) k ∙ told-account a h
@@ -105,7 +105,7 @@ module _ (mode a : ℕ) (g : Registers) where
   command-done enter h = refl
   command-done (password p) h =
       unfold tried triedWith in
-      ap (λ (x : List ℕ). cond (eqb a 3) (nak 11 (idle mode a g)) (cond (sameText x (g .password)) (ack (idle 4 0 g)) (nak 10 (idle mode (a + 1) g))))
+      ap (λ (x : List ℕ). cond (eqb a 3) (nak 11 (idle mode a g)) (cond (sameText x (g .facts .password)) (ack (idle 4 0 g)) (nak 10 (idle mode (a + 1) g))))
       (password-given p (spare (bodyOf (password p))) h)
   command-done readClock h = refl
   command-done readSerial h = refl
@@ -117,7 +117,7 @@ module _ (mode a : ℕ) (g : Registers) where
   command-done (writeAccount x) h = ap (λ (x : List ℕ). ack (idle mode a (withAccount g x))) (account-given x (spare (bodyOf (writeAccount x))) h)
   command-done (writeTable n row) h =
       rw (and-left (goodTable editionTables n) (goodRow row) h)
-      (ap (λ (x : List ℕ). ack (idle mode a (withTables g (stored (g .tables) ((n - 1) * rowLength) x))))
+      (ap (λ (x : List ℕ). ack (idle mode a (withTables g (withRow (g .tables) n x))))
       (row-given n row (spare (bodyOf (writeTable n row))) (and-right (goodTable editionTables n) (goodRow row) h)))
 
 -- a command is allowed in no mode below 2
@@ -137,8 +137,8 @@ allowed-low c mode = pick (sameText (lettersOf c) P1) (sameText (lettersOf c) R1
 body-plain : (c : Command) → goodFields editionTables c ≡ true → every inFrame (bodyOf c) ≡ true
 unfolding every
 body-plain c h =
-    every-append inFrame (lettersOf c) (2 ∷ dataOf c) (every-within isPrintable inFrame prints (lettersOf c) (letters-printable c))
-    (and-both (inFrame 2) (every inFrame (dataOf c)) (unfold besides in refl) (every-within isPrintable inFrame prints (dataOf c) (command-printable editionTables c h)))
+    every-append inFrame (lettersOf c) (2 ∷ dataOf c) (every-weaker isPrintable inFrame prints (lettersOf c) (letters-printable c))
+    (and-both (inFrame 2) (every inFrame (dataOf c)) (unfold besides in refl) (every-weaker isPrintable inFrame prints (dataOf c) (command-printable editionTables c h)))
   where
     prints : (x : ℕ) → isPrintable x ≡ true → inFrame x ≡ true
     prints x = printable-besides 1 1 x (lit< tt) (lit< tt)

@@ -102,7 +102,7 @@ either false x y h k = k
 command-heard : (m : Meter) (c : Command) → misheard (obeyed m c .number) ≡ false
 unfolding obeyed triedWith misheard
 command-heard m enter = refl
-command-heard m (password p) = either (eqb (m .attempts) 3) _ _ refl (either (sameText p (m .registers .password)) _ _ refl refl)
+command-heard m (password p) = either (eqb (m .attempts) 3) _ _ refl (either (sameText p (m .registers .facts .password)) _ _ refl refl)
 command-heard m readClock = refl
 command-heard m readSerial = refl
 command-heard m readAccount = refl
@@ -116,7 +116,7 @@ command-heard m (writeTable n row) = refl
 pub never-misheard : (m : Meter) (x : Message) → misheard (outcomeOf m x .number) ≡ false
 unfolding outcomeOf misheard
 never-misheard m call = refl
-never-misheard m (callTo s) = either (sameText s (m .registers .serial) || sameText s (replicate 10 48)) _ _ refl refl
+never-misheard m (callTo s) = either (sameText s (m .registers .facts .serial) || sameText s (replicate 10 48)) _ _ refl refl
 never-misheard m (confirm y) = either (eqb y 49) _ _ refl refl
 never-misheard m (command c) = command-heard m c
 never-misheard m leave = refl

@@ -12,11 +12,11 @@ use lib.Seq.{take-at, getD-append-seam}
 use Rattle.line.specs.Characters.{sent}
 use Rattle.line.specs.Checksum.{bccOf}
 use Rattle.line.specs.Runs.{every}
-use Rattle.line.proofs.Runs.{every-append}
+use Rattle.line.proofs.Runs.{every-append, every-weaker}
 use Rattle.line.proofs.Xor.{bcc-lt}
 use Rattle.text.specs.Classes.{between, isPrintable}
-use Rattle.datasets.proofs.Characters.{every-within}
 use Rattle.frames.specs.Frames.{closed, onWire}
+use Rattle.state.specs.Sizes.{replyRoom}
 use Rattle.state.specs.declared.Registers.{Registers}
 use Rattle.state.specs.declared.Meter.{Meter}
 use Rattle.receiving.specs.declared.Hearing.the-variants.{Frame}
@@ -50,20 +50,20 @@ module _ (mode a : ℕ) (g : Registers) (fit : Fit mode a g) (h : 2 ≤ mode) (b
   abbrev ended : Meter
   ended = holding mode a g 1 (body ++ (3 ∷ []))
 
-  etx-held : character (holding mode a g 1 body) 2048 (sent 3) ≡ silent 0 ended
+  etx-held : character (holding mode a g 1 body) replyRoom (sent 3) ≡ silent 0 ended
   etx-held =
       holds mode a g fit 1 inFrame (frame-rule mode h) body 3 plain (omega (arith, frame-limit mode h)) (lit< tt)
       (λ last l. frame-holds mode h (length body) last 3 (omega arith) l refl)
 
   ended-small : every (between 0 127) (body ++ (3 ∷ [])) ≡ true
   unfolding between every
-  ended-small = every-append (between 0 127) body (3 ∷ []) (every-within inFrame (between 0 127) small body plain) refl
+  ended-small = every-append (between 0 127) body (3 ∷ []) (every-weaker inFrame (between 0 127) small body plain) refl
     where
       small : (x : ℕ) → inFrame x ≡ true → (leb 0 x && leb x 127) ≡ true
       small x k = let s = other 1 1 x k .plain .small in rw (le-leb 0 x (omega arith), le-leb x 127 (omega arith))
 
   -- after ETX the frame is whole, whatever comes
-  completes : (c : ℕ) → c < 128 → character ended 2048 (sent c) ≡ acted ended (verdict mode (1 ∷ (body ++ (3 ∷ []))) false c)
+  completes : (c : ℕ) → c < 128 → character ended replyRoom (sent c) ≡ acted ended (verdict mode (1 ∷ (body ++ (3 ∷ []))) false c)
   unfolding heard
   completes c low =
       let ys = body ++ (3 ∷ []) in

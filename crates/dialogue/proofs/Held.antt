@@ -5,22 +5,24 @@ use mathlib.Core.Bool.{Bool, true, false, cond, _&&_}
 use mathlib.Core.List.{List, [], _∷_, _++_, map, append-assoc, append-nil}
 use Prim.Native.Nat.{ℕ, zero, suc, _+_, _-_, _≤_, _<_}
 use native.Mathlib.Omega.{arith}
-use borrow.Author.Tests.{leb-true, le-leb, not-true}
+use borrow.Author.Tests.{leb-true, le-leb, eqb-true}
 use lib.Dec.{eqb, leb, lit≤, eqb·suc-zero}
 use lib.ListN.{length, getD, drop, set, replicate, length-append, length-replicate}
 use lib.Seq.{set-append-seam, take-append-seam, drop-append-seam}
 use Rattle.line.specs.Characters.{sent}
 use Rattle.line.specs.Runs.{every}
 use Rattle.line.proofs.Parity.{sent-comes-back, sent-undamaged}
-use Rattle.line.proofs.Runs.{and-left, and-right, and-both, every-append}
+use Rattle.line.proofs.Runs.{and-left, and-right, and-both, every-append, every-weaker}
 use Rattle.text.specs.Classes.{between}
-use Rattle.datasets.proofs.Characters.{every-within}
+use Rattle.state.specs.Sizes.{replyRoom, heldPlaces}
 use Rattle.state.specs.declared.Receiver.{Receiver}
 use Rattle.state.specs.declared.Registers.{Registers}
 use Rattle.state.specs.declared.Meter.{Meter}
 use Rattle.state.specs.WellFormed.{limit, firstGood, markGood, heldGood, receiverGood, registersGood, wellFormed}
 use Rattle.state.specs.Making.{emptyReceiver}
-use Rattle.state.proofs.Facts.{formed, well-formed, formed-receiver, receiver-good, held-long}
+use Rattle.state.specs.Setting.{meterIn, withHeld, withMark, withReceiver}
+use Rattle.state.proofs.Limits.{limit-most}
+use Rattle.state.proofs.Parts.{formed, well-formed, formed-receiver, receiver-good, held-long}
 use Rattle.receiving.specs.declared.Hearing.{Hearing}
 use Rattle.receiving.specs.declared.Hearing.the-variants.{Hold}
 use Rattle.receiving.specs.Hearing.{hearing}
@@ -32,14 +34,14 @@ use Rattle.dialogue.proofs.Feeding.{Fed, fed-none, fed-next}
 
 -- in a mode with an empty receiver
 abbrev pub idle : ℕ → ℕ → Registers → Meter
-idle mode a g = record { mode = mode; attempts = a; receiver = emptyReceiver; registers = g }
+idle mode a g = meterIn mode a emptyReceiver g
 
 -- a first character and some more are held
 abbrev pub openReceiver : ℕ → List ℕ → Receiver
-openReceiver c ys = record { held = c ∷ (ys ++ replicate (62 - length ys) 0); count = suc (length ys); mark = false }
+openReceiver c ys = withHeld emptyReceiver (c ∷ (ys ++ replicate (62 - length ys) 0)) (suc (length ys))
 
 abbrev pub holding : ℕ → ℕ → Registers → ℕ → List ℕ → Meter
-holding mode a g c ys = record { mode = mode; attempts = a; receiver = openReceiver c ys; registers = g }
+holding mode a g c ys = meterIn mode a (openReceiver c ys) g
 
 -- a character below 128 that is no ETX
 pub record Plain (c : ℕ) : Type 0 where
@@ -60,15 +62,6 @@ pub record Fit (mode a : ℕ) (g : Registers) : Type 0 where
   pub attempts : a ≤ 3
   pub registers : registersGood g ≡ true
 
-limit-most : (mode : ℕ) → limit mode ≤ 63
-unfolding limit
-limit-most mode = pick (eqb mode 0) (eqb mode 1)
-  where
-    pick : (a b : Bool) → cond a 31 (cond b 5 63) ≤ 63
-    pick true b = lit≤ tt
-    pick false true = lit≤ tt
-    pick false false = lit≤ tt
-
 small-is : (c : ℕ) → c < 128 → between 0 127 c ≡ true
 unfolding between
 small-is c h = and-both (leb 0 c) (leb c 127) (le-leb 0 c (omega arith)) (le-leb c 127 (omega arith))
@@ -83,7 +76,7 @@ unfolding every between
 zeros-zero zero = refl
 zeros-zero (suc n) = zeros-zero n
 
-no-held-good : heldGood (replicate 63 0) 0 ≡ true
+no-held-good : heldGood (emptyReceiver .held) 0 ≡ true
 unfolding heldGood every between
 no-held-good = refl
 
@@ -109,7 +102,7 @@ symbol-sent c h = rw (sent-undamaged c, sent-comes-back c h)
 
 -- a sent character is heard as itself
 pub heard-as : (m : Meter) (c : ℕ) (h : Hearing) → wellFormed m ≡ true → c < 128 → hearing (m .mode) (m .receiver .count) (lastHeld (m .receiver)) c ≡ h
-    → character m 2048 (sent c) ≡ heard m c false h
+    → character m replyRoom (sent c) ≡ heard m c false h
 unfolding character taken
 heard-as m c h f small e = rw (f, symbol-sent c small, sent-undamaged c, e)
 
@@ -131,7 +124,7 @@ held-next ys c h =
 kept-is : (c : ℕ) (ys : List ℕ) (x : ℕ) → length ys < 62 → keptReceiver (openReceiver c ys) x false ≡ openReceiver c (ys ++ (x ∷ []))
 kept-is c ys x h =
     let n : suc (length ys) + 1 ≡ suc (length (ys ++ (x ∷ []))) = omega (arith, length-append ys (x ∷ [])) in
-    ap₂ (λ (l : List ℕ) (k : ℕ). record { held = c ∷ l; count = k; mark = false }) (held-next ys x h) n
+    ap₂ (λ (l : List ℕ) (k : ℕ). withHeld emptyReceiver (c ∷ l) k) (held-next ys x h) n
 
 -- a good receiver that holds nothing is the empty one
 zeros : (s : List ℕ) → every (between 0 0) s ≡ true → s ≡ replicate (length s) 0
@@ -145,20 +138,20 @@ empty-is : (mode : ℕ) (r : Receiver) → receiverGood mode r ≡ true → r .c
 unfolding heldGood markGood
 empty-is mode r h none =
     let f = formed-receiver mode r h in
-    let e : r .held ≡ replicate 63 0 =
+    let e : r .held ≡ replicate heldPlaces 0 =
     zeros (r .held)
     (ap (λ (k : ℕ). every (between 0 0) (drop k (r .held))) (sym none)
     ∙ and-right (every (between 0 127) (r .held)) (every (between 0 0) (drop (r .count) (r .held)))
-    (and-right (eqb (length (r .held)) 63) (every (between 0 127) (r .held) && every (between 0 0) (drop (r .count) (r .held))) (f .held)))
+    (and-right (eqb (length (r .held)) heldPlaces) (every (between 0 127) (r .held) && every (between 0 0) (drop (r .count) (r .held))) (f .held)))
     ∙ ap (λ (n : ℕ). replicate n 0) (held-long mode r h) in
-    let k : r .mark ≡ false = not-true (r .mark) (rw none at (f .mark)) in
-    ap₂ (λ (l : List ℕ) (n : ℕ). record { held = l; count = n; mark = r .mark }) e none ∙ ap (λ (b : Bool). record { held = replicate 63 0; count = 0; mark = b }) k
+    let k : r .mark ≡ 0 = eqb-true (r .mark) 0 (and-right (leb (r .mark) 1) (eqb (r .mark) 0) (rw none at (f .mark))) in
+    ap₂ (withHeld r) e none ∙ ap (withMark emptyReceiver) k
 
 module _ (m : Meter) (f : wellFormed m ≡ true) where
   -- so a well-formed meter with nothing held is one with an empty receiver
   pub idle-is : m .receiver .count ≡ 0 → m ≡ idle (m .mode) (m .attempts) (m .registers)
   idle-is none =
-      ap (λ (v : Receiver). record { mode = m .mode; attempts = m .attempts; receiver = v; registers = m .registers })
+      ap (withReceiver m)
       (empty-is (m .mode) (m .receiver) (formed m f .receiver) none)
 
   pub fit-is : Fit (m .mode) (m .attempts) (m .registers)
@@ -172,7 +165,7 @@ last-plain p kind c [] zs e h = e
 last-plain p kind c (y ∷ ys) zs e h = last-plain p kind y ys zs (kind y (and-left (p y) (every p ys) h) .no-etx) (and-right (p y) (every p ys) h)
 
 module _ (mode a : ℕ) (g : Registers) (fit : Fit mode a g) where
-  formed-with : (r : Receiver) → receiverGood mode r ≡ true → wellFormed (record { mode = mode; attempts = a; receiver = r; registers = g }) ≡ true
+  formed-with : (r : Receiver) → receiverGood mode r ≡ true → wellFormed (meterIn mode a r g) ≡ true
   formed-with r e = well-formed _ (record { mode = fit .known; attempts = fit .attempts; receiver = e; registers = fit .registers })
 
   pub idle-formed : wellFormed (idle mode a g) ≡ true
@@ -181,7 +174,7 @@ module _ (mode a : ℕ) (g : Registers) (fit : Fit mode a g) where
 
   module _ (c : ℕ) (p : ℕ → Bool) (rule : Rule mode c p) where
     small-all : (ys : List ℕ) → every p ys ≡ true → every (between 0 127) ys ≡ true
-    small-all = every-within p (between 0 127) (λ x h. small-is x (rule .kind x h .small))
+    small-all = every-weaker p (between 0 127) (λ x h. small-is x (rule .kind x h .small))
 
     pub holding-formed : (ys : List ℕ) → length ys < limit mode → every (between 0 127) ys ≡ true → wellFormed (holding mode a g c ys) ≡ true
     unfolding markGood
@@ -196,20 +189,20 @@ module _ (mode a : ℕ) (g : Registers) (fit : Fit mode a g) where
         }))
 
     -- the first character opens it
-    begins : character (idle mode a g) 2048 (sent c) ≡ silent 0 (holding mode a g c [])
+    begins : character (idle mode a g) replyRoom (sent c) ≡ silent 0 (holding mode a g c [])
     begins = heard-as (idle mode a g) c (hearing mode 0 0 c) idle-formed (rule .plain .small) refl ∙ rule .opens a g
 
     -- a character that is to be held is held after the others
     pub holds : (ys : List ℕ) (x : ℕ) → every p ys ≡ true → suc (length ys) < limit mode → x < 128
         → ((last : ℕ) → eqb last 3 ≡ false → hearing mode (suc (length ys)) last x ≡ Hold)
-        → character (holding mode a g c ys) 2048 (sent x) ≡ silent 0 (holding mode a g c (ys ++ (x ∷ [])))
+        → character (holding mode a g c ys) replyRoom (sent x) ≡ silent 0 (holding mode a g c (ys ++ (x ∷ [])))
     unfolding heard
     holds ys x kind long small stays =
         let f = holding-formed ys (omega arith) (small-all ys kind) in
         let plain : eqb (lastHeld (openReceiver c ys)) 3 ≡ false =
         ap (λ (k : ℕ). eqb k 3) (last-held c ys) ∙ last-plain p (rule .kind) c ys (replicate (62 - length ys) 0) (rule .plain .no-etx) kind in
         heard-as (holding mode a g c ys) x Hold f small (stays (lastHeld (openReceiver c ys)) plain)
-        ∙ ap (λ (r : Receiver). silent 0 (record { mode = mode; attempts = a; receiver = r; registers = g })) (kept-is c ys x (omega (arith, limit-most mode)))
+        ∙ ap (λ (r : Receiver). silent 0 (meterIn mode a r g)) (kept-is c ys x (omega (arith, limit-most mode)))
 
     holds-all : (xs ys : List ℕ) → every p ys ≡ true → every p xs ≡ true → length ys + length xs < limit mode
         → Fed (holding mode a g c ys) (map sent xs) (replicate (length xs) (quiet mode)) (holding mode a g c (ys ++ xs))

@@ -4,14 +4,14 @@ use mathlib.Core.Bool.{true, false, cond, _&&_, and-true}
 use mathlib.Core.List.{List, [], _∷_, _++_}
 use Prim.Native.Nat.{ℕ, zero, suc, _+_, _-_, _/_, _%_, _^_, _≤_, _<_}
 use native.Mathlib.Omega.{arith}
-use borrow.Author.Tests.{le-leb, lt-ltb}
+use borrow.Author.Tests.{le-leb, leb-true, lt-ltb}
 use lib.Dec.{eqb, leb}
 use lib.ListN.{length, getD, take, length-append}
 use lib.Seq.{take-at, getD-append-seam}
 use Rattle.line.specs.Quoted.{chars}
 use Rattle.line.specs.Runs.{every}
-use Rattle.line.proofs.Runs.{and-right}
-use Rattle.text.specs.Classes.{isDigit, matching, sameText}
+use Rattle.line.proofs.Runs.{and-left, and-right}
+use Rattle.text.specs.Classes.{between, isDigit, matching, sameText}
 use Rattle.text.specs.Decimal.{decimal, valueOf}
 use Rattle.text.specs.Layout.{Piece, digits, fixed, layoutText, pattern, fits, agrees, numbersFit, plain}
 use Rattle.text.proofs.Decimal.{decimal-value, value-lt, digit-is}
@@ -20,13 +20,15 @@ use Rattle.text.proofs.Matching.{matching-length}
 use Rattle.clock.specs.declared.Clock.{Clock}
 use Rattle.clock.specs.Seconds.{realClock}
 use Rattle.values.specs.Edition.{editionTables}
-use Rattle.values.specs.Registers.{goodDigits, goodPassword, goodAccount, goodRow, goodTable}
+use Rattle.values.specs.declared.Energy.the-variants.{Total}
+use Rattle.values.specs.Registers.{zoneEnergy, goodZone, goodDigits, goodPassword, goodAccount, goodRow, goodTable}
 use Rattle.values.specs.Texts.{tableText, clockText}
 use Rattle.values.specs.Reading.{tableRead}
 use Rattle.values.proofs.RoundTrip.{clock-reads-back, table-reads-back}
 use Rattle.values.proofs.Rules.{digits-long}
 use Rattle.frames.specs.Commands.{bracketed, askClock, askSerial, askAccount, askEnergy, askTable, setClock, setAccount, setTable}
 use Rattle.frames.specs.Session.{enterData, passwordData}
+use Rattle.state.specs.Sizes.{tables}
 use Rattle.replies.specs.declared.Ask.the-variants as ask
 use Rattle.deciding.specs.declared.Verdict.the-variants.{Refuse, Enter, Password, Read, WriteClock, WriteAccount, WriteTable}
 use Rattle.deciding.specs.Asking.{tableNamed, tableAsked, energyAsked, asked}
@@ -75,14 +77,22 @@ pub asked-account : asked askAccount ≡ Read ask.Account
 unfolding asked askClock askSerial askAccount bracketed sameText matching
 asked-account = refl
 
-pub asked-energy : (n : ℕ) → n ≤ 4 → asked (askEnergy n) ≡ Read (ask.Energy n)
+pub asked-total : asked (askEnergy 0) ≡ Read (ask.Energy Total)
 unfolding asked energyAsked askClock askSerial askAccount askEnergy bracketed sameText matching
-asked-energy zero h = refl
-asked-energy (suc zero) h = refl
-asked-energy (suc (suc zero)) h = refl
-asked-energy (suc (suc (suc zero))) h = refl
-asked-energy (suc (suc (suc (suc zero)))) h = refl
-asked-energy (suc (suc (suc (suc (suc n))))) h = absurd (omega arith)
+asked-total = refl
+
+pub zone-least : (n : ℕ) → goodZone n ≡ true → 1 ≤ n
+unfolding goodZone between
+zone-least n h = leb-true 1 n (and-left (leb 1 n) (leb n 4) h)
+
+pub asked-zone : (n : ℕ) → 1 ≤ n → n ≤ 4 → asked (askEnergy n) ≡ Read (ask.Energy (zoneEnergy n))
+unfolding asked energyAsked askClock askSerial askAccount askEnergy bracketed sameText matching
+asked-zone zero l h = absurd (omega arith)
+asked-zone (suc zero) l h = refl
+asked-zone (suc (suc zero)) l h = refl
+asked-zone (suc (suc (suc zero))) l h = refl
+asked-zone (suc (suc (suc (suc zero)))) l h = refl
+asked-zone (suc (suc (suc (suc (suc n))))) l h = absurd (omega arith)
 
 -- Z(xx), of two digits
 two-asked : (x y : ℕ) → isDigit x ≡ true → isDigit y ≡ true → asked (90 ∷ 40 ∷ x ∷ y ∷ 41 ∷ []) ≡ tableNamed (tableRead editionTables (x ∷ y ∷ []))

@@ -12,20 +12,21 @@ use lib.Seq.{length-take-le}
 use Rattle.line.specs.Characters.{sent}
 use Rattle.line.specs.Checksum.{bccOf}
 use Rattle.line.specs.Runs.{every}
-use Rattle.line.proofs.Runs.{and-left, and-right, every-append}
+use Rattle.line.proofs.Runs.{and-left, and-right, every-append, every-take, every-drop, every-weaker}
 use Rattle.text.specs.Classes.{between, isDigit, isPrintable, matching, sameText}
 use Rattle.text.proofs.Matching.{matching-length, matching-append}
 use Rattle.text.proofs.Decimal.{digit-high}
 use Rattle.values.specs.Registers.{goodDigits, goodSerial}
 use Rattle.values.specs.Texts.{serialText}
 use Rattle.values.proofs.Rules.{digits-long, serial-text-long}
-use Rattle.datasets.proofs.Characters.{Within, within, every-within, every-take, every-drop}
+use Rattle.datasets.proofs.Characters.{Within, within}
 use Rattle.frames.specs.Frames.{bareFrame, onWire}
 use Rattle.frames.specs.Commands.{B0}
 use Rattle.frames.specs.Session.{signOn, signOnTo, confirmation}
+use Rattle.state.specs.Sizes.{replyRoom}
 use Rattle.state.specs.declared.Registers.{Registers}
 use Rattle.state.specs.WellFormed.{limit}
-use Rattle.state.proofs.Facts.{formed-registers}
+use Rattle.state.proofs.Parts.{formed-registers, formed-facts}
 use Rattle.receiving.specs.declared.Hearing.the-variants.{Line, Confirm}
 use Rattle.deciding.specs.declared.Verdict.the-variants.{Leave}
 use Rattle.deciding.specs.Shape.{startGood, bareShape}
@@ -56,15 +57,15 @@ abbrev called : ℕ → Registers → Bool → Outcome
 called a g ours = cond ours (saying 1 0 identification (idle 1 a g)) (silent 0 (idle 0 a g))
 
 module _ (a : ℕ) (g : Registers) (fit : Fit 0 a g) (ys : List ℕ) (plain : every inLine ys ≡ true) (long : length ys ≤ 20) where
-  line-ends : (ours : Bool) → signsOnBy (47 ∷ ys) (g .serial) ≡ ours → character (holding 0 a g 47 ys) 2048 (sent 10) ≡ called a g ours
+  line-ends : (ours : Bool) → signsOnBy (47 ∷ ys) (g .facts .serial) ≡ ours → character (holding 0 a g 47 ys) replyRoom (sent 10) ≡ called a g ours
   unfolding heard lineEnded limit
   line-ends ours e =
-      let f = holding-formed 0 a g fit 47 inLine line-rule ys (omega arith) (every-within inLine (between 0 127) inLine-small ys plain) in
+      let f = holding-formed 0 a g fit 47 inLine line-rule ys (omega arith) (every-weaker inLine (between 0 127) inLine-small ys plain) in
       heard-as (holding 0 a g 47 ys) 10 Line f (lit< tt) (ends-line (length ys) _)
-      ∙ ap (λ (t : List ℕ). called a g (signsOnBy t (g .serial))) (held-is 47 ys) ∙ ap (called a g) e
+      ∙ ap (λ (t : List ℕ). called a g (signsOnBy t (g .facts .serial))) (held-is 47 ys) ∙ ap (called a g) e
 
   -- '/', some characters and LF
-  line-fed : (ours : Bool) → signsOnBy (47 ∷ ys) (g .serial) ≡ ours
+  line-fed : (ours : Bool) → signsOnBy (47 ∷ ys) (g .facts .serial) ≡ ours
       → Fed (idle 0 a g) (onWire ((47 ∷ ys) ++ (10 ∷ []))) (atLast (suc (length ys)) 0 (saidIn (called a g ours))) (called a g ours .next)
   unfolding limit
   line-fed ours e =
@@ -106,7 +107,7 @@ toSerial s = 63 ∷ (serialText s ++ (33 ∷ 13 ∷ []))
 to-serial-plain : (s : List ℕ) → goodSerial s ≡ true → every inLine (toSerial s) ≡ true
 unfolding serialText goodDigits every besides
 to-serial-plain s h =
-    let all = every-within isDigit inLine digit-in-line s (and-right (eqb (length s) 10) (every isDigit s) h) in
+    let all = every-weaker isDigit inLine digit-in-line s (and-right (eqb (length s) 10) (every isDigit s) h) in
     every-append inLine (serialText s) (33 ∷ 13 ∷ [])
     (every-append inLine (take 3 s) (32 ∷ drop 3 s) (every-take inLine 3 s all) (every-drop inLine 3 s all)) refl
 
@@ -131,13 +132,13 @@ module _ (a : ℕ) (g : Registers) (fit : Fit 0 a g) where
   unfolding outcomeOf
   call-to-fed s h =
       let n = digits-long 10 s h in
-      let ours = sameText s (g .serial) || sameText s (replicate 10 48) in
-      let own = digits-long 10 (g .serial) (formed-registers g (fit .registers) .serial) in
+      let ours = sameText s (g .facts .serial) || sameText s (replicate 10 48) in
+      let own = digits-long 10 (g .facts .serial) (formed-facts (g .facts) (formed-registers g (fit .registers) .facts) .serial) in
       let k = to-serial-long s n in
       let o = called a g ours in
       subst (λ (t : List ℕ). Fed (idle 0 a g) (onWire t) (atLast 15 0 (saidIn o)) (o .next)) (to-serial-is s)
       (subst (λ (n : ℕ). Fed (idle 0 a g) (onWire ((47 ∷ toSerial s) ++ (10 ∷ []))) (atLast (suc n) 0 (saidIn o)) (o .next)) k
-      (line-fed a g fit (toSerial s) (to-serial-plain s h) (omega (arith, k)) ours (signs-on-by s (g .serial) n own)))
+      (line-fed a g fit (toSerial s) (to-serial-plain s h) (omega (arith, k)) ours (signs-on-by s (g .facts .serial) n own)))
 
 -- ---- a confirmation
 

@@ -2,6 +2,7 @@
 use mathlib.Core.List.{List, [], _∷_, _++_}
 use Prim.Native.Nat.{ℕ, suc}
 use lib.ListN.{replicate}
+use Rattle.state.specs.Sizes.{replyRoom}
 use Rattle.state.specs.declared.Meter.{Meter}
 use Rattle.meter.specs.Outcomes.{Outcome, speedOf}
 use Rattle.meter.specs.Character.{character}
@@ -31,7 +32,7 @@ left m rooms (b ∷ bs) = left (character m (rooms 0) b .next) (later rooms) bs
 
 -- reply buffers of 2,048 bytes
 abbrev pub full : ℕ → ℕ
-full i = 2048
+full i = replyRoom
 
 -- taken, nothing to say
 abbrev pub quiet : ℕ → Said

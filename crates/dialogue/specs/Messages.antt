@@ -7,10 +7,12 @@ use lib.Dec.{eqb, leb}
 use lib.ListN.{length, replicate}
 use Rattle.line.specs.Quoted.{char}
 use Rattle.text.specs.Classes.{sameText}
-use Rattle.text.specs.Writing.{stored}
-use Rattle.values.specs.Edition.{editionTables, rowLength}
+use Rattle.values.specs.declared.Energy.the-variants.{Total}
+use Rattle.values.specs.Edition.{editionTables}
+use Rattle.values.specs.Registers.{zoneEnergy}
 use Rattle.frames.specs.Frames.{blockOf}
 use Rattle.frames.specs.Commands.{P1, R1}
+use Rattle.state.specs.Sizes.{replyRoom}
 use Rattle.state.specs.declared.Meter.{Meter}
 use Rattle.state.specs.WellFormed.{wellFormed}
 use Rattle.replies.specs.declared.Ask.{Ask}
@@ -18,7 +20,7 @@ use Rattle.replies.specs.declared.Ask.the-variants as ask
 use Rattle.replies.specs.Answers.{askedData}
 use Rattle.replies.specs.Block.{blockData}
 use Rattle.replies.specs.Fixed.{identification, passwordAsk}
-use Rattle.changes.specs.Changes.{inMode, withAttempts, withRegisters, withClock, withAccount, withTables}
+use Rattle.state.specs.Setting.{inMode, withAttempts, withRegisters, withClock, withAccount, withTables, withRow}
 use Rattle.deciding.specs.declared.Verdict.{Verdict}
 use Rattle.deciding.specs.declared.Verdict.the-variants as verdict
 use Rattle.meter.specs.Outcomes.{Outcome, silent, saying, nak, ack}
@@ -45,8 +47,8 @@ decidedAs (password p) = verdict.Password
 decidedAs readClock = verdict.Read ask.Clock
 decidedAs readSerial = verdict.Read ask.Serial
 decidedAs readAccount = verdict.Read ask.Account
-decidedAs readTotal = verdict.Read (ask.Energy 0)
-decidedAs (readZone n) = verdict.Read (ask.Energy n)
+decidedAs readTotal = verdict.Read (ask.Energy Total)
+decidedAs (readZone n) = verdict.Read (ask.Energy (zoneEnergy n))
 decidedAs (readTable n) = verdict.Read (ask.Table (record { 0 = n }))
 decidedAs (writeClock c) = verdict.WriteClock c
 decidedAs (writeAccount a) = verdict.WriteAccount
@@ -56,7 +58,7 @@ decidedAs (writeTable n row) = verdict.WriteTable (record { 0 = n })
 unfoldable pub triedWith : Meter → List ℕ → Outcome
 triedWith m p =
     cond (eqb (m .attempts) 3) (nak 11 m)
-    (cond (sameText p (m .registers .password)) (ack (inMode (withAttempts m 0) 4))
+    (cond (sameText p (m .registers .facts .password)) (ack (inMode (withAttempts m 0) 4))
     (nak 10 (withAttempts m (m .attempts + 1))))
 
 -- the block with what was asked, and the meter as it was
@@ -70,18 +72,18 @@ obeyed m (password p) = triedWith m p
 obeyed m readClock = telling m ask.Clock
 obeyed m readSerial = telling m ask.Serial
 obeyed m readAccount = telling m ask.Account
-obeyed m readTotal = telling m (ask.Energy 0)
-obeyed m (readZone n) = telling m (ask.Energy n)
+obeyed m readTotal = telling m (ask.Energy Total)
+obeyed m (readZone n) = telling m (ask.Energy (zoneEnergy n))
 obeyed m (readTable n) = telling m (ask.Table (record { 0 = n }))
 obeyed m (writeClock c) = ack (withRegisters m (withClock (m .registers) c))
 obeyed m (writeAccount a) = ack (withRegisters m (withAccount (m .registers) a))
-obeyed m (writeTable n row) = ack (withRegisters m (withTables (m .registers) (stored (m .registers .tables) ((n - 1) * rowLength) row)))
+obeyed m (writeTable n row) = ack (withRegisters m (withTables (m .registers) (withRow (m .registers .tables) n row)))
 
 -- a meter that is called by its own serial, or by zeros, identifies itself; another says nothing
 unfoldable pub outcomeOf : Meter → Message → Outcome
 outcomeOf m call = saying 1 0 identification (inMode m 1)
 outcomeOf m (callTo serial) =
-    cond (sameText serial (m .registers .serial) || sameText serial (replicate 10 (char "0"))) (saying 1 0 identification (inMode m 1)) (silent 0 m)
+    cond (sameText serial (m .registers .facts .serial) || sameText serial (replicate 10 (char "0"))) (saying 1 0 identification (inMode m 1)) (silent 0 m)
 outcomeOf m (confirm y) =
     cond (eqb y (char "1")) (saying 1 5 passwordAsk (inMode m 2)) (saying 1 5 (blockOf (blockData editionTables (m .registers))) (inMode m 0))
 outcomeOf m (command c) = obeyed m c
@@ -95,8 +97,8 @@ pub record Listens (m : Meter) (x : Message) : Type 0 where
 
 -- these bytes, given one by one with room for every reply: nothing at each but the last, and there what the message comes to
 pub record Taken (m : Meter) (x : Message) (bytes : List ℕ) : Type 0 where
-  pub said : (rooms : ℕ → ℕ) → ((i : ℕ) → 2048 ≤ rooms i) → answered m rooms bytes ≡ atLast (length bytes - 1) (m .mode) (saidIn (outcomeOf m x))
-  pub after : (rooms : ℕ → ℕ) → ((i : ℕ) → 2048 ≤ rooms i) → left m rooms bytes ≡ outcomeOf m x .next
+  pub said : (rooms : ℕ → ℕ) → ((i : ℕ) → replyRoom ≤ rooms i) → answered m rooms bytes ≡ atLast (length bytes - 1) (m .mode) (saidIn (outcomeOf m x))
+  pub after : (rooms : ℕ → ℕ) → ((i : ℕ) → replyRoom ≤ rooms i) → left m rooms bytes ≡ outcomeOf m x .next
 
 -- confirmation wrong, parity, BCC, too long, shape, unknown, not allowed, data
 unfoldable pub misheard : ℕ → Bool

@@ -10,6 +10,7 @@ use native.Mathlib.Nat.{le-of-suc-le-suc}
 use lib.Bits.{bitXor, xor-zero-r, xor-comm}
 use lib.ListN.{length, getD, take, drop, set, replicate, length-append, length-map, List·getD-append}
 use lib.Seq.{take-suc, take-all, take-at, take-append-le, set-set}
+use Rattle.line.proofs.Runs.{every-at}
 use Rattle.line.specs.Characters.{sent, seven}
 use Rattle.line.specs.Checksum.{bccOf}
 use Rattle.line.proofs.Xor.{xor-assoc, bcc-append}
@@ -24,7 +25,7 @@ use Rattle.frames.specs.Frames.{frameOf, onWire}
 use Rattle.frames.specs.Commands.{W1, setTable}
 use Rattle.frames.proofs.Table.{tableBody, table-frame, length-body}
 use Rattle.post.specs.Grammar.{lineText}
-use Rattle.post.proofs.Lines.{line-columns, row-length, row-zones, length-line, between-high, every-at}
+use Rattle.post.proofs.Lines.{line-columns, row-length, row-zones, length-line, between-high}
 use Rattle.export.specs.Changed.{differing, change, changedTo, changedLine}
 
 pub append-nil : (l : List ℕ) → l ++ [] ≡ l

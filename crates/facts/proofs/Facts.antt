@@ -4,7 +4,7 @@ use mathlib.Core.Bool.{true, cond, _&&_}
 use mathlib.Core.List.{List, [], _∷_, _++_, map}
 use Prim.Native.Nat.{ℕ, _+_, _-_}
 use lib.Count.{ones}
-use lib.ListN.{getD, replicate}
+use lib.ListN.{getD, set, replicate}
 use Rattle.line.specs.Quoted.{chars}
 use Rattle.line.specs.Controls.{STX, ETX}
 use Rattle.line.specs.Characters.{seven, sent}
@@ -16,6 +16,7 @@ use Rattle.text.specs.Layout.{layoutText, pattern, agrees, fits}
 use Rattle.clock.specs.Dates.{leap, thirty, daysIn, realDate, realTime}
 use Rattle.clock.specs.Seconds.{realClock, dateOf}
 use Rattle.clock.specs.Weekday.{daysBefore, dayNumber, weekday}
+use Rattle.values.specs.Registers.{energyNo, zoneEnergy}
 use Rattle.values.specs.Texts.{tableText, counterText}
 use Rattle.values.specs.Reading.{clockRead}
 use Rattle.frames.specs.Frames.{closed, frameOf, bareFrame, blockOf, onWire}
@@ -23,6 +24,7 @@ use Rattle.frames.specs.Commands.{B0, P0, P1, W1, bracketed, askClock, askSeria
 use Rattle.frames.specs.Session.{enterData}
 use Rattle.state.specs.declared.Counters.{Counters}
 use Rattle.state.specs.declared.Registers.{Registers}
+use Rattle.state.specs.Setting.{counterOf}
 use Rattle.datasets.specs.Sets.{dataSet, linesOf, energySet}
 use Rattle.replies.specs.declared.Ask.the-variants.{Energy}
 use Rattle.replies.specs.Shown.{energy}
@@ -30,20 +32,24 @@ use Rattle.replies.specs.Answers.{askedSets, askedData}
 use Rattle.deciding.specs.declared.Verdict.the-variants.{Refuse, Read, WriteClock}
 use Rattle.deciding.specs.Asking.{energyAsked, asked}
 use Rattle.deciding.specs.Telling.{enclosed, inner, clockTold, told}
-use Rattle.changes.specs.Zones.{tableFor, grown, counted}
+use Rattle.tariff.specs.Zones.{tableFor, grown, counted}
 use Rattle.post.specs.Grammar.{lineText}
 use Rattle.facts.specs.Facts.{Facts, allOnes}
 use Rattle.facts.proofs.Places.{only-answer, empty-answer, last-answer, past-answer}
 
-energy-shown : (g : Registers) → g .counters .t1 ≡ 1500
-    → blockOf (askedData g (Energy 1))
+energy-shown : (g : Registers) → counterOf (g .counters) 1 ≡ 1500
+    → blockOf (askedData g (Energy (zoneEnergy 1)))
     ≡ STX ∷ chars "15.8.1(000001.500*kWh)\r\n" ++ ETX ∷ 0x6C ∷ []
-unfolding askedData askedSets energy linesOf dataSet counterText layoutText decimal blockOf closed bccOf seven
+unfolding askedData askedSets energy energyNo linesOf dataSet counterText layoutText decimal blockOf closed bccOf seven
 energy-shown g h = ap (λ (wh : ℕ). blockOf (linesOf (energySet 1 wh ∷ []))) h
 
-counter-wraps : (c : Counters) → c .t1 ≡ 999999999 → counted c 1 1 .t1 ≡ 0
+first-wraps : (zones : List ℕ) → getD zones 0 0 ≡ 999999999 → getD (set zones 0 (grown (getD zones 0 0) 1)) 0 0 ≡ 0
+first-wraps [] h = refl
+first-wraps (wh ∷ zones) h = ap (λ (n : ℕ). grown n 1) h
+
+counter-wraps : (c : Counters) → counterOf c 1 ≡ 999999999 → counterOf (counted c 1 1) 1 ≡ 0
 unfolding counted
-counter-wraps c h = ap (λ (n : ℕ). grown n 1) h
+counter-wraps c h = first-wraps (c .zones) h
 
 pub facts : Facts
 unfolding ones bareFrame frameOf closed bccOf seven sent bracketed enterData setTable tableText layoutText decimal asked energyAsked askClock askSerial askAccount askEnergy sameText matching weekday dayNumber daysBefore tableFor leap told enclosed inner clockTold clockRead pattern fits agrees isDigit between numberAt valueOf valueFrom realClock realDate realTime daysIn thirty

@@ -7,7 +7,7 @@ use lib.ListN.{getD, replicate}
 use Rattle.line.specs.Quoted.{char, chars}
 use Rattle.line.specs.Controls.{SOH, STX, ETX}
 use Rattle.values.specs.Edition.{editionTables, rowLength}
-use Rattle.values.specs.Registers.{goodRow}
+use Rattle.values.specs.Registers.{goodRow, zoneEnergy}
 use Rattle.clock.specs.Seconds.{dateOf, timeOf}
 use Rattle.clock.specs.Weekday.{weekday}
 use Rattle.frames.specs.Frames.{frameOf, bareFrame, blockOf, onWire}
@@ -15,12 +15,13 @@ use Rattle.frames.specs.Commands.{B0, P0, P1, W1, setTable}
 use Rattle.frames.specs.Session.{enterData}
 use Rattle.state.specs.declared.Counters.{Counters}
 use Rattle.state.specs.declared.Registers.{Registers}
+use Rattle.state.specs.Setting.{counterOf}
 use Rattle.replies.specs.declared.Ask.the-variants.{Energy}
 use Rattle.replies.specs.Answers.{askedData}
 use Rattle.deciding.specs.declared.Verdict.the-variants.{Refuse, Read, WriteClock}
 use Rattle.deciding.specs.Asking.{asked}
 use Rattle.deciding.specs.Telling.{told}
-use Rattle.changes.specs.Zones.{tableFor, counted}
+use Rattle.tariff.specs.Zones.{tableFor, counted}
 use Rattle.post.specs.Grammar.{lineText}
 use Rattle.post.specs.Place.{CheckedAs}
 
@@ -46,15 +47,15 @@ pub record Facts : Type 0 where
   pub ones-04 : getD (frameOf W1 (setTable 4 allOnes)) 35 0 ≡ ETX
   pub ones-06 : getD (frameOf W1 (setTable 6 allOnes)) 35 0 ≡ SOH
   -- 1,500 Wh in T1, E1(): STX 15.8.1(000001.500*kWh) CR LF ETX, BCC 6C
-  pub asks-first : asked (chars "E1()") ≡ Read (Energy 1)
-  pub energy-block : (g : Registers) → g .counters .t1 ≡ 1500
-      → blockOf (askedData g (Energy 1))
+  pub asks-first : asked (chars "E1()") ≡ Read (Energy (zoneEnergy 1))
+  pub energy-block : (g : Registers) → counterOf (g .counters) 1 ≡ 1500
+      → blockOf (askedData g (Energy (zoneEnergy 1)))
       ≡ STX ∷ chars "15.8.1(000001.500*kWh)\r\n" ++ ETX ∷ 0x6C ∷ []
   -- 2000-01-01 is a Saturday: table 13
   pub saturday : weekday (dateOf 2000 1 1) ≡ 5
   pub saturday-table : tableFor (dateOf 2000 1 1) ≡ 13
   -- 999,999,999 + 1 Wh gives 0
-  pub wraps : (c : Counters) → c .t1 ≡ 999999999 → counted c 1 1 .t1 ≡ 0
+  pub wraps : (c : Counters) → counterOf c 1 ≡ 999999999 → counterOf (counted c 1 1) 1 ≡ 0
   -- 29-02-2000 accepted, 29-02-2001 refused with 9
   pub leap-day : told (chars "T(29-02-2000;00:00:00)") ≡ WriteClock (record { date = dateOf 2000 2 29; time = timeOf 0 0 0 })
   pub no-leap-day : told (chars "T(29-02-2001;00:00:00)") ≡ Refuse 9

@@ -76,6 +76,37 @@ unfolding every
 every-append p [] t hs ht = ht
 every-append p (b ∷ s) t hs ht = rw (and-left (p b) (every p s) hs) (every-append p s t (and-right (p b) (every p s) hs) ht)
 
+-- of every byte of a run: of a part of it, of a weaker test, of one of them, and with one put in
+pub every-take : (p : ℕ → Bool) (n : ℕ) (s : List ℕ) → every p s ≡ true → every p (take n s) ≡ true
+unfolding every
+every-take p zero s h = refl
+every-take p (suc n) [] h = refl
+every-take p (suc n) (b ∷ s) h = rw (and-left (p b) (every p s) h) (every-take p n s (and-right (p b) (every p s) h))
+
+pub every-drop : (p : ℕ → Bool) (n : ℕ) (s : List ℕ) → every p s ≡ true → every p (drop n s) ≡ true
+unfolding every
+every-drop p zero s h = h
+every-drop p (suc n) [] h = refl
+every-drop p (suc n) (b ∷ s) h = every-drop p n s (and-right (p b) (every p s) h)
+
+pub every-weaker : (p q : ℕ → Bool) → ((b : ℕ) → p b ≡ true → q b ≡ true) → (s : List ℕ) → every p s ≡ true → every q s ≡ true
+unfolding every
+every-weaker p q w [] h = refl
+every-weaker p q w (b ∷ s) h =
+    and-both (q b) (every q s) (w b (and-left (p b) (every p s) h)) (every-weaker p q w s (and-right (p b) (every p s) h))
+
+pub every-at : (p : ℕ → Bool) (s : List ℕ) → every p s ≡ true → (i : ℕ) → i < length s → p (getD s i 0) ≡ true
+unfolding every
+every-at p [] e i h = absurd (omega arith)
+every-at p (b ∷ s) e zero h = and-left (p b) (every p s) e
+every-at p (b ∷ s) e (suc i) h = every-at p s (and-right (p b) (every p s) e) i (le-of-suc-le-suc h)
+
+pub every-set : (p : ℕ → Bool) (s : List ℕ) (i x : ℕ) → every p s ≡ true → p x ≡ true → every p (set s i x) ≡ true
+unfolding every
+every-set p [] i x h k = refl
+every-set p (b ∷ s) zero x h k = and-both (p x) (every p s) k (and-right (p b) (every p s) h)
+every-set p (b ∷ s) (suc i) x h k = and-both (p b) _ (and-left (p b) (every p s) h) (every-set p s i x (and-right (p b) (every p s) h) k)
+
 -- a choice that shows what only its first side shows was made for it
 pub chosen : {A : Type 0} (shows : A → Bool) (b : Bool) (x y : A) → shows y ≡ false → shows (cond b x y) ≡ true → b ≡ true
 chosen shows true x y e h = refl

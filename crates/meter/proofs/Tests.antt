@@ -6,6 +6,7 @@ use Prim.Native.Nat.{ℕ, _≤_}
 use native.Mathlib.Omega.{arith}
 use lib.Dec.{eqb, ltb}
 use borrow.Author.Tests.{ltb-false}
+use Rattle.state.specs.Sizes.{replyRoom}
 use Rattle.state.specs.declared.Meter.{Meter}
 use Rattle.state.specs.WellFormed.{wellFormed}
 use Rattle.meter.specs.declared.Event.{Event}
@@ -29,8 +30,8 @@ tested-13 m false o = refl
 
 pub met-in-order : (m : Meter) (room : ℕ) (e : Event) → met m room e ≡ inOrder m (refusal room e) (happened m e)
 unfolding met refusal happened character silence tick pulse powerUp
-met-in-order m room (Character b) = tested-12 m (ltb room 2048) _
-met-in-order m room Silence = tested-12 m (ltb room 2048) _
+met-in-order m room (Character b) = tested-12 m (ltb room replyRoom) _
+met-in-order m room Silence = tested-12 m (ltb room replyRoom) _
 met-in-order m room Tick = refl
 met-in-order m room (Pulse wh) = tested-13 m (ltb 1000000 wh) _
 met-in-order m room PowerUp = refl
@@ -46,13 +47,13 @@ passed-13 true e = absurd (omega (arith, e))
 passed-13 false e = refl
 
 -- room for a reply, and a pulse that may be counted
-pub character-room : (room : ℕ) (e : Event) (b : ℕ) → e ≡ Character b → refusal room e ≡ 0 → 2048 ≤ room
+pub character-room : (room : ℕ) (e : Event) (b : ℕ) → e ≡ Character b → refusal room e ≡ 0 → replyRoom ≤ room
 unfolding refusal
-character-room room e b is none = ltb-false room 2048 (passed-12 (ltb room 2048) (sym (ap (refusal room) is) ∙ none))
+character-room room e b is none = ltb-false room replyRoom (passed-12 (ltb room replyRoom) (sym (ap (refusal room) is) ∙ none))
 
-pub silence-room : (room : ℕ) (e : Event) → e ≡ Silence → refusal room e ≡ 0 → 2048 ≤ room
+pub silence-room : (room : ℕ) (e : Event) → e ≡ Silence → refusal room e ≡ 0 → replyRoom ≤ room
 unfolding refusal
-silence-room room e is none = ltb-false room 2048 (passed-12 (ltb room 2048) (sym (ap (refusal room) is) ∙ none))
+silence-room room e is none = ltb-false room replyRoom (passed-12 (ltb room replyRoom) (sym (ap (refusal room) is) ∙ none))
 
 pub pulse-small : (room : ℕ) (e : Event) (wh : ℕ) → e ≡ Pulse wh → refusal room e ≡ 0 → wh ≤ 1000000
 unfolding refusal

@@ -1,16 +1,16 @@
 -- Document 01, "Deciding a frame": what each decision does.
 use mathlib.Core.Bool.{cond}
 use mathlib.Core.List.{List}
-use Prim.Native.Nat.{ℕ, _+_, _-_, _*_}
+use Prim.Native.Nat.{ℕ, _+_}
 use lib.Dec.{eqb}
 use lib.ListN.{take, drop}
 use Rattle.text.specs.Classes.{sameText}
-use Rattle.text.specs.Writing.{stored}
 use Rattle.frames.specs.Frames.{blockOf}
+use Rattle.state.specs.Sizes.{rowLength, tables}
 use Rattle.state.specs.declared.Meter.{Meter}
 use Rattle.values.specs.Registers.{goodTable}
 use Rattle.replies.specs.Answers.{askedData}
-use Rattle.changes.specs.Changes.{inMode, withAttempts, withRegisters, withClock, withAccount, withTables}
+use Rattle.state.specs.Setting.{inMode, withAttempts, withRegisters, withClock, withAccount, withTables, withRow}
 use Rattle.deciding.specs.declared.Verdict.{Verdict}
 use Rattle.deciding.specs.declared.Verdict.the-variants.{Refuse, Leave, Enter, Password, Read, WriteClock, WriteAccount, WriteTable}
 use Rattle.meter.specs.Outcomes.{Outcome, saying, nak, ack}
@@ -23,13 +23,13 @@ abbrev pub accountGiven : Meter → List ℕ
 accountGiven m = take 10 (drop 6 (m .receiver .held))
 
 abbrev pub rowGiven : Meter → List ℕ
-rowGiven m = take 24 (drop 9 (m .receiver .held))
+rowGiven m = take rowLength (drop 9 (m .receiver .held))
 
 -- attempts 3 gives 11; wrong gives 10 and one attempt more; right gives ACK, mode 4, attempts 0
 unfoldable pub tried : Meter → Outcome
 tried m =
     cond (eqb (m .attempts) 3) (nak 11 m)
-    (cond (sameText (passwordGiven m) (m .registers .password)) (ack (inMode (withAttempts m 0) 4))
+    (cond (sameText (passwordGiven m) (m .registers .facts .password)) (ack (inMode (withAttempts m 0) 4))
     (nak 10 (withAttempts m (m .attempts + 1))))
 
 -- the account, a table's row: what a write leaves, the receiver aside
@@ -37,7 +37,7 @@ abbrev pub accountTaken : Meter → Meter
 accountTaken m = withRegisters m (withAccount (m .registers) (accountGiven m))
 
 abbrev pub rowTaken : Meter → ℕ → Meter
-rowTaken m n = withRegisters m (withTables (m .registers) (stored (m .registers .tables) ((n - 1) * 24) (rowGiven m)))
+rowTaken m n = withRegisters m (withTables (m .registers) (withRow (m .registers .tables) n (rowGiven m)))
 
 -- only that register changes
 abbrev pub wrote : Meter → Meter → Outcome
@@ -51,4 +51,4 @@ acted m Password = tried m
 acted m (Read a) = saying 1 5 (blockOf (askedData (m .registers) a)) (inMode m (m .mode))
 acted m (WriteClock c) = wrote m (withRegisters m (withClock (m .registers) c))
 acted m WriteAccount = wrote m (accountTaken m)
-acted m (WriteTable t) = cond (goodTable 24 (t .0)) (wrote m (rowTaken m (t .0))) (nak 9 m)
+acted m (WriteTable t) = cond (goodTable tables (t .0)) (wrote m (rowTaken m (t .0))) (nak 9 m)

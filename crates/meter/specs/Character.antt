@@ -5,8 +5,9 @@ use Prim.Native.Nat.{ℕ}
 use lib.Dec.{eqb, ltb}
 use Rattle.line.specs.Characters.{damagedAt, seven}
 use Rattle.frames.specs.Frames.{blockOf}
+use Rattle.state.specs.Sizes.{tables, replyRoom}
 use Rattle.state.specs.declared.Meter.{Meter}
-use Rattle.state.specs.WellFormed.{wellFormed}
+use Rattle.state.specs.WellFormed.{wellFormed, marked}
 use Rattle.state.specs.Making.{emptyReceiver}
 use Rattle.receiving.specs.declared.Hearing.{Hearing}
 use Rattle.receiving.specs.declared.Hearing.the-variants.{Drop, Hold, Restart, Empty, Line, Confirm, Frame, TooLong}
@@ -15,7 +16,7 @@ use Rattle.receiving.specs.Receivers.{heldText, lastHeld, keptReceiver, restart
 use Rattle.deciding.specs.Verdict.{verdict}
 use Rattle.replies.specs.Block.{blockData}
 use Rattle.replies.specs.Fixed.{identification, passwordAsk}
-use Rattle.changes.specs.Changes.{withReceiver, inMode}
+use Rattle.state.specs.Setting.{withReceiver, inMode}
 use Rattle.meter.specs.Outcomes.{Outcome, silent, unheard, saying, nak}
 use Rattle.meter.specs.SignOn.{signsOnBy, wantsBlock, wantsProgram}
 use Rattle.meter.specs.Acting.{acted}
@@ -27,15 +28,15 @@ symbol b = cond (damagedAt b) 0 (seven b)
 -- an unmarked line that signs on is answered at speed 0, then mode 1; any other line: empty, answer 0
 unfoldable pub lineEnded : Meter → Outcome
 lineEnded m =
-    cond (m .receiver .mark) (silent 0 (inMode m 0))
-    (cond (signsOnBy (heldText (m .receiver)) (m .registers .serial)) (saying 1 0 identification (inMode m 1))
+    cond (marked (m .receiver)) (silent 0 (inMode m 0))
+    (cond (signsOnBy (heldText (m .receiver)) (m .registers .facts .serial)) (saying 1 0 identification (inMode m 1))
     (silent 0 (inMode m 0)))
 
 -- six characters, the last of them c: unmarked ACK 0 5 Y CR LF
 unfoldable pub confirmed : Meter → ℕ → Bool → Outcome
 confirmed m c damaged =
-    cond (m .receiver .mark || damaged) (silent 2 (inMode m 0))
-    (cond (wantsBlock (heldText (m .receiver)) c) (saying 1 5 (blockOf (blockData 24 (m .registers))) (inMode m 0))
+    cond (marked (m .receiver) || damaged) (silent 2 (inMode m 0))
+    (cond (wantsBlock (heldText (m .receiver)) c) (saying 1 5 (blockOf (blockData tables (m .registers))) (inMode m 0))
     (cond (wantsProgram (heldText (m .receiver)) c) (saying 1 5 passwordAsk (inMode m 2))
     (silent 2 (inMode m 0))))
 
@@ -46,7 +47,7 @@ heard m c damaged Restart = silent 0 (withReceiver m (restartedReceiver c))
 heard m c damaged Empty = silent 0 (withReceiver m emptyReceiver)
 heard m c damaged Line = lineEnded m
 heard m c damaged Confirm = confirmed m c damaged
-heard m c damaged Frame = acted m (verdict (m .mode) (heldText (m .receiver)) (m .receiver .mark || damaged) c)
+heard m c damaged Frame = acted m (verdict (m .mode) (heldText (m .receiver)) (marked (m .receiver) || damaged) c)
 heard m c damaged TooLong = nak 5 m
 
 unfoldable pub taken : Meter → ℕ → Outcome
@@ -54,4 +55,4 @@ taken m b = heard m (symbol b) (damagedAt b) (hearing (m .mode) (m .receiver .co
 
 -- a reply buffer under 2,048 gives 12, then a malformed state 14
 unfoldable pub character : Meter → ℕ → ℕ → Outcome
-character m room b = cond (ltb room 2048) (unheard 12 m) (cond (wellFormed m) (taken m b) (unheard 14 m))
+character m room b = cond (ltb room replyRoom) (unheard 12 m) (cond (wellFormed m) (taken m b) (unheard 14 m))

@@ -4,10 +4,11 @@ use mathlib.Core.List.{[]}
 use Prim.Native.Nat.{ℕ}
 use lib.Dec.{eqb, ltb}
 use Rattle.clock.specs.Seconds.{nextSecond}
+use Rattle.state.specs.Sizes.{replyRoom}
 use Rattle.state.specs.declared.Meter.{Meter}
 use Rattle.state.specs.WellFormed.{wellFormed}
-use Rattle.changes.specs.Changes.{inMode, withAttempts, withRegisters, withClock, withCounters}
-use Rattle.changes.specs.Zones.{zoneIn, counted}
+use Rattle.state.specs.Setting.{inMode, withAttempts, withRegisters, withClock, withCounters}
+use Rattle.tariff.specs.Zones.{zoneIn, counted}
 use Rattle.replies.specs.Fixed.{refused}
 use Rattle.meter.specs.Outcomes.{Outcome, silent, unheard, saying}
 
@@ -16,7 +17,7 @@ unfoldable pub afterSilence : Meter → Outcome
 afterSilence m = cond (eqb (m .mode) 0) (silent 0 (inMode m 0)) (cond (eqb (m .mode) 1) (saying 1 0 refused (inMode m 0)) (silent 1 (inMode m 0)))
 
 unfoldable pub silence : Meter → ℕ → Outcome
-silence m room = cond (ltb room 2048) (unheard 12 m) (cond (wellFormed m) (afterSilence m) (unheard 14 m))
+silence m room = cond (ltb room replyRoom) (unheard 12 m) (cond (wellFormed m) (afterSilence m) (unheard 14 m))
 
 -- one second
 abbrev pub afterTick : Meter → Outcome

@@ -3,6 +3,7 @@ use mathlib.Core.Bool.{cond}
 use mathlib.Core.List.{List, [], _∷_}
 use Prim.Native.Nat.{ℕ}
 use lib.Dec.{eqb, leb, ltb}
+use Rattle.state.specs.Sizes.{replyRoom}
 use Rattle.state.specs.declared.Meter.{Meter}
 use Rattle.meter.specs.declared.Event.{Event}
 use Rattle.meter.specs.declared.Event.the-variants.{Character, Silence, Tick, Pulse, PowerUp, Unknown}
@@ -30,8 +31,8 @@ met m room Unknown = unheard 99 m
 
 -- the number that refuses an event whatever the state, or 0: 99; 13 for a pulse over 1,000,000; 12 for a reply buffer under 2,048
 unfoldable pub refusal : ℕ → Event → ℕ
-refusal room (Character b) = cond (ltb room 2048) 12 0
-refusal room Silence = cond (ltb room 2048) 12 0
+refusal room (Character b) = cond (ltb room replyRoom) 12 0
+refusal room Silence = cond (ltb room replyRoom) 12 0
 refusal room Tick = 0
 refusal room (Pulse wh) = cond (ltb 1000000 wh) 13 0
 refusal room PowerUp = 0

@@ -5,7 +5,7 @@ use Prim.Native.Nat.{ℕ}
 use lib.Dec.{eqb, leb}
 use lib.ListN.{length}
 use Rattle.state.specs.declared.Meter.{Meter}
-use Rattle.changes.specs.Changes.{inMode}
+use Rattle.state.specs.Setting.{inMode}
 use Rattle.replies.specs.Fixed.{accepted, refused}
 use Rattle.meter.specs.declared.Answer.{Answer}
 

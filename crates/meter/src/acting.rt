@@ -5,33 +5,40 @@ ghost use Prim.Native.Nat.{_≤_};
 ghost use lib.ListN.{length};
 ghost use Rattle.text.specs.Writing.{holding};
 ghost use Rattle.frames.specs.Frames.{onWire};
-ghost use Rattle.state.specs.WellFormed.{wellFormed};
+ghost use Rattle.state.specs.Sizes.{tables, replyRoom};
+ghost use Rattle.state.specs.WellFormed.{wellFormed, marked};
 ghost use Rattle.receiving.specs.Receivers.{heldText};
 ghost use Rattle.deciding.specs.Verdict.{verdict};
-ghost use Rattle.changes.specs.Changes.{withRegisters, withClock};
+ghost use Rattle.state.specs.Setting.{withRegisters, withClock};
 ghost use Rattle.meter.specs.Outcomes.{answerOf};
 ghost use Rattle.meter.specs.Acting.{tried, acted, accountTaken, rowTaken};
 use crate::Answer;
 use crate::answers;
-use changes::in_mode;
-use changes::with_attempts;
-use changes::with_registers;
 use clock::Clock;
 use deciding::Verdict;
 use replies::Ask;
 use state::Meter;
+use state::setting::in_mode;
+use state::setting::ten;
+use state::setting::with_account;
+use state::setting::with_attempts;
+use state::setting::with_clock;
+use state::setting::with_registers;
+use state::setting::with_row;
+use state::setting::with_tables;
 use values::TableNo;
 
 // P1 with eight digits.
 fn try_password(m: Meter, reply: &mut [u8]) -> Answer
-    requires { ⌜ (wellFormed m ≡ true) × (2048 ≤ length (now reply)) ⌝ }
+    requires { ⌜ (wellFormed m ≡ true) × (replyRoom ≤ length (now reply)) ⌝ }
     ensures result { λ r. ⌜ r ≡ answerOf (tried m) ⌝ }
     ensures held { λ _. ⌜ now (reply .exit) ≡ holding (now (reply .entry)) (onWire (tried m .reply)) ⌝ }
 {
     let r = m.receiver;
     let g = m.registers;
     let held = r.held;
-    let password = g.password;
+    let f = g.facts;
+    let password = f.password;
     let attempts = m.attempts;
     if attempts == 3 {
         return answers::refuse(11, m, reply);
@@ -44,7 +51,7 @@ fn try_password(m: Meter, reply: &mut [u8]) -> Answer
 
 // R1: the data asked for.
 fn read(m: Meter, a: Ask, reply: &mut [u8]) -> Answer
-    requires { ⌜ (wellFormed m ≡ true) × (2048 ≤ length (now reply)) ⌝ }
+    requires { ⌜ (wellFormed m ≡ true) × (replyRoom ≤ length (now reply)) ⌝ }
     ensures result { λ r. ⌜ r ≡ answerOf (acted m (Verdict.Read a)) ⌝ }
     ensures held { λ _. ⌜ now (reply .exit) ≡ holding (now (reply .entry)) (onWire (acted m (Verdict.Read a) .reply)) ⌝ }
 {
@@ -68,24 +75,21 @@ fn take_account(m: Meter) -> Meter
     let held = r.held;
     with_registers(
         m,
-        changes::with_account(g, changes::ten(text::first(text::rest(&held, 6), 10))),
+        with_account(g, ten(text::first(text::rest(&held, 6), 10))),
     )
 }
 
 // The state that a write of a table leaves, the receiver aside.
 fn take_row(m: Meter, t: TableNo) -> Meter
-    requires { ⌜ (wellFormed m ≡ true) × ((1 ≤ t .0) × (t .0 ≤ 24)) ⌝ }
+    requires { ⌜ (wellFormed m ≡ true) × ((1 ≤ t .0) × (t .0 ≤ tables)) ⌝ }
     ensures { λ r. ⌜ r ≡ rowTaken m (t .0) ⌝ }
 {
     let r = m.receiver;
     let g = m.registers;
     let held = r.held;
-    let tables = g.tables;
-    let row = text::first(text::rest(&held, 9), 24);
-    with_registers(
-        m,
-        changes::with_tables(g, changes::with_row(tables, t, row)),
-    )
+    let rows = g.tables;
+    let row = text::first(text::rest(&held, 9), values::ROW_LENGTH);
+    with_registers(m, with_tables(g, with_row(rows, t, row)))
 }
 
 // The state that a write of the clock leaves.
@@ -93,12 +97,12 @@ fn take_clock(m: Meter, c: Clock) -> Meter
     ensures { λ r. ⌜ r ≡ withRegisters m (withClock (m .registers) c) ⌝ }
 {
     let g = m.registers;
-    with_registers(m, changes::with_clock(g, c))
+    with_registers(m, with_clock(g, c))
 }
 
 // W1 of a table.
 fn write_row(m: Meter, t: TableNo, reply: &mut [u8]) -> Answer
-    requires { ⌜ (wellFormed m ≡ true) × (2048 ≤ length (now reply)) ⌝ }
+    requires { ⌜ (wellFormed m ≡ true) × (replyRoom ≤ length (now reply)) ⌝ }
     ensures result { λ r. ⌜ r ≡ answerOf (acted m (Verdict.WriteTable t)) ⌝ }
     ensures held { λ _. ⌜ now (reply .exit) ≡ holding (now (reply .entry)) (onWire (acted m (Verdict.WriteTable t) .reply)) ⌝ }
 {
@@ -110,7 +114,7 @@ fn write_row(m: Meter, t: TableNo, reply: &mut [u8]) -> Answer
 
 // What a decision does.
 fn act(m: Meter, v: Verdict, reply: &mut [u8]) -> Answer
-    requires { ⌜ (wellFormed m ≡ true) × (2048 ≤ length (now reply)) ⌝ }
+    requires { ⌜ (wellFormed m ≡ true) × (replyRoom ≤ length (now reply)) ⌝ }
     ensures result { λ r. ⌜ r ≡ answerOf (acted m v) ⌝ }
     ensures held { λ _. ⌜ now (reply .exit) ≡ holding (now (reply .entry)) (onWire (acted m v .reply)) ⌝ }
 {
@@ -128,16 +132,16 @@ fn act(m: Meter, v: Verdict, reply: &mut [u8]) -> Answer
 
 // A frame is whole: its held characters, and c as its BCC.
 pub fn act_on_frame(m: Meter, c: u8, damaged: bool, reply: &mut [u8]) -> Answer
-    requires { ⌜ (wellFormed m ≡ true) × (2048 ≤ length (now reply)) ⌝ }
-    ensures result { λ r. ⌜ r ≡ answerOf (acted m (verdict (m .mode) (heldText (m .receiver)) (m .receiver .mark || damaged) c)) ⌝ }
-    ensures held { λ _. ⌜ now (reply .exit) ≡ holding (now (reply .entry)) (onWire (acted m (verdict (m .mode) (heldText (m .receiver)) (m .receiver .mark || damaged) c) .reply)) ⌝ }
+    requires { ⌜ (wellFormed m ≡ true) × (replyRoom ≤ length (now reply)) ⌝ }
+    ensures result { λ r. ⌜ r ≡ answerOf (acted m (verdict (m .mode) (heldText (m .receiver)) (marked (m .receiver) || damaged) c)) ⌝ }
+    ensures held { λ _. ⌜ now (reply .exit) ≡ holding (now (reply .entry)) (onWire (acted m (verdict (m .mode) (heldText (m .receiver)) (marked (m .receiver) || damaged) c) .reply)) ⌝ }
 {
     let r = m.receiver;
     let held = r.held;
     let v = deciding::decide(
         m.mode,
         text::first(&held, r.count as usize),
-        r.mark | damaged,
+        (r.mark == 1) | damaged,
         c,
     );
     act(m, v, reply)

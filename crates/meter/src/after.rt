@@ -1,22 +1,26 @@
 // What a well-formed meter does at an event other than a character.
 ghost use mathlib.Core.Path.{_≡_};
+ghost use mathlib.Core.Bool.{true};
 ghost use Prim.Native.Nat.{_≤_};
 ghost use lib.ListN.{length};
 ghost use Rattle.text.specs.Writing.{holding};
 ghost use Rattle.frames.specs.Frames.{onWire};
-ghost use Rattle.changes.specs.Zones.{CountersFit};
+ghost use Rattle.state.specs.Sizes.{replyRoom};
+ghost use Rattle.state.specs.WellFormed.{wellFormed};
 ghost use Rattle.meter.specs.Outcomes.{answerOf};
 ghost use Rattle.meter.specs.Events.{afterSilence, afterTick, afterPulse, afterPowerUp};
 use crate::Answer;
 use crate::answers;
-use changes::in_mode;
-use changes::with_attempts;
-use changes::with_registers;
 use state::Meter;
+use state::setting::in_mode;
+use state::setting::with_attempts;
+use state::setting::with_clock;
+use state::setting::with_counters;
+use state::setting::with_registers;
 
 // Silence, with room for the reply.
 pub fn silence(m: Meter, reply: &mut [u8]) -> Answer
-    requires { ⌜ 2048 ≤ length (now reply) ⌝ }
+    requires { ⌜ replyRoom ≤ length (now reply) ⌝ }
     ensures result { λ r. ⌜ r ≡ answerOf (afterSilence m) ⌝ }
     ensures held { λ _. ⌜ now (reply .exit) ≡ holding (now (reply .entry)) (onWire (afterSilence m .reply)) ⌝ }
 {
@@ -41,21 +45,18 @@ pub fn tick(m: Meter) -> Answer
 {
     let g = m.registers;
     let c = g.clock;
-    answers::quiet(
-        1,
-        with_registers(m, changes::with_clock(g, clock::next_second(c))),
-    )
+    answers::quiet(1, with_registers(m, with_clock(g, clock::next_second(c))))
 }
 
 // The Wh of a pulse, counted in the zone of the hour.
 pub fn pulse(m: Meter, wh: u32) -> Answer
-    requires { ⌜ CountersFit (m .registers .counters) × (wh ≤ 1000000) ⌝ }
+    requires { ⌜ (wellFormed m ≡ true) × (wh ≤ 1000000) ⌝ }
     ensures { λ r. ⌜ r ≡ answerOf (afterPulse m wh) ⌝ }
 {
     let g = m.registers;
     let c = g.counters;
-    let counters = changes::count(c, changes::zone_in(g), wh);
-    answers::quiet(1, with_registers(m, changes::with_counters(g, counters)))
+    let counters = tariff::count(c, tariff::zone_in(g), wh);
+    answers::quiet(1, with_registers(m, with_counters(g, counters)))
 }
 
 // A session that starts anew.

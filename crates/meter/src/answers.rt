@@ -8,8 +8,8 @@ ghost use Rattle.replies.specs.Fixed.{accepted, refused};
 ghost use Rattle.meter.specs.Outcomes.{answerOf, fallen, silent, unheard, nak, ack};
 use crate::Answer;
 use crate::speed_of;
-use changes::in_mode;
 use state::Meter;
+use state::setting::in_mode;
 
 // No reply; the speed is the next state's.
 pub fn quiet(number: u8, next: Meter) -> Answer

@@ -49,7 +49,7 @@ pub fn event_of(kind: u8, value: u32) -> Event
 fn room_refusal(room: usize) -> u8
     ensures { λ r. ⌜ r ≡ refusal room Event.Silence ⌝ }
 {
-    if room < 2048 { 12 } else { 0 }
+    if room < state::REPLY_ROOM { 12 } else { 0 }
 }
 
 fn pulse_refusal(wh: u32) -> u8

@@ -5,13 +5,16 @@ ghost use Prim.Native.Nat.{_≤_};
 ghost use lib.ListN.{length};
 ghost use Rattle.text.specs.Writing.{holding};
 ghost use Rattle.frames.specs.Frames.{onWire};
+ghost use Rattle.state.specs.Sizes.{replyRoom};
 ghost use Rattle.state.specs.WellFormed.{wellFormed};
 ghost use Rattle.meter.specs.Outcomes.{answerOf, speedOf};
 ghost use Rattle.meter.specs.Character.{symbol, taken, character};
 ghost use Rattle.meter.specs.Events.{silence};
-use changes::with_receiver;
 use receiving::Hearing;
 use state::Meter;
+use state::REPLY_ROOM;
+use state::setting::in_mode;
+use state::setting::with_receiver;
 
 mod acting;
 mod after;
@@ -57,7 +60,7 @@ pub fn symbol_of(b: u8) -> u8
 
 // A character, taken by a well-formed meter with room for any reply.
 fn take(m: Meter, b: u8, reply: &mut [u8]) -> Answer
-    requires { ⌜ (wellFormed m ≡ true) × (2048 ≤ length (now reply)) ⌝ }
+    requires { ⌜ (wellFormed m ≡ true) × (replyRoom ≤ length (now reply)) ⌝ }
     ensures result { λ r. ⌜ r ≡ answerOf (taken m b) ⌝ }
     ensures held { λ _. ⌜ now (reply .exit) ≡ holding (now (reply .entry)) (onWire (taken m b .reply)) ⌝ }
 {
@@ -69,7 +72,7 @@ fn take(m: Meter, b: u8, reply: &mut [u8]) -> Answer
         Hearing::Drop => answers::quiet(0, m),
         Hearing::Hold => answers::quiet(0, with_receiver(m, receiving::keep(r, c, damaged))),
         Hearing::Restart => answers::quiet(0, with_receiver(m, receiving::restart(c))),
-        Hearing::Empty => answers::quiet(0, with_receiver(m, receiving::empty())),
+        Hearing::Empty => answers::quiet(0, with_receiver(m, state::setting::empty_receiver())),
         Hearing::Line => lines::end_line(m, reply),
         Hearing::Confirm => lines::confirm(m, c, damaged, reply),
         Hearing::Frame => acting::act_on_frame(m, c, damaged, reply),
@@ -82,7 +85,7 @@ pub fn receive(m: Meter, b: u8, reply: &mut [u8]) -> Answer
     ensures result { λ r. ⌜ r ≡ answerOf (character m (length (now (reply .entry))) b) ⌝ }
     ensures held { λ _. ⌜ now (reply .exit) ≡ holding (now (reply .entry)) (onWire (character m (length (now (reply .entry))) b .reply)) ⌝ }
 {
-    if reply.len() < 2048 {
+    if reply.len() < REPLY_ROOM {
         return answers::unheard_with(12, m);
     }
     if state::is_well_formed(m) {
@@ -96,7 +99,7 @@ pub fn hear_nothing(m: Meter, reply: &mut [u8]) -> Answer
     ensures result { λ r. ⌜ r ≡ answerOf (silence m (length (now (reply .entry)))) ⌝ }
     ensures held { λ _. ⌜ now (reply .exit) ≡ holding (now (reply .entry)) (onWire (silence m (length (now (reply .entry))) .reply)) ⌝ }
 {
-    if reply.len() < 2048 {
+    if reply.len() < REPLY_ROOM {
         return answers::unheard_with(12, m);
     }
     if state::is_well_formed(m) {

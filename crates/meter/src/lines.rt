@@ -5,14 +5,15 @@ ghost use Prim.Native.Nat.{_≤_};
 ghost use lib.ListN.{length};
 ghost use Rattle.text.specs.Writing.{holding};
 ghost use Rattle.frames.specs.Frames.{onWire};
+ghost use Rattle.state.specs.Sizes.{replyRoom};
 ghost use Rattle.state.specs.WellFormed.{wellFormed};
 ghost use Rattle.meter.specs.Outcomes.{answerOf};
 ghost use Rattle.meter.specs.Character.{lineEnded, confirmed};
 ghost use Rattle.meter.specs.SignOn.{ourLine, signsOnBy, wantsBlock, wantsProgram};
 use crate::Answer;
 use crate::answers;
-use changes::in_mode;
 use state::Meter;
+use state::setting::in_mode;
 
 // The sign-on that names a serial, but for its LF.
 fn our_line(serial: &[u8]) -> [u8; 15]
@@ -37,15 +38,16 @@ fn signs_on(line: &[u8], serial: &[u8]) -> bool
 
 // A line has ended.
 pub fn end_line(m: Meter, reply: &mut [u8]) -> Answer
-    requires { ⌜ (wellFormed m ≡ true) × (2048 ≤ length (now reply)) ⌝ }
+    requires { ⌜ (wellFormed m ≡ true) × (replyRoom ≤ length (now reply)) ⌝ }
     ensures result { λ r. ⌜ r ≡ answerOf (lineEnded m) ⌝ }
     ensures held { λ _. ⌜ now (reply .exit) ≡ holding (now (reply .entry)) (onWire (lineEnded m .reply)) ⌝ }
 {
     let r = m.receiver;
     let g = m.registers;
     let held = r.held;
-    let serial = g.serial;
-    if r.mark {
+    let f = g.facts;
+    let serial = f.serial;
+    if r.mark == 1 {
         return answers::quiet(0, in_mode(m, 0));
     }
     if signs_on(text::first(&held, r.count as usize), &serial) {
@@ -77,13 +79,13 @@ fn wants_program(five: &[u8], c: u8) -> bool
 
 // Six characters of confirmation, the last of them c.
 pub fn confirm(m: Meter, c: u8, damaged: bool, reply: &mut [u8]) -> Answer
-    requires { ⌜ (wellFormed m ≡ true) × (2048 ≤ length (now reply)) ⌝ }
+    requires { ⌜ (wellFormed m ≡ true) × (replyRoom ≤ length (now reply)) ⌝ }
     ensures result { λ r. ⌜ r ≡ answerOf (confirmed m c damaged) ⌝ }
     ensures held { λ _. ⌜ now (reply .exit) ≡ holding (now (reply .entry)) (onWire (confirmed m c damaged .reply)) ⌝ }
 {
     let r = m.receiver;
     let held = r.held;
-    let marked = r.mark | damaged;
+    let marked = (r.mark == 1) | damaged;
     if marked {
         return answers::quiet(2, in_mode(m, 0));
     }

@@ -7,7 +7,7 @@ use native.Mathlib.Omega.{arith}
 use lib.ListN.{getD}
 use Rattle.state.specs.declared.Meter.{Meter}
 use Rattle.replies.specs.Shown.{rowOf}
-use Rattle.changes.specs.Changes.{withAttempts}
+use Rattle.state.specs.Setting.{withAttempts}
 use Rattle.post.specs.Grammar.{Entry, postText}
 use Rattle.export.specs.Frames.{framesOf}
 use Rattle.dialogue.specs.Feeding.{answered, left, full}

@@ -21,13 +21,14 @@ use Rattle.frames.specs.Frames.{closed, frameOf}
 use Rattle.frames.specs.Commands.{bracketed, setTable}
 use Rattle.frames.specs.Session.{signOn}
 use Rattle.state.specs.declared.Meter.{Meter}
-use Rattle.state.specs.WellFormed.{limit, firstGood, heldGood, markGood, receiverGood, countersGood, tablesGood, factsGood, registersGood, wellFormed}
+use Rattle.state.specs.WellFormed.{limit, firstGood, heldGood, markGood, receiverGood, below, zonesGood, tablesGood, factsGood, factoryGood, registersGood, wellFormed}
 use Rattle.state.specs.Making.{madeOf}
+use Rattle.state.specs.Setting.{counterOf}
 use Rattle.receiving.specs.Hearing.{hearing, listening, confirming, framing}
 use Rattle.deciding.specs.Shape.{startGood, bareShape, content, framedShape}
 use Rattle.deciding.specs.Telling.{enclosed, inner, tableTold, told as toldBy}
 use Rattle.deciding.specs.Verdict.{entry, bareVerdict, framedVerdict, shapeVerdict, verdict}
-use Rattle.changes.specs.Zones.{tableFor, zoneIn, counted}
+use Rattle.tariff.specs.Zones.{tableFor, zoneIn, counted}
 use Rattle.meter.specs.declared.Answer.{Answer}
 use Rattle.meter.specs.Outcomes.{speedOf, fallen}
 use Rattle.meter.specs.Acting.{tried, acted}
@@ -55,14 +56,14 @@ kindOf PowerUp = 4
 kindOf Unknown = 5
 
 pub events : Receiving × Passing × Happening × Settling × Lent
-unfolding ones damagedAt seven sent bccOf every stored holding between isDigit isLetter isPrintable matching sameText decimal valueFrom valueOf numberAt layoutText pattern agrees fits leap thirty daysIn realDate realTime realClock goodDigits isAccountCharacter goodAccount goodRow goodTable tableText tableRead closed frameOf bracketed setTable signOn limit firstGood heldGood markGood receiverGood countersGood tablesGood factsGood registersGood wellFormed hearing listening confirming framing startGood bareShape content framedShape enclosed inner tableTold toldBy entry bareVerdict framedVerdict shapeVerdict verdict speedOf fallen tried acted signsOnBy symbol lineEnded confirmed heard taken character serial account password twos newMeter heldIn told toldAll toldMet shortPassword shortTried signedOn restarted daysBefore dayNumber weekday nextSecond tableFor zoneIn counted afterSilence silence tick pulse powerUp heardAs heardBy heardOf settles eventOf met refusal happened madeOf checkedAs kindOf
+unfolding ones damagedAt seven sent bccOf every stored holding between isDigit isLetter isPrintable matching sameText decimal valueFrom valueOf numberAt layoutText pattern agrees fits leap thirty daysIn realDate realTime realClock goodDigits isAccountCharacter goodAccount goodRow goodTable tableText tableRead closed frameOf bracketed setTable signOn limit firstGood heldGood markGood receiverGood tablesGood factsGood registersGood wellFormed hearing listening confirming framing startGood bareShape content framedShape enclosed inner tableTold toldBy entry bareVerdict framedVerdict shapeVerdict verdict speedOf fallen tried acted signsOnBy symbol lineEnded confirmed heard taken character serial account password twos newMeter heldIn told toldAll toldMet shortPassword shortTried signedOn restarted daysBefore dayNumber weekday nextSecond tableFor zoneIn counted afterSilence silence tick pulse powerUp heardAs heardBy heardOf settles eventOf met refusal happened madeOf checkedAs kindOf below zonesGood factoryGood
 events = (
   record {
     receive = (seen (λ (a : Answer). a .number) refl, seen (λ (a : Answer). getD (a .next .registers .tables) 144 0) refl);
     receive-reply = (byte 0 refl, byte 1 refl);
     receive-password = (seen (λ (a : Answer). a .next .attempts) refl, seen (λ (a : Answer). a .next .mode) refl);
     receive-sign-on = (seen (λ (a : Answer). a .speed) refl, seen (λ (a : Answer). a .next .mode) refl);
-    receive-restart = (seen (λ (a : Answer). cond (a .next .receiver .mark) 1 0) refl, seen (λ (a : Answer). a .next .receiver .count) refl);
+    receive-restart = (seen (λ (a : Answer). a .next .receiver .mark) refl, seen (λ (a : Answer). a .next .receiver .count) refl);
     receive-refused = (seen (λ (a : Answer). a .number) refl, seen (λ (a : Answer). a .number) refl);
     «symbol_of» = (number refl, number refl);
     «speed_of» = (number refl, number refl);
@@ -70,13 +71,13 @@ events = (
   },
   record {
     «pass_second» = (seen (λ (a : Answer). a .next .registers .clock .time .second) refl, seen (λ (a : Answer). a .number) refl);
-    «take_pulse» = (seen (λ (a : Answer). a .next .registers .counters .t1) refl, seen (λ (a : Answer). a .number) refl);
+    «take_pulse» = (seen (λ (a : Answer). counterOf (a .next .registers .counters) 1) refl, seen (λ (a : Answer). a .number) refl);
     «power_up» = (seen (λ (a : Answer). a .next .attempts) refl, seen (λ (a : Answer). a .next .mode) refl);
   },
   record {
     «event_of» = (seen kindOf refl, seen kindOf refl);
     «refusal_of» = (number refl, number refl);
-    act = (seen (λ (a : Answer). a .next .registers .counters .t1) refl, seen (λ (a : Answer). a .next .registers .clock .time .second) refl);
+    act = (seen (λ (a : Answer). counterOf (a .next .registers .counters) 1) refl, seen (λ (a : Answer). a .next .registers .clock .time .second) refl);
     meet = (seen (λ (a : Answer). a .number) refl, seen (λ (a : Answer). a .number) refl);
     meet-reply = (byte 0 refl, byte 0 refl);
   },

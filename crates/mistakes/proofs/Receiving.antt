@@ -1,6 +1,5 @@
--- The wrong answers for `receiving`, `deciding` and `changes` are ruled out, by computing. Assumes nothing.
+-- The wrong answers for `state::setting`, `receiving`, `deciding` and `tariff` are ruled out, by computing. Assumes nothing.
 use mathlib.Core.Path.{refl}
-use mathlib.Core.Bool.{cond}
 use Prim.Native.Nat.{ℕ}
 use Rattle.line.specs.Characters.{seven}
 use Rattle.line.specs.Checksum.{bccOf}
@@ -16,6 +15,7 @@ use Rattle.frames.specs.Frames.{closed, frameOf}
 use Rattle.frames.specs.Commands.{bracketed, setTable}
 use Rattle.state.specs.declared.Receiver.{Receiver}
 use Rattle.state.specs.declared.Counters.{Counters}
+use Rattle.state.specs.Setting.{counterOf}
 use Rattle.receiving.specs.declared.Hearing.{Hearing}
 use Rattle.receiving.specs.declared.Hearing.the-variants.{Drop, Hold, Restart, Empty, Line, Confirm, Frame, TooLong}
 use Rattle.receiving.specs.Hearing.{hearing, listening, confirming, framing}
@@ -23,9 +23,9 @@ use Rattle.deciding.specs.declared.Verdict.{Verdict}
 use Rattle.deciding.specs.declared.Verdict.the-variants.{Refuse, Leave, Enter, Password, Read, WriteClock, WriteAccount, WriteTable}
 use Rattle.deciding.specs.Shape.{startGood, bareShape, content, framedShape}
 use Rattle.deciding.specs.Verdict.{entry, bareVerdict, framedVerdict, shapeVerdict, verdict}
-use Rattle.changes.specs.Zones.{tableFor, zoneIn, counted}
+use Rattle.tariff.specs.Zones.{tableFor, zoneIn, counted}
 use Rattle.mistakes.specs.Samples.{serial, account, twos, newMeter, used, heldIn}
-use Rattle.mistakes.specs.Receiving.{Hearings, Decisions, Changes}
+use Rattle.mistakes.specs.Receiving.{Setting, Hearings, Decisions, Tariff}
 use Rattle.mistakes.proofs.Differing.{seen, number, byte}
 
 -- each case as a number
@@ -55,21 +55,32 @@ hearings =
     record {
       hear = (seen hearingCase refl, seen hearingCase refl);
       «last_held» = (number refl, number refl);
-      keep = (seen (λ (r : Receiver). cond (r .mark) 1 0) refl, seen (λ (r : Receiver). r .count) refl);
-      restart = (seen (λ (r : Receiver). cond (r .mark) 1 0) refl, seen (λ (r : Receiver). r .count) refl);
+      keep = (seen (λ (r : Receiver). r .mark) refl, seen (λ (r : Receiver). r .count) refl);
+      restart = (seen (λ (r : Receiver). r .mark) refl, seen (λ (r : Receiver). r .count) refl);
     }
 
 pub decisions : Decisions
 unfolding seven bccOf every between isDigit isPrintable matching sameText decimal layoutText agrees fits tableText closed frameOf bracketed setTable startGood bareShape content framedShape entry bareVerdict framedVerdict shapeVerdict verdict verdictCase twos
 decisions = record { decide = (seen verdictCase refl, seen verdictCase refl) }
 
-pub changes : Changes
-unfolding stored decimal leap daysBefore dayNumber weekday tableFor zoneIn counted serial account twos newMeter used heldIn
-changes =
+pub setting : Setting
+unfolding stored decimal serial account twos newMeter used heldIn
+setting =
     record {
+use Rattle.state.specs.Setting.{counterOf}
       ten = (byte 0 refl, byte 0 refl);
       «with_row» = (byte 144 refl, byte 145 refl);
+      «row_start» = (number refl, number refl);
+      «with_zones» = (seen (λ (c : Counters). counterOf c 1) refl, seen (λ (c : Counters). counterOf c 2) refl);
+      «zone_place» = (number refl, number refl);
+      «counter_of» = (number refl, number refl);
+    }
+
+pub tariff : Tariff
+unfolding stored decimal leap daysBefore dayNumber weekday tableFor zoneIn counted serial account twos newMeter used heldIn
+tariff =
+    record {
       «table_for» = (number refl, number refl);
       «zone_in» = (number refl, number refl);
-      count = (seen (λ (c : Counters). c .t2) refl, seen (λ (c : Counters). c .t1) refl);
+      count = (seen (λ (c : Counters). counterOf c 2) refl, seen (λ (c : Counters). counterOf c 1) refl);
     }

@@ -12,20 +12,20 @@ use Rattle.text.specs.Decimal.{decimal}
 use Rattle.text.specs.Layout.{layoutText}
 use Rattle.clock.specs.Dates.{leap, thirty, daysIn, realDate, realTime}
 use Rattle.clock.specs.Seconds.{realClock}
-use Rattle.values.specs.Registers.{goodDigits, isAccountCharacter, goodAccount}
+use Rattle.values.specs.Registers.{goodDigits, isAccountCharacter, goodAccount, energyNo}
 use Rattle.values.specs.Texts.{serialText, tableText, dateText, timeText, counterText}
 use Rattle.frames.specs.Frames.{closed, sealed, frameOf, bareFrame, blockOf}
 use Rattle.frames.specs.Commands.{bracketed}
 use Rattle.state.specs.declared.Meter.{Meter}
 use Rattle.state.specs.declared.Made.{Made}
-use Rattle.state.specs.WellFormed.{limit, firstGood, heldGood, markGood, receiverGood, countersGood, tablesGood, factsGood, registersGood, wellFormed}
+use Rattle.state.specs.WellFormed.{limit, firstGood, heldGood, markGood, receiverGood, below, zonesGood, tablesGood, factsGood, factoryGood, registersGood, wellFormed}
 use Rattle.state.specs.Making.{madeOf}
 use Rattle.datasets.specs.Sets.{dataSet, linesOf}
-use Rattle.replies.specs.Shown.{total, energy, rowOf}
+use Rattle.replies.specs.Shown.{sumOf, total, energy, rowOf}
 use Rattle.replies.specs.Answers.{askedSets, askedData}
 use Rattle.replies.specs.Block.{factSets, energySets, tableSets, blockSets, blockData}
 use Rattle.replies.specs.Fixed.{passwordAsk}
-use Rattle.changes.specs.Changes.{inMode}
+use Rattle.state.specs.Setting.{inMode}
 use Rattle.mistakes.specs.Samples.{serial, account, password, twos, newMeter, used}
 use Rattle.mistakes.specs.Sending.{Frames, States, Sets, Replies}
 use Rattle.mistakes.proofs.Differing.{seen, number, flag, byte}
@@ -36,13 +36,13 @@ frames = record { seal = (byte 4 refl, byte 5 refl); send = (byte 1 refl, byte 0
 
 -- the states, and that a new meter in programming mode is well-formed
 computed : States × (wellFormed (inMode newMeter 4) ≡ true)
-unfolding every between isDigit isLetter decimal leap thirty daysIn realDate realTime realClock goodDigits isAccountCharacter goodAccount limit firstGood heldGood markGood receiverGood countersGood tablesGood factsGood registersGood wellFormed madeOf serial account password newMeter
+unfolding every between isDigit isLetter decimal leap thirty daysIn realDate realTime realClock goodDigits isAccountCharacter goodAccount limit firstGood heldGood markGood receiverGood below zonesGood tablesGood factsGood factoryGood registersGood wellFormed madeOf serial account password newMeter
 computed = (
   record {
     «limit_of» = (number refl, number refl);
     «is_well_formed» = (flag refl, flag refl);
     blank = (seen (λ (m : Meter). m .attempts) refl, seen (λ (m : Meter). getD (m .registers .account) 0 0) refl);
-    make = (seen (λ (r : Made). r .number) refl, seen (λ (r : Made). getD (r .meter .registers .serial) 0 0) refl);
+    make = (seen (λ (r : Made). r .number) refl, seen (λ (r : Made). getD (r .meter .registers .facts .serial) 0 0) refl);
   },
   refl,
 )
@@ -54,7 +54,7 @@ pub ready-formed : wellFormed (inMode newMeter 4) ≡ true
 ready-formed = computed .1
 
 pub sets : Sets
-unfolding stored decimal layoutText serialText tableText dateText timeText counterText dataSet serial account twos
+unfolding stored decimal layoutText serialText tableText dateText timeText counterText dataSet energyNo serial account twos
 sets =
     record {
       «put_time_set» = (byte 4 refl, byte 15 refl);
@@ -66,7 +66,7 @@ sets =
     }
 
 pub replies : Replies
-unfolding ones seven sent bccOf holding closed frameOf bareFrame blockOf bracketed stored decimal layoutText serialText tableText dateText timeText counterText dataSet linesOf total energy rowOf askedSets askedData factSets energySets tableSets blockSets blockData passwordAsk serial account twos newMeter used
+unfolding ones seven sent bccOf holding closed frameOf bareFrame blockOf bracketed stored decimal layoutText serialText tableText dateText timeText counterText dataSet linesOf sumOf total energy energyNo rowOf askedSets askedData factSets energySets tableSets blockSets blockData passwordAsk serial account twos newMeter used
 replies =
     record {
       identify = (byte 0 refl, byte 17 refl);

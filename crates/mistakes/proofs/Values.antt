@@ -19,7 +19,7 @@ use Rattle.values.specs.declared.reading.TableRead.{TableRead}
 use Rattle.values.specs.declared.characters.SerialRead.{SerialRead}
 use Rattle.values.specs.declared.characters.AccountRead.{AccountRead}
 use Rattle.values.specs.declared.characters.RowRead.{RowRead}
-use Rattle.values.specs.Registers.{goodDigits, isAccountCharacter, goodAccount, goodRow, goodTable, goodZone}
+use Rattle.values.specs.Registers.{goodDigits, isAccountCharacter, goodAccount, goodRow, goodTable, goodZone, energyNo}
 use Rattle.values.specs.Texts.{serialText, tableText, dateText, timeText, clockText, counterText}
 use Rattle.values.specs.Reading.{dateRead, timeRead, clockRead, counterRead, tableRead}
 use Rattle.values.specs.Serials.{serialRead, accountRead, rowRead}
@@ -41,7 +41,7 @@ clock =
     }
 
 pub rules : Rules
-unfolding every between isDigit isLetter goodDigits isAccountCharacter goodAccount goodRow goodTable goodZone
+unfolding every between isDigit isLetter goodDigits isAccountCharacter goodAccount goodRow goodTable goodZone energyNo
 rules =
     record {
       «is_digits» = (flag refl, flag refl);
@@ -50,6 +50,7 @@ rules =
       «is_row» = (flag refl, flag refl);
       «is_table» = (flag refl, flag refl);
       «is_zone» = (flag refl, flag refl);
+      «energy_no» = (number refl, number refl);
     }
 
 pub reading : Reading × Characters

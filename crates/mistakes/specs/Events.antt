@@ -6,11 +6,12 @@ use Rattle.line.specs.Characters.{sent}
 use Rattle.text.specs.Writing.{holding}
 use Rattle.frames.specs.Frames.{frameOf, onWire}
 use Rattle.frames.specs.Commands.{P1, W1, bracketed, setTable}
+use Rattle.state.specs.Sizes.{replyRoom}
 use Rattle.state.specs.declared.Meter.{Meter}
 use Rattle.replies.specs.Fixed.{accepted, refused, identification}
 use Rattle.receiving.specs.Receivers.{restartedReceiver}
-use Rattle.state.specs.Making.{emptyReceiver, madeOf}
-use Rattle.changes.specs.Changes.{withReceiver, inMode, withAttempts, withRegisters, withClock, withCounters}
+use Rattle.state.specs.Making.{emptyReceiver, noCounters, madeOf}
+use Rattle.state.specs.Setting.{withHeld, withMark, withReceiver, inMode, withAttempts, withRegisters, withClock, withCounters, withZones}
 use Rattle.meter.specs.Outcomes.{Outcome, answerOf, speedOf, silent, unheard, saying, nak, ack}
 use Rattle.meter.specs.Character.{symbol, character}
 use Rattle.meter.specs.Events.{silence, tick, pulse, powerUp}
@@ -27,34 +28,34 @@ unfoldable pub told : Meter
 told = heldIn 4 (take 35 (frameOf W1 (setTable 7 twos)))
 
 unfoldable pub toldAll : Outcome
-toldAll = character told 2048 (sent (getD (frameOf W1 (setTable 7 twos)) 35 0))
+toldAll = character told replyRoom (sent (getD (frameOf W1 (setTable 7 twos)) 35 0))
 
 -- the same as an event in numbers
 unfoldable pub toldMet : Outcome
-toldMet = met told 2048 (eventOf 0 (sent (getD (frameOf W1 (setTable 7 twos)) 35 0)))
+toldMet = met told replyRoom (eventOf 0 (sent (getD (frameOf W1 (setTable 7 twos)) 35 0)))
 
 -- a password of three digits, all but its BCC held; and what its BCC comes to
 unfoldable pub shortPassword : Meter
 shortPassword = heldIn 2 (take 10 (frameOf P1 (bracketed (49 ∷ 50 ∷ 51 ∷ []))))
 
 unfoldable pub shortTried : Outcome
-shortTried = character shortPassword 2048 (sent (getD (frameOf P1 (bracketed (49 ∷ 50 ∷ 51 ∷ []))) 10 0))
+shortTried = character shortPassword replyRoom (sent (getD (frameOf P1 (bracketed (49 ∷ 50 ∷ 51 ∷ []))) 10 0))
 
 -- /?! CR held, and its LF
 unfoldable pub signedOn : Outcome
-signedOn = character (heldIn 0 (47 ∷ 63 ∷ 33 ∷ 13 ∷ [])) 2048 (sent 10)
+signedOn = character (heldIn 0 (47 ∷ 63 ∷ 33 ∷ 13 ∷ [])) replyRoom (sent 10)
 
 -- a damaged character held, then a SOH
 unfoldable pub restarted : Outcome
-restarted = character (withReceiver (inMode newMeter 2) (record { held = 1 ∷ replicate 62 0; count = 2; mark = true })) 2048 (sent 1)
+restarted = character (withReceiver (inMode newMeter 2) (withMark (withHeld emptyReceiver (restartedReceiver 1 .held) 2) 1)) replyRoom (sent 1)
 
 -- of `meter`
 pub record Receiving : Type 0 where
   -- NAK to a good write; ACK to it, and the old tables
   pub receive : RuledOut (answerOf toldAll) (answerOf (nak 9 told)) × RuledOut (answerOf toldAll) (answerOf (ack (inMode newMeter 4)))
   -- NAK in the buffer; ACK with the buffer's other bytes cleared
-  pub receive-reply : RuledOut (holding (replicate 2048 9) (onWire (toldAll .reply))) (holding (replicate 2048 9) (onWire refused))
-      × RuledOut (holding (replicate 2048 9) (onWire (toldAll .reply))) (holding (replicate 2048 0) (onWire accepted))
+  pub receive-reply : RuledOut (holding (replicate replyRoom 9) (onWire (toldAll .reply))) (holding (replicate replyRoom 9) (onWire refused))
+      × RuledOut (holding (replicate replyRoom 9) (onWire (toldAll .reply))) (holding (replicate replyRoom 0) (onWire accepted))
   -- one attempt counted for a malformed password; refused, and no way back to mode 0
   pub receive-password : RuledOut (answerOf shortTried) (answerOf (nak 9 (withAttempts shortPassword 1)))
       × RuledOut (answerOf shortTried) (answerOf (saying 9 5 refused (inMode newMeter 2)))
@@ -63,9 +64,9 @@ pub record Receiving : Type 0 where
       × RuledOut (answerOf signedOn) (answerOf (saying 1 0 identification newMeter))
   -- the mark kept at a restart; a SOH taken for one more character
   pub receive-restart : RuledOut (answerOf restarted)
-      (answerOf (silent 0 (withReceiver (inMode newMeter 2) (record { held = restartedReceiver 1 .held; count = 1; mark = true }))))
+      (answerOf (silent 0 (withReceiver (inMode newMeter 2) (withMark (restartedReceiver 1) 1))))
       × RuledOut (answerOf restarted)
-      (answerOf (silent 0 (withReceiver (inMode newMeter 2) (record { held = 1 ∷ 0 ∷ 1 ∷ replicate 60 0; count = 3; mark = true }))))
+      (answerOf (silent 0 (withReceiver (inMode newMeter 2) (withMark (withHeld emptyReceiver (1 ∷ 0 ∷ 1 ∷ replicate 60 0) 3) 1))))
   -- a malformed state said before a short buffer; a character taken in a short buffer
   pub receive-refused : RuledOut (answerOf (character (withAttempts newMeter 4) 2047 47)) (answerOf (unheard 14 (withAttempts newMeter 4)))
       × RuledOut (answerOf (character newMeter 2047 (sent 47))) (answerOf (silent 0 (withReceiver newMeter (restartedReceiver 47))))
@@ -74,8 +75,8 @@ pub record Receiving : Type 0 where
   -- 9600 baud before the password is asked for; 300 baud while it is
   pub «speed_of» : RuledOut (speedOf 1) 5 × RuledOut (speedOf 2) 0
   -- no NAK in mode 1; NAK at speed 5
-  pub «hear_nothing» : RuledOut (answerOf (silence (inMode newMeter 1) 2048)) (answerOf (silent 1 newMeter))
-      × RuledOut (answerOf (silence (inMode newMeter 1) 2048)) (answerOf (saying 1 5 refused newMeter))
+  pub «hear_nothing» : RuledOut (answerOf (silence (inMode newMeter 1) replyRoom)) (answerOf (silent 1 newMeter))
+      × RuledOut (answerOf (silence (inMode newMeter 1) replyRoom)) (answerOf (saying 1 5 refused newMeter))
 
 -- of `meter::passing`
 pub record Passing : Type 0 where
@@ -85,9 +86,9 @@ pub record Passing : Type 0 where
       (answerOf (silent 1 (withRegisters (withAttempts newMeter 4) (withClock (newMeter .registers) (clockAt 2000 1 1 12 0 1)))))
   -- the next zone's counter; more than 1,000,000 Wh taken
   pub «take_pulse» : RuledOut (answerOf (pulse newMeter 5))
-      (answerOf (silent 1 (withRegisters newMeter (withCounters (newMeter .registers) (record { t1 = 0; t2 = 5; t3 = 0; t4 = 0 })))))
+      (answerOf (silent 1 (withRegisters newMeter (withCounters (newMeter .registers) (withZones noCounters (0 ∷ 5 ∷ 0 ∷ 0 ∷ []))))))
       × RuledOut (answerOf (pulse newMeter 1000001))
-      (answerOf (silent 1 (withRegisters newMeter (withCounters (newMeter .registers) (record { t1 = 1000001; t2 = 0; t3 = 0; t4 = 0 })))))
+      (answerOf (silent 1 (withRegisters newMeter (withCounters (newMeter .registers) (withZones noCounters (1000001 ∷ 0 ∷ 0 ∷ 0 ∷ []))))))
   -- the attempts kept; programming mode kept
   pub «power_up» : RuledOut (answerOf (powerUp (withAttempts newMeter 3))) (answerOf (silent 1 (withAttempts newMeter 3)))
       × RuledOut (answerOf (powerUp (inMode newMeter 4))) (answerOf (silent 1 (inMode newMeter 4)))
@@ -103,19 +104,19 @@ pub record Happening : Type 0 where
       × RuledOut (answerOf (happened newMeter (eventOf 2 5))) (answerOf (silent 1 newMeter))
   -- a malformed state said before a pulse that is too much; an event that is none taken for silence
   pub meet : RuledOut (answerOf (met (withAttempts newMeter 4) 0 (Pulse 1000001))) (answerOf (unheard 14 (withAttempts newMeter 4)))
-      × RuledOut (answerOf (met newMeter 2048 Unknown)) (answerOf (met newMeter 2048 Silence))
+      × RuledOut (answerOf (met newMeter replyRoom Unknown)) (answerOf (met newMeter replyRoom Silence))
   -- NAK to a good write; the buffer as it was
-  pub meet-reply : RuledOut (holding (replicate 2048 9) (onWire (toldMet .reply))) (holding (replicate 2048 9) (onWire refused))
-      × RuledOut (holding (replicate 2048 9) (onWire (toldMet .reply))) (replicate 2048 9)
+  pub meet-reply : RuledOut (holding (replicate replyRoom 9) (onWire (toldMet .reply))) (holding (replicate replyRoom 9) (onWire refused))
+      × RuledOut (holding (replicate replyRoom 9) (onWire (toldMet .reply))) (replicate replyRoom 9)
 
 -- of `settling`
 pub record Settling : Type 0 where
   -- the last character of a frame settled with nothing said; a character taken in a short buffer
-  pub settle : RuledOut (settles told 2048 (Character (sent (getD (frameOf W1 (setTable 7 twos)) 35 0)))) (goesOn 4 emptyReceiver)
+  pub settle : RuledOut (settles told replyRoom (Character (sent (getD (frameOf W1 (setTable 7 twos)) 35 0)))) (goesOn 4 emptyReceiver)
       × RuledOut (settles newMeter 2047 (Character (sent 47))) (goesOn 0 (restartedReceiver 47))
   -- a malformed state said before a pulse that is too much; an event that is none left to the meter
   pub settle-refused : RuledOut (settles (withAttempts newMeter 4) 0 (Pulse 1000001)) (refuses 14 (newMeter .receiver))
-      × RuledOut (settles newMeter 2048 Unknown) (settles newMeter 2048 Silence)
+      × RuledOut (settles newMeter replyRoom Unknown) (settles newMeter replyRoom Silence)
 
 -- of `firmware`
 pub record Lent : Type 0 where
@@ -124,7 +125,7 @@ pub record Lent : Type 0 where
   -- NAK's number; the speed of the mode before the session
   pub «dirgemist_meter_meet» : RuledOut (toldMet .number) 9 × RuledOut (toldMet .speed) 0
   -- the old tables in the record; the buffer as it was
-  pub dirgemist-meter-meet-lent : RuledOut (toldMet .next) (inMode newMeter 4) × RuledOut (holding (replicate 2048 9) (onWire (toldMet .reply))) (replicate 2048 9)
+  pub dirgemist-meter-meet-lent : RuledOut (toldMet .next) (inMode newMeter 4) × RuledOut (holding (replicate replyRoom 9) (onWire (toldMet .reply))) (replicate replyRoom 9)
   -- a serial of nine digits taken; the account of bad facts kept
   pub «dirgemist_meter_make» : RuledOut (madeOf (take 9 serial) account password (clockAt 2000 1 1 12 0 0) .number) 1
       × RuledOut (madeOf serial account (take 7 password) (clockAt 2000 1 1 12 0 0) .meter .registers .account) account

@@ -3,7 +3,7 @@ use mathlib.Core.List.{List, [], _∷_, _++_}
 use Prim.Native.Nat.{ℕ}
 use lib.ListN.{take, replicate}
 use Rattle.state.specs.declared.Meter.{Meter}
-use Rattle.changes.specs.Changes.{inMode, withAttempts}
+use Rattle.state.specs.Setting.{inMode, withAttempts}
 use Rattle.post.specs.Grammar.{Entry, lineText, postText}
 use Rattle.post.specs.Place.{CheckedAs}
 use Rattle.export.specs.Frames.{framesOf, ExportedAs}

@@ -1,19 +1,21 @@
--- Two wrong answers for each call of `receiving`, `deciding` and `changes`; but none where the promise is one record literal.
+-- Two wrong answers for each call of `state::setting`, `receiving`, `deciding` and `tariff`; but none where the promise is one record literal.
 use mathlib.Core.Bool.{true, false}
 use mathlib.Core.List.{[], _∷_, _++_}
+use Prim.Native.Nat.{_*_}
 use lib.ListN.{getD, take, drop, set, replicate}
 use Rattle.text.specs.Writing.{stored}
 use Rattle.clock.specs.Seconds.{dateOf}
 use Rattle.frames.specs.Frames.{frameOf}
 use Rattle.frames.specs.Commands.{P1, W1, bracketed, setTable}
+use Rattle.state.specs.Sizes.{rowLength, tables}
 use Rattle.state.specs.Making.{emptyReceiver, noCounters}
 use Rattle.receiving.specs.declared.Hearing.the-variants.{Hold, Restart}
 use Rattle.receiving.specs.Hearing.{hearing}
 use Rattle.receiving.specs.Receivers.{lastHeld, keptReceiver, restartedReceiver}
 use Rattle.deciding.specs.declared.Verdict.the-variants.{Password, WriteTable}
 use Rattle.deciding.specs.Verdict.{verdict}
-use Rattle.changes.specs.Changes.{withTables}
-use Rattle.changes.specs.Zones.{tableFor, zoneIn, counted}
+use Rattle.state.specs.Setting.{withHeld, withMark, withReceiver, inMode, withAttempts, withRegisters, withClock, withAccount, withTables, withCounters, withZones, zonePlace, counterOf, rowStart, withRow}
+use Rattle.tariff.specs.Zones.{tableFor, zoneIn, counted}
 use Rattle.mistakes.specs.RuledOut.{RuledOut}
 use Rattle.mistakes.specs.Samples.{serial, twos, used, heldIn}
 
@@ -25,9 +27,9 @@ pub record Hearings : Type 0 where
   pub «last_held» : RuledOut (lastHeld (heldIn 2 (1 ∷ 66 ∷ 48 ∷ []) .receiver)) 1 × RuledOut (lastHeld (heldIn 2 (1 ∷ 66 ∷ 48 ∷ []) .receiver)) 66
   -- a mark that the next good character takes away; held, and not counted
   pub keep : RuledOut (keptReceiver (keptReceiver (restartedReceiver 1) 0 true) 66 false) (keptReceiver (keptReceiver (restartedReceiver 1) 0 false) 66 false)
-      × RuledOut (keptReceiver (restartedReceiver 1) 66 false) (record { held = set (restartedReceiver 1 .held) 1 66; count = 1; mark = false })
+      × RuledOut (keptReceiver (restartedReceiver 1) 66 false) (withHeld emptyReceiver (set (restartedReceiver 1 .held) 1 66) 1)
   -- the mark kept at a restart; the start not held
-  pub restart : RuledOut (restartedReceiver 1) (record { held = restartedReceiver 1 .held; count = 1; mark = true }) × RuledOut (restartedReceiver 1) emptyReceiver
+  pub restart : RuledOut (restartedReceiver 1) (withMark (restartedReceiver 1) 1) × RuledOut (restartedReceiver 1) emptyReceiver
 
 -- of `deciding`
 pub record Decisions : Type 0 where
@@ -35,18 +37,30 @@ pub record Decisions : Type 0 where
   pub decide : RuledOut (verdict 2 (take 10 (frameOf P1 (bracketed (49 ∷ 50 ∷ 51 ∷ [])))) false (getD (frameOf P1 (bracketed (49 ∷ 50 ∷ 51 ∷ []))) 10 0)) Password
       × RuledOut (verdict 3 (take 35 (frameOf W1 (setTable 7 twos))) false (getD (frameOf W1 (setTable 7 twos)) 35 0)) (WriteTable (record { 0 = 7 }))
 
--- of `changes`
-pub record Changes : Type 0 where
+-- of `state::setting`
+pub record Setting : Type 0 where
   -- zeros; one character too far on
   pub ten : RuledOut serial (replicate 10 48) × RuledOut serial (drop 1 serial ++ (0 ∷ []))
   -- the row of table 7 in table 8; its first character alone
-  pub «with_row» : RuledOut (stored (replicate 576 49) 144 twos) (stored (replicate 576 49) 168 twos)
-      × RuledOut (stored (replicate 576 49) 144 twos) (stored (replicate 576 49) 144 (50 ∷ []))
+  pub «with_row» : RuledOut (withRow (newMeter .registers .tables) 7 twos) (withRow (newMeter .registers .tables) 8 twos)
+      × RuledOut (withRow (newMeter .registers .tables) 7 twos) (withRow (newMeter .registers .tables) 7 (50 ∷ []))
+  -- a row too far on; a character a table
+  pub «row_start» : RuledOut (rowStart 2) 48 × RuledOut (rowStart 2) 1
+  -- the old counters; the first of the new ones alone
+  pub «with_zones» : RuledOut (withZones noCounters (1 ∷ 2 ∷ 4 ∷ 8 ∷ [])) noCounters
+      × RuledOut (withZones noCounters (1 ∷ 2 ∷ 4 ∷ 8 ∷ [])) (withZones noCounters (1 ∷ 0 ∷ 0 ∷ 0 ∷ []))
+  -- a place too far on; the first zone's for the last
+  pub «zone_place» : RuledOut (zonePlace 1) 1 × RuledOut (zonePlace 4) 0
+  -- the counter of the zone before; of the zone behind
+  pub «counter_of» : RuledOut (counterOf (used .counters) 2) 1 × RuledOut (counterOf (used .counters) 2) 4
+
+-- of `tariff`
+pub record Tariff : Type 0 where
   -- a working day's table on a Saturday; a Saturday's on a Monday
   pub «table_for» : RuledOut (tableFor (dateOf 2000 1 1)) 1 × RuledOut (tableFor (dateOf 2000 1 3)) 13
   -- the zone of the hour before; the character for its number
-  pub «zone_in» : RuledOut (zoneIn (withTables used (stored (replicate 576 49) 300 (50 ∷ [])))) 1
-      × RuledOut (zoneIn (withTables used (stored (replicate 576 49) 300 (50 ∷ [])))) 50
+  pub «zone_in» : RuledOut (zoneIn (withTables used (stored (newMeter .registers .tables) 300 (50 ∷ [])))) 1
+      × RuledOut (zoneIn (withTables used (stored (newMeter .registers .tables) 300 (50 ∷ [])))) 50
   -- the next zone's counter; 1,000,000,000 Wh and no return to 0
-  pub count : RuledOut (counted noCounters 2 5) (record { t1 = 0; t2 = 0; t3 = 5; t4 = 0 })
-      × RuledOut (counted (record { t1 = 999999999; t2 = 0; t3 = 0; t4 = 0 }) 1 1) (record { t1 = 1000000000; t2 = 0; t3 = 0; t4 = 0 })
+  pub count : RuledOut (counted noCounters 2 5) (withZones noCounters (0 ∷ 0 ∷ 5 ∷ 0 ∷ []))
+      × RuledOut (counted (withZones noCounters (999999999 ∷ 0 ∷ 0 ∷ 0 ∷ [])) 1 1) (withZones noCounters (1000000000 ∷ 0 ∷ 0 ∷ 0 ∷ []))

@@ -1,16 +1,16 @@
 -- What the wrong answers are said of: a clock, the facts of a meter, rows and meters.
-use mathlib.Core.Bool.{false}
-use mathlib.Core.List.{List}
+use mathlib.Core.List.{List, [], _∷_}
 use Prim.Native.Nat.{ℕ}
 use lib.ListN.{length, replicate}
 use Rattle.text.specs.Decimal.{decimal}
 use Rattle.text.specs.Writing.{stored}
+use Rattle.values.specs.Registers.{rowLength}
 use Rattle.clock.specs.declared.Clock.{Clock}
 use Rattle.clock.specs.Seconds.{dateOf, timeOf}
 use Rattle.state.specs.declared.Registers.{Registers}
 use Rattle.state.specs.declared.Meter.{Meter}
-use Rattle.state.specs.Making.{meterOf}
-use Rattle.changes.specs.Changes.{withReceiver, withCounters, withTables, inMode}
+use Rattle.state.specs.Making.{emptyReceiver, noCounters, factsOf, meterOf}
+use Rattle.state.specs.Setting.{withHeld, withReceiver, withCounters, withTables, withZones, withRow, inMode}
 
 abbrev pub clockAt : ℕ → ℕ → ℕ → ℕ → ℕ → ℕ → Clock
 clockAt y m d h n s = record { date = dateOf y m d; time = timeOf h n s }
@@ -33,16 +33,16 @@ password = decimal 8 12345678
 
 -- 24 times '2'
 unfoldable pub twos : List ℕ
-twos = replicate 24 50
+twos = replicate rowLength 50
 
 unfoldable pub newMeter : Meter
-newMeter = meterOf serial account password noon
+newMeter = meterOf (factsOf serial password) account noon
 
 -- 1, 2, 4 and 8 Wh, and table 8 all '2'
 unfoldable pub used : Registers
 unfolding newMeter
-used = withTables (withCounters (newMeter .registers) (record { t1 = 1; t2 = 2; t3 = 4; t4 = 8 })) (stored (replicate 576 49) 168 twos)
+used = withTables (withCounters (newMeter .registers) (withZones noCounters (1 ∷ 2 ∷ 4 ∷ 8 ∷ []))) (withRow (newMeter .registers .tables) 8 twos)
 
 -- in a mode, holding some characters
 unfoldable pub heldIn : ℕ → List ℕ → Meter
-heldIn mode s = withReceiver (inMode newMeter mode) (record { held = stored (replicate 63 0) 0 s; count = length s; mark = false })
+heldIn mode s = withReceiver (inMode newMeter mode) (withHeld emptyReceiver (stored (emptyReceiver .held) 0 s) (length s))

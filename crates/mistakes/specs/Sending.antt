@@ -1,20 +1,24 @@
 -- Two wrong answers for each call of `frames`, `state`, `datasets` and `replies`.
 use mathlib.Core.Bool.{true}
 use mathlib.Core.List.{[], _∷_, _++_}
+use Prim.Native.Nat.{_*_}
 use lib.ListN.{take, drop, replicate}
 use Rattle.text.specs.Writing.{stored, holding}
 use Rattle.clock.specs.Seconds.{dateOf, timeOf}
+use Rattle.values.specs.declared.Energy.the-variants.{Total}
+use Rattle.values.specs.Registers.{energyNo, zoneEnergy}
 use Rattle.values.specs.Texts.{serialText, timeText, dateText}
 use Rattle.frames.specs.Frames.{sealed, frameOf, bareFrame, blockOf, onWire}
 use Rattle.frames.specs.Commands.{P0, P1, bracketed}
+use Rattle.state.specs.Sizes.{rowLength, tables, replyRoom}
 use Rattle.state.specs.WellFormed.{limit, wellFormed}
-use Rattle.state.specs.Making.{meterOf, blankMeter, madeOf}
+use Rattle.state.specs.Making.{emptyReceiver, factsOf, meterOf, blankMeter, madeOf}
 use Rattle.datasets.specs.Sets.{dataSet, linesOf, lineOf, timeSet, dateSet, serialSet, accountSet, energySet, tableSet}
 use Rattle.replies.specs.declared.Ask.the-variants.{Energy, Table}
 use Rattle.replies.specs.Answers.{askedData}
 use Rattle.replies.specs.Block.{blockSets, blockData}
 use Rattle.replies.specs.Fixed.{identification, passwordAsk, accepted, refused}
-use Rattle.changes.specs.Changes.{withReceiver, withAttempts, withRegisters, withAccount, withTables}
+use Rattle.state.specs.Setting.{withMark, withReceiver, withAttempts, withRegisters, withAccount, withTables}
 use Rattle.mistakes.specs.RuledOut.{RuledOut}
 use Rattle.mistakes.specs.Samples.{noon, serial, account, password, twos, newMeter, used}
 
@@ -32,14 +36,14 @@ pub record States : Type 0 where
   -- a 32nd character in mode 0; the sixth of a confirmation
   pub «limit_of» : RuledOut (limit 0) 32 × RuledOut (limit 1) 6
   -- the tables not looked at; a mark on an empty receiver
-  pub «is_well_formed» : RuledOut (wellFormed (withRegisters newMeter (withTables (newMeter .registers) (replicate 576 53)))) true
-      × RuledOut (wellFormed (withReceiver newMeter (record { held = replicate 63 0; count = 0; mark = true }))) true
+  pub «is_well_formed» : RuledOut (wellFormed (withRegisters newMeter (withTables (newMeter .registers) (replicate (tables * rowLength) 53)))) true
+      × RuledOut (wellFormed (withReceiver newMeter (withMark emptyReceiver 1))) true
   -- one failed attempt at the start; an account of zeros
   pub blank : RuledOut blankMeter (withAttempts blankMeter 1)
       × RuledOut blankMeter (withRegisters blankMeter (withAccount (blankMeter .registers) (replicate 10 48)))
   -- a serial of letters taken; 15 with a state of the bad facts
-  pub make : RuledOut (madeOf account account password noon) (record { number = 1; meter = meterOf account account password noon })
-      × RuledOut (madeOf account account password noon) (record { number = 15; meter = meterOf account account password noon })
+  pub make : RuledOut (madeOf account account password noon) (record { number = 1; meter = meterOf (factsOf account password) account noon })
+      × RuledOut (madeOf account account password noon) (record { number = 15; meter = meterOf (factsOf account password) account noon })
 
 -- of `datasets`
 pub record Sets : Type 0 where
@@ -56,8 +60,8 @@ pub record Sets : Type 0 where
   pub «put_account_set» : RuledOut (stored (replicate 19 0) 0 (lineOf (accountSet account))) (dataSet (serialSet serial .address) account)
       × RuledOut (stored (replicate 19 0) 0 (lineOf (accountSet (replicate 10 32)))) (lineOf (accountSet []) ++ replicate 10 0)
   -- the total's address for T1; Wh shown as kWh
-  pub «put_energy_set» : RuledOut (stored (replicate 24 0) 0 (lineOf (energySet 1 1500))) (lineOf (energySet 0 1500))
-      × RuledOut (stored (replicate 24 0) 0 (lineOf (energySet 1 1500))) (lineOf (energySet 1 1500000))
+  pub «put_energy_set» : RuledOut (stored (replicate 24 0) 0 (lineOf (energySet (energyNo (zoneEnergy 1)) 1500))) (lineOf (energySet 0 1500))
+      × RuledOut (stored (replicate 24 0) 0 (lineOf (energySet (energyNo (zoneEnergy 1)) 1500))) (lineOf (energySet 1 1500000))
   -- the number of the next table; the row without its last character
   pub «put_table_set» : RuledOut (stored (replicate 36 0) 0 (lineOf (tableSet 7 twos))) (lineOf (tableSet 8 twos))
       × RuledOut (stored (replicate 36 0) 0 (lineOf (tableSet 7 twos))) (lineOf (tableSet 7 (take 23 twos)) ++ (0 ∷ []))
@@ -75,9 +79,9 @@ pub record Replies : Type 0 where
   pub «ask_password» : RuledOut (holding (replicate 12 0) (onWire passwordAsk)) (onWire (frameOf P1 (bracketed (48 ∷ 48 ∷ 48 ∷ 48 ∷ []))))
       × RuledOut (holding (replicate 12 0) (onWire passwordAsk)) (holding (replicate 12 0) (onWire (bareFrame P0)))
   -- a total without the fourth counter; the row of the next table
-  pub answer : RuledOut (holding (replicate 2048 0) (onWire (blockOf (askedData used (Energy 0))))) (holding (replicate 2048 0) (onWire (blockOf (lineOf (energySet 0 7)))))
-      × RuledOut (holding (replicate 2048 0) (onWire (blockOf (askedData used (Table (record { 0 = 7 }))))))
-      (holding (replicate 2048 0) (onWire (blockOf (lineOf (tableSet 7 twos)))))
+  pub answer : RuledOut (holding (replicate replyRoom 0) (onWire (blockOf (askedData used (Energy Total))))) (holding (replicate replyRoom 0) (onWire (blockOf (lineOf (energySet 0 7)))))
+      × RuledOut (holding (replicate replyRoom 0) (onWire (blockOf (askedData used (Table (record { 0 = 7 }))))))
+      (holding (replicate replyRoom 0) (onWire (blockOf (lineOf (tableSet 7 twos)))))
   -- one table too few; no last line
-  pub «data_block» : RuledOut (holding (replicate 2048 0) (onWire (blockOf (blockData 24 used)))) (holding (replicate 2048 0) (onWire (blockOf (blockData 23 used))))
-      × RuledOut (holding (replicate 2048 0) (onWire (blockOf (blockData 24 used)))) (holding (replicate 2048 0) (onWire (blockOf (linesOf (blockSets 24 used)))))
+  pub «data_block» : RuledOut (holding (replicate replyRoom 0) (onWire (blockOf (blockData tables used)))) (holding (replicate replyRoom 0) (onWire (blockOf (blockData 23 used))))
+      × RuledOut (holding (replicate replyRoom 0) (onWire (blockOf (blockData tables used)))) (holding (replicate replyRoom 0) (onWire (blockOf (linesOf (blockSets tables used)))))

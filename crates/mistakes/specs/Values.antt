@@ -7,7 +7,8 @@ use Rattle.text.specs.Decimal.{decimal}
 use Rattle.clock.specs.Dates.{leap, daysIn, realDate, realTime}
 use Rattle.clock.specs.Seconds.{realClock, dateOf, timeOf, nextSecond}
 use Rattle.clock.specs.Weekday.{weekday}
-use Rattle.values.specs.Registers.{goodDigits, isAccountCharacter, goodAccount, goodRow, goodTable, goodZone}
+use Rattle.values.specs.Registers.{goodDigits, isAccountCharacter, goodAccount, goodRow, goodTable, goodZone, energyNo, zoneEnergy}
+use Rattle.values.specs.declared.Energy.the-variants.{Total}
 use Rattle.values.specs.Texts.{serialText, tableText, dateText, timeText, clockText, counterText}
 use Rattle.values.specs.Reading.{dateRead, timeRead, clockRead, counterRead, tableRead}
 use Rattle.values.specs.Serials.{serialRead, accountRead, rowRead}
@@ -46,6 +47,8 @@ pub record Rules : Type 0 where
   pub «is_table» : RuledOut (goodTable 24 25) true × RuledOut (goodTable 24 0) true
   -- zone 0, which would be the total; no zone 4
   pub «is_zone» : RuledOut (goodZone 0) true × RuledOut (goodZone 4) false
+  -- a number of its own for the total; the total's for a zone
+  pub «energy_no» : RuledOut (energyNo Total) 5 × RuledOut (energyNo (zoneEnergy 2)) 0
 
 -- of `values::reading`
 pub record Reading : Type 0 where

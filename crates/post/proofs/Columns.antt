@@ -11,13 +11,14 @@ use borrow.Author.Tests.{leb-true, le-leb}
 use lib.Dec.{leb}
 use lib.ListN.{length, getD, take, drop, replicate, length-append, length-drop, List·getD-append}
 use lib.Seq.{take-at, length-take-le, getD-take, getD-drop, getD-append-add, take-append-le, take-all}
+use Rattle.line.proofs.Runs.{every-at}
 use Rattle.line.specs.Runs.{every}
 use Rattle.text.specs.Classes.{between}
 use Rattle.text.proofs.Beginnings.{le-or-lt, same-at}
 use Rattle.values.specs.Registers.{goodRow}
 use Rattle.post.specs.Grammar.{lineText}
 use Rattle.post.specs.Columns.{lowest, highest, columnFits, tensOf, numberOf, rowOf, Column}
-use Rattle.post.proofs.Lines.{line-columns, length-line, number-line, line-fits, fits-line, fits-row, between-is, between-low, between-high, every-at}
+use Rattle.post.proofs.Lines.{line-columns, length-line, number-line, line-fits, fits-line, fits-row, between-is, between-low, between-high}
 
 pub same-fits : (s t : List ℕ) (j : ℕ) → getD s j 0 ≡ getD t j 0 → columnFits s j ≡ columnFits t j
 unfolding columnFits

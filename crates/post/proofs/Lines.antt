@@ -114,12 +114,6 @@ unfolding every
 every-of p [] h = refl
 every-of p (c ∷ s) h = and-both (p c) (every p s) (h 0 (omega arith)) (every-of p s (λ i k. h (suc i) (omega arith)))
 
-pub every-at : (p : ℕ → Bool) (s : List ℕ) → every p s ≡ true → (i : ℕ) → i < length s → p (getD s i 0) ≡ true
-unfolding every
-every-at p [] e i h = absurd (omega arith)
-every-at p (c ∷ s) e zero h = and-left (p c) (every p s) e
-every-at p (c ∷ s) e (suc i) h = every-at p s (and-right (p c) (every p s) e) i (le-of-suc-le-suc h)
-
 -- a row's columns hold zones
 pub row-lowest : (i : ℕ) → i < 24 → getD lowest (9 + i) 0 ≡ 49
 unfolding lowest

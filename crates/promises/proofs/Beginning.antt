@@ -11,35 +11,36 @@ use Rattle.clock.specs.Dates.{leap, thirty, daysIn, realDate, realTime}
 use Rattle.clock.specs.Seconds.{realClock, dateOf, timeOf}
 use Rattle.clock.specs.declared.Clock.{Clock}
 use Rattle.values.specs.Registers.{goodDigits, isAccountCharacter, goodAccount}
+use Rattle.state.specs.declared.Facts.{Facts}
 use Rattle.state.specs.declared.Meter.{Meter}
 use Rattle.state.specs.declared.Made.{Made}
-use Rattle.state.specs.WellFormed.{countersGood, tablesGood, factsGood, registersGood, wellFormed}
-use Rattle.state.specs.Making.{meterOf, blankMeter, madeOf}
-use Rattle.state.proofs.Facts.{well-formed}
+use Rattle.state.specs.WellFormed.{below, zonesGood, tablesGood, factsGood, factoryGood, registersGood, wellFormed}
+use Rattle.state.specs.Making.{factsOf, meterOf, blankMeter, madeOf}
+use Rattle.state.proofs.Parts.{well-formed}
 use Rattle.promises.proofs.Choices as choice
 use Rattle.promises.proofs.Formed.{empty-good}
 
-new-registers : (serial account password : List ℕ) (clock : Clock) → factsGood serial account password clock ≡ true
-    → registersGood (meterOf serial account password clock .registers) ≡ true
-unfolding registersGood countersGood tablesGood every between
-new-registers serial account password clock h = rw h
+new-registers : (facts : Facts) (account : List ℕ) (clock : Clock) → factoryGood facts account clock ≡ true
+    → registersGood (meterOf facts account clock .registers) ≡ true
+unfolding registersGood zonesGood below tablesGood every between
+new-registers facts account clock h = rw h
 
-new-well-formed : (serial account password : List ℕ) (clock : Clock) → factsGood serial account password clock ≡ true
-    → wellFormed (meterOf serial account password clock) ≡ true
-new-well-formed serial account password clock h =
-    well-formed (meterOf serial account password clock)
-    (record { mode = omega arith; attempts = omega arith; receiver = empty-good 0; registers = new-registers serial account password clock h })
+new-well-formed : (facts : Facts) (account : List ℕ) (clock : Clock) → factoryGood facts account clock ≡ true
+    → wellFormed (meterOf facts account clock) ≡ true
+new-well-formed facts account clock h =
+    well-formed (meterOf facts account clock)
+    (record { mode = omega arith; attempts = omega arith; receiver = empty-good 0; registers = new-registers facts account clock h })
 
-blank-facts : factsGood (replicate 10 48) (replicate 10 32) (replicate 8 48) (record { date = dateOf 2000 1 1; time = timeOf 0 0 0 }) ≡ true
-unfolding factsGood goodDigits goodAccount isAccountCharacter isDigit isLetter every between realClock realDate realTime daysIn leap thirty
+blank-facts : factoryGood (factsOf (replicate 10 48) (replicate 8 48)) (replicate 10 32) (record { date = dateOf 2000 1 1; time = timeOf 0 0 0 }) ≡ true
+unfolding factoryGood factsGood goodDigits goodAccount isAccountCharacter isDigit isLetter every between realClock realDate realTime daysIn leap thirty
 blank-facts = refl
 
 pub blank-well-formed : wellFormed blankMeter ≡ true
-blank-well-formed = new-well-formed _ _ _ _ blank-facts
+blank-well-formed = new-well-formed _ _ _ blank-facts
 
 -- whether the facts are good or not
 pub made-well-formed : (serial account password : List ℕ) (clock : Clock) → wellFormed (madeOf serial account password clock .meter) ≡ true
 unfolding madeOf
 made-well-formed serial account password clock =
-    choice.given (λ (r : Made). wellFormed (r .meter) ≡ true) (factsGood serial account password clock)
-    (new-well-formed serial account password clock) blank-well-formed
+    choice.given (λ (r : Made). wellFormed (r .meter) ≡ true) (factoryGood (factsOf serial password) account clock)
+    (new-well-formed (factsOf serial password) account clock) blank-well-formed

@@ -5,31 +5,32 @@ use mathlib.Core.Logic.{_⊎_, inl, inr}
 use mathlib.Core.List.{List, [], _∷_}
 use Prim.Native.Nat.{ℕ, zero, suc, _+_, _-_, _*_, _%_, _<_, _≤_}
 use native.Mathlib.Omega.{arith}
-use borrow.Author.Tests.{le-leb, ne-eqb, eqb-false}
+use borrow.Author.Tests.{le-leb, lt-ltb, ne-eqb, eqb-false}
 use lib.Dec.{eqb, leb, ltb}
 use lib.ListN.{length, drop, getD, set, length-set}
 use lib.Seq.{drop-nil, drop-set-lt, getD-set-other}
 use Rattle.line.specs.Runs.{every}
 use Rattle.line.specs.Characters.{damagedAt, seven}
-use Rattle.line.proofs.Runs.{and-left, and-right, and-both}
+use Rattle.line.proofs.Runs.{and-left, and-right, and-both, every-set}
 use Rattle.line.proofs.Parity.{seven-lt}
 use Rattle.text.specs.Classes.{between, sameText}
 use Rattle.text.specs.Writing.{stored}
-use Rattle.text.proofs.Writing.{length-stored}
+use Rattle.text.proofs.Writing.{length-stored, every-stored}
 use Rattle.clock.specs.Seconds.{realClock, nextSecond}
 use Rattle.clock.specs.declared.Clock.{Clock}
 use Rattle.clock.proofs.Real.{next-second-real}
 use Rattle.values.specs.declared.TableNo.{TableNo}
 use Rattle.values.specs.Registers.{goodAccount, goodRow, goodTable}
+use Rattle.state.specs.Sizes.{replyRoom, tables, rowLength, counterEnd, heldPlaces}
 use Rattle.state.specs.declared.Receiver.{Receiver}
 use Rattle.state.specs.declared.Counters.{Counters}
 use Rattle.state.specs.declared.Registers.{Registers}
 use Rattle.state.specs.declared.Meter.{Meter}
-use Rattle.state.specs.WellFormed.{limit, firstGood, markGood, heldGood, receiverGood, countersGood, tablesGood, registersGood, wellFormed}
+use Rattle.state.specs.WellFormed.{limit, firstGood, markGood, heldGood, receiverGood, below, zonesGood, countersGood, tablesGood, registersGood, wellFormed, marked}
 use Rattle.state.specs.Making.{emptyReceiver}
-use Rattle.state.proofs.Facts.{Formed, formed, well-formed, FormedRegisters, formed-registers, registers-good, FormedReceiver, formed-receiver, receiver-good}
-use Rattle.changes.specs.Changes.{withReceiver, inMode, withAttempts, withRegisters, withClock, withAccount, withTables, withCounters}
-use Rattle.changes.specs.Zones.{zoneIn, counted}
+use Rattle.state.proofs.Parts.{Formed, formed, well-formed, FormedRegisters, formed-registers, registers-good, FormedReceiver, formed-receiver, receiver-good}
+use Rattle.state.specs.Setting.{withReceiver, inMode, withAttempts, withRegisters, withClock, withAccount, withTables, withCounters, withRow, rowStart, zonePlace, counterOf}
+use Rattle.tariff.specs.Zones.{zoneIn, grown, counted}
 use Rattle.receiving.specs.declared.Hearing.{Hearing}
 use Rattle.receiving.specs.declared.Hearing.the-variants.{Drop, Hold, Restart, Empty, Line, Confirm, Frame, TooLong}
 use Rattle.receiving.specs.Hearing.{hearing}
@@ -51,17 +52,6 @@ Stays : Outcome → Type 0
 Stays o = wellFormed (o .next) ≡ true
 
 -- ---- runs with one more
-
-every-set : (p : ℕ → Bool) (l : List ℕ) (i a : ℕ) → every p l ≡ true → p a ≡ true → every p (set l i a) ≡ true
-unfolding every
-every-set p [] i a h k = refl
-every-set p (x ∷ l) zero a h k = and-both (p a) (every p l) k (and-right (p x) (every p l) h)
-every-set p (x ∷ l) (suc i) a h k = and-both (p x) _ (and-left (p x) (every p l) h) (every-set p l i a (and-right (p x) (every p l) h) k)
-
-every-stored : (p : ℕ → Bool) (l : List ℕ) (at : ℕ) (xs : List ℕ) → every p l ≡ true → every p xs ≡ true → every p (stored l at xs) ≡ true
-unfolding stored every
-every-stored p l at [] h k = h
-every-stored p l at (x ∷ xs) h k = every-stored p (set l at x) (at + 1) xs (every-set p l at x h (and-left (p x) (every p xs) k)) (and-right (p x) (every p xs) k)
 
 every-next : (p : ℕ → Bool) (l : List ℕ) (i : ℕ) → every p (drop i l) ≡ true → every p (drop (i + 1) l) ≡ true
 unfolding every
@@ -101,8 +91,8 @@ restarted-good mode c f s =
 held-kept : (held : List ℕ) (k c : ℕ) → heldGood held k ≡ true → between 0 127 c ≡ true → heldGood (set held k c) (k + 1) ≡ true
 unfolding heldGood
 held-kept held k c h t =
-    let long = and-left (eqb (length held) 63) _ h in
-    let rest = and-right (eqb (length held) 63) (every (between 0 127) held && every (between 0 0) (drop k held)) h in
+    let long = and-left (eqb (length held) heldPlaces) _ h in
+    let rest = and-right (eqb (length held) heldPlaces) (every (between 0 127) held && every (between 0 0) (drop k held)) h in
     let all = and-left (every (between 0 127) held) (every (between 0 0) (drop k held)) rest in
     let zeros = and-right (every (between 0 127) held) (every (between 0 0) (drop k held)) rest in
     let past : drop (k + 1) (set held k c) ≡ drop (k + 1) held = drop-set-lt (k + 1) held k c (omega arith) in
@@ -119,9 +109,10 @@ first-kept mode k held c h (inl ne) =
     rw (stays, grew) (rw was at h)
 first-kept mode k held c h (inr one) = rw (one, ne-eqb (k + 1) 0 (λ e. omega arith))
 
-marked : (k : ℕ) (b : Bool) → markGood (k + 1) b ≡ true
+mark-kept : (k mark : ℕ) (d : Bool) → markGood k mark ≡ true → markGood (k + 1) (cond d 1 mark) ≡ true
 unfolding markGood
-marked k b = rw (ne-eqb (k + 1) 0 (λ e. omega arith))
+mark-kept k mark true h = rw (ne-eqb (k + 1) 0 (λ e. omega arith))
+mark-kept k mark false h = rw (and-left (leb mark 1) (not (eqb k 0) || eqb mark 0) h, ne-eqb (k + 1) 0 (λ e. omega arith))
 
 kept-good : (mode : ℕ) (r : Receiver) (c : ℕ) (d : Bool) → receiverGood mode r ≡ true → Room mode (r .count) → between 0 127 c ≡ true
     → receiverGood mode (keptReceiver r c d) ≡ true
@@ -131,7 +122,7 @@ kept-good mode r c d g room s =
     (record {
       count = omega (arith, room .below);
       first = first-kept mode (r .count) (r .held) c (f .first) (room .started);
-      mark = marked (r .count) (r .mark || d);
+      mark = mark-kept (r .count) (r .mark) d (f .mark);
       held = held-kept (r .held) (r .count) c (f .held) s;
     })
 
@@ -162,49 +153,36 @@ own m h = formed-registers (m .registers) (formed m h .registers)
 
 clock-good : (g : Registers) (c : Clock) → FormedRegisters g → realClock c ≡ true → registersGood (withClock g c) ≡ true
 clock-good g c f k =
-    registers-good (withClock g c) (record { serial = f .serial; account = f .account; password = f .password; clock = k; counters = f .counters; tables = f .tables })
+    registers-good (withClock g c) (record { facts = f .facts; account = f .account; clock = k; counters = f .counters; tables = f .tables })
 
 account-good : (g : Registers) (a : List ℕ) → FormedRegisters g → goodAccount a ≡ true → registersGood (withAccount g a) ≡ true
 account-good g a f k =
-    registers-good (withAccount g a) (record { serial = f .serial; account = k; password = f .password; clock = f .clock; counters = f .counters; tables = f .tables })
+    registers-good (withAccount g a) (record { facts = f .facts; account = k; clock = f .clock; counters = f .counters; tables = f .tables })
 
-tables-good : (g : Registers) (at : ℕ) (row : List ℕ) → FormedRegisters g → goodRow row ≡ true → registersGood (withTables g (stored (g .tables) at row)) ≡ true
-tables-good g at row f k =
-    registers-good (withTables g (stored (g .tables) at row))
-    (record { serial = f .serial; account = f .account; password = f .password; clock = f .clock; counters = f .counters; tables = rows-good (g .tables) at row (f .tables) k })
+tables-good : (g : Registers) (n : ℕ) (row : List ℕ) → FormedRegisters g → goodRow row ≡ true → registersGood (withTables g (withRow (g .tables) n row)) ≡ true
+tables-good g n row f k =
+    registers-good (withTables g (withRow (g .tables) n row))
+    (record { facts = f .facts; account = f .account; clock = f .clock; counters = f .counters; tables = rows-good (g .tables) (rowStart n) row (f .tables) k })
   where
-    rows-good : (t : List ℕ) (i : ℕ) (r : List ℕ) → tablesGood 24 t ≡ true → goodRow r ≡ true → tablesGood 24 (stored t i r) ≡ true
+    rows-good : (t : List ℕ) (i : ℕ) (r : List ℕ) → tablesGood tables t ≡ true → goodRow r ≡ true → tablesGood tables (stored t i r) ≡ true
     rows-good t i r h j = unfold tablesGood goodRow in (
-        rw (length-stored t i r, and-left (eqb (length t) 576) (every (between 49 52) t) h)
-        (every-stored (between 49 52) t i r (and-right (eqb (length t) 576) (every (between 49 52) t) h) (and-right (eqb (length r) 24) (every (between 49 52) r) j)))
+        rw (length-stored t i r, and-left (eqb (length t) (tables * rowLength)) (every (between 49 52) t) h)
+        (every-stored (between 49 52) t i r (and-right (eqb (length t) (tables * rowLength)) (every (between 49 52) t) h) (and-right (eqb (length r) rowLength) (every (between 49 52) r) j)))
 
 counters-good : (g : Registers) (c : Counters) → FormedRegisters g → countersGood c ≡ true → registersGood (withCounters g c) ≡ true
 counters-good g c f k =
-    registers-good (withCounters g c) (record { serial = f .serial; account = f .account; password = f .password; clock = f .clock; counters = k; tables = f .tables })
+    registers-good (withCounters g c) (record { facts = f .facts; account = f .account; clock = f .clock; counters = k; tables = f .tables })
 
 -- a pulse leaves every counter below 1,000,000,000
 counted-good : (c : Counters) (zone wh : ℕ) → countersGood c ≡ true → countersGood (counted c zone wh) ≡ true
-unfolding countersGood counted
+unfolding zonesGood counted
 counted-good c zone wh h =
-    let a = leb (c .t1) 999999999 in
-    let b = leb (c .t2) 999999999 in
-    let d = leb (c .t3) 999999999 in
-    let e = leb (c .t4) 999999999 in
-    let ab = and-left (a && b) (d && e) h in
-    let de = and-right (a && b) (d && e) h in
-    let pa = and-left a b ab in
-    let pb = and-right a b ab in
-    let pd = and-left d e de in
-    let pe = and-right d e de in
-    choice.either P (eqb zone 1) (rw (small (c .t1), pb, pd, pe))
-    (choice.either P (eqb zone 2) (rw (pa, small (c .t2), pd, pe))
-    (choice.either P (eqb zone 3) (rw (pa, pb, small (c .t3), pe)) (rw (pa, pb, pd, small (c .t4)))))
+    let all = and-right (eqb (length (c .zones)) 4) (every (below counterEnd) (c .zones)) h in
+    rw (length-set (c .zones) (zonePlace zone) (grown (counterOf c zone) wh), and-left (eqb (length (c .zones)) 4) (every (below counterEnd) (c .zones)) h)
+    (every-set (below counterEnd) (c .zones) (zonePlace zone) (grown (counterOf c zone) wh) all (small (counterOf c zone)))
   where
-    P : Counters → Type 0
-    P k = ((leb (k .t1) 999999999 && leb (k .t2) 999999999) && (leb (k .t3) 999999999 && leb (k .t4) 999999999)) ≡ true
-
-    small : (n : ℕ) → leb ((n + wh) % 1000000000) 999999999 ≡ true
-    small n = le-leb ((n + wh) % 1000000000) 999999999 (omega arith)
+    small : (n : ℕ) → below counterEnd (grown n wh) ≡ true
+    small n = unfold below in (lt-ltb (grown n wh) counterEnd (omega arith))
 
 -- ---- a character
 
@@ -223,7 +201,7 @@ module _ (m : Meter) (h : wellFormed m ≡ true) where
       choice.told Stays (eqb (m .attempts) 3) (λ e. falls)
       (λ e.
       let below : m .attempts + 1 ≤ 3 = omega (arith, f .attempts, eqb-false (m .attempts) 3 e) in
-      choice.either Stays (sameText (passwordGiven m) (m .registers .password))
+      choice.either Stays (sameText (passwordGiven m) (m .registers .facts .password))
       (in-mode (withAttempts m 0) 4 (with-attempts m 0 h (omega arith)) (omega arith))
       (in-mode (withAttempts m (m .attempts + 1)) (fallen (m .mode)) (with-attempts m (m .attempts + 1) h below) (fallen-small (m .mode) (f .mode))))
 
@@ -238,15 +216,15 @@ module _ (m : Meter) (h : wellFormed m ≡ true) where
         refuse = λ n k. falls;
         leave = in-mode m 0 h (omega arith);
         enter = λ e. in-mode m 3 h (omega arith);
-        password = λ e. tried-stays;
+        password = λ e w. tried-stays;
         read = λ a k. in-mode m (m .mode) h (formed m h .mode);
         write = λ e f.
             record {
               clock = λ c i r. wrote-stays _ (clock-good (m .registers) c (own m h) r);
               account = λ r. wrote-stays _ (account-good (m .registers) (accountGiven m) (own m h) (account-is (m .receiver .count) (m .receiver .held) r));
               table = λ t i g r.
-                  choice.either Stays (goodTable 24 (t .0))
-                  (wrote-stays _ (tables-good (m .registers) ((t .0 - 1) * 24) (rowGiven m) (own m h) (row-is (m .receiver .count) (m .receiver .held) r)))
+                  choice.either Stays (goodTable tables (t .0))
+                  (wrote-stays _ (tables-good (m .registers) (t .0) (rowGiven m) (own m h) (row-is (m .receiver .count) (m .receiver .held) r)))
                   falls;
               wrong = falls;
             };
@@ -260,19 +238,19 @@ module _ (m : Meter) (h : wellFormed m ≡ true) where
   heard-stays c d Restart e s = with-receiver m _ h (restarted-good (m .mode) c (restart-first (m .mode) (m .receiver .count) (lastHeld (m .receiver)) c e) s)
   heard-stays c d Empty e s = with-receiver m _ h (empty-good (m .mode))
   heard-stays c d Line e s =
-      choice.either Stays (m .receiver .mark) (in-mode m 0 h (omega arith))
-      (choice.either Stays (signsOnBy (heldText (m .receiver)) (m .registers .serial)) (in-mode m 1 h (omega arith)) (in-mode m 0 h (omega arith)))
+      choice.either Stays (marked (m .receiver)) (in-mode m 0 h (omega arith))
+      (choice.either Stays (signsOnBy (heldText (m .receiver)) (m .registers .facts .serial)) (in-mode m 1 h (omega arith)) (in-mode m 0 h (omega arith)))
   heard-stays c d Confirm e s =
-      choice.either Stays (m .receiver .mark || d) (in-mode m 0 h (omega arith))
+      choice.either Stays (marked (m .receiver) || d) (in-mode m 0 h (omega arith))
       (choice.either Stays (wantsBlock (heldText (m .receiver)) c) (in-mode m 0 h (omega arith))
       (choice.either Stays (wantsProgram (heldText (m .receiver)) c) (in-mode m 2 h (omega arith)) (in-mode m 0 h (omega arith))))
-  heard-stays c d Frame e s = frame-stays (m .receiver .mark || d) c
+  heard-stays c d Frame e s = frame-stays (marked (m .receiver) || d) c
   heard-stays c d TooLong e s = falls
 
   pub character-stays : (room b : ℕ) → wellFormed (character m room b .next) ≡ true
   unfolding character taken Stays
   character-stays room b =
-      choice.either Stays (ltb room 2048) h
+      choice.either Stays (ltb room replyRoom) h
       (choice.either Stays (wellFormed m)
       (heard-stays (symbol b) (damagedAt b) (hearing (m .mode) (m .receiver .count) (lastHeld (m .receiver)) (symbol b)) refl (symbol-small b)) h)
 
@@ -282,7 +260,7 @@ module _ (m : Meter) (h : wellFormed m ≡ true) where
   unfolding silence afterSilence Stays
   silence-stays room =
       let off = in-mode m 0 h (omega arith) in
-      choice.either Stays (ltb room 2048) h
+      choice.either Stays (ltb room replyRoom) h
       (choice.either Stays (wellFormed m) (choice.either Stays (eqb (m .mode) 0) off (choice.either Stays (eqb (m .mode) 1) off off)) h)
 
   pub tick-stays : wellFormed (tick m .next) ≡ true

@@ -10,10 +10,11 @@ use Rattle.text.specs.Classes.{sameText}
 use Rattle.text.specs.Writing.{stored}
 use Rattle.values.specs.declared.TableNo.{TableNo}
 use Rattle.values.specs.Registers.{goodTable}
+use Rattle.state.specs.Sizes.{replyRoom, tables}
 use Rattle.state.specs.declared.Registers.{Registers}
 use Rattle.state.specs.declared.Meter.{Meter}
-use Rattle.state.specs.WellFormed.{wellFormed}
-use Rattle.changes.specs.Changes.{withAccount, withTables}
+use Rattle.state.specs.WellFormed.{wellFormed, marked}
+use Rattle.state.specs.Setting.{withAccount, withTables, withRow}
 use Rattle.receiving.specs.declared.Hearing.{Hearing}
 use Rattle.receiving.specs.declared.Hearing.the-variants.{Drop, Hold, Restart, Empty, Line, Confirm, Frame, TooLong}
 use Rattle.receiving.specs.Hearing.{hearing}
@@ -34,21 +35,21 @@ module _ (m : Meter) (b : ℕ) where
   unfolding tried
   tried-kept =
       choice.either (Kept m b) (eqb (m .attempts) 3) (same refl)
-      (choice.either (Kept m b) (sameText (passwordGiven m) (m .registers .password)) (same refl) (same refl))
+      (choice.either (Kept m b) (sameText (passwordGiven m) (m .registers .facts .password)) (same refl) (same refl))
 
   -- the verdict on the frame that this byte completes
   abbrev decision : Verdict
-  decision = verdict (m .mode) (heldText (m .receiver)) (m .receiver .mark || damagedAt b) (symbol b)
+  decision = verdict (m .mode) (heldText (m .receiver)) (marked (m .receiver) || damagedAt b) (symbol b)
 
   frame-kept : hearing (m .mode) (m .receiver .count) (lastHeld (m .receiver)) (symbol b) ≡ Frame → Kept m b (acted m decision)
   unfolding acted
   frame-kept f =
-      verdict-all (λ (v : Verdict). decision ≡ v → Kept m b (acted m v)) (m .mode) (heldText (m .receiver)) (m .receiver .mark || damagedAt b) (symbol b)
+      verdict-all (λ (v : Verdict). decision ≡ v → Kept m b (acted m v)) (m .mode) (heldText (m .receiver)) (marked (m .receiver) || damagedAt b) (symbol b)
       (record {
         refuse = λ n k e. same refl;
         leave = λ e. same refl;
         enter = λ k e. same refl;
-        password = λ k e. tried-kept;
+        password = λ k w e. tried-kept;
         read = λ a g e. same refl;
         write = λ k w.
             record {
@@ -57,9 +58,9 @@ module _ (m : Meter) (b : ℕ) where
                   account (record { programming = k; completed = f; started = w; decided = e }) r refl
                   (ap (withAccount (m .registers)) (sym (account-told (m .receiver .count) (m .receiver .held) r)));
               table = λ t i g r e.
-                  choice.either (Kept m b) (goodTable 24 (t .0))
+                  choice.either (Kept m b) (goodTable tables (t .0))
                   (table t (record { programming = k; completed = f; started = w; decided = e }) i g r refl
-                  (ap (λ (x : List ℕ). withTables (m .registers) (stored (m .registers .tables) ((t .0 - 1) * 24) x)) (sym (row-told (m .receiver .count) (m .receiver .held) r))))
+                  (ap (λ (x : List ℕ). withTables (m .registers) (withRow (m .registers .tables) (t .0) x)) (sym (row-told (m .receiver .count) (m .receiver .held) r))))
                   (same refl);
               wrong = λ e. same refl;
             };
@@ -69,13 +70,13 @@ module _ (m : Meter) (b : ℕ) where
   line-kept : Kept m b (lineEnded m)
   unfolding lineEnded
   line-kept =
-      choice.either (Kept m b) (m .receiver .mark) (same refl)
-      (choice.either (Kept m b) (signsOnBy (heldText (m .receiver)) (m .registers .serial)) (same refl) (same refl))
+      choice.either (Kept m b) (marked (m .receiver)) (same refl)
+      (choice.either (Kept m b) (signsOnBy (heldText (m .receiver)) (m .registers .facts .serial)) (same refl) (same refl))
 
   confirmed-kept : (c : ℕ) (d : Bool) → Kept m b (confirmed m c d)
   unfolding confirmed
   confirmed-kept c d =
-      choice.either (Kept m b) (m .receiver .mark || d) (same refl)
+      choice.either (Kept m b) (marked (m .receiver) || d) (same refl)
       (choice.either (Kept m b) (wantsBlock (heldText (m .receiver)) c) (same refl)
       (choice.either (Kept m b) (wantsProgram (heldText (m .receiver)) c) (same refl) (same refl)))
 
@@ -94,7 +95,7 @@ module _ (m : Meter) (b : ℕ) where
   pub only-writes : (room : ℕ) → Kept m b (character m room b)
   unfolding character taken
   only-writes room =
-      choice.either (Kept m b) (ltb room 2048) (same refl)
+      choice.either (Kept m b) (ltb room replyRoom) (same refl)
       (choice.either (Kept m b) (wellFormed m) (heard-kept (hearing (m .mode) (m .receiver .count) (lastHeld (m .receiver)) (symbol b)) refl) (same refl))
 
   -- an answer other than 1 changes no register

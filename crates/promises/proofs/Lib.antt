@@ -1,6 +1,7 @@
 pub mod Choices
 pub mod Verdicts
 pub mod Pieces
+pub mod Password
 pub mod Kept
 pub mod Malformed
 pub mod Formed

@@ -11,8 +11,9 @@ use Rattle.text.specs.Classes.{sameText}
 use Rattle.text.specs.Writing.{holding}
 use Rattle.frames.specs.Frames.{onWire}
 use Rattle.values.specs.Registers.{goodTable}
+use Rattle.state.specs.Sizes.{replyRoom, tables}
 use Rattle.state.specs.declared.Meter.{Meter}
-use Rattle.state.specs.WellFormed.{wellFormed}
+use Rattle.state.specs.WellFormed.{wellFormed, marked}
 use Rattle.receiving.specs.declared.Hearing.{Hearing}
 use Rattle.receiving.specs.declared.Hearing.the-variants.{Drop, Hold, Restart, Empty, Line, Confirm, Frame, TooLong}
 use Rattle.receiving.specs.Hearing.{hearing}
@@ -34,11 +35,11 @@ unheard-buffer n m buf = refl
 
 -- ---- a call with a short buffer or too large a pulse is not heard, in any state
 
-pub short-character : (m : Meter) (room b : ℕ) → ltb room 2048 ≡ true → character m room b ≡ unheard 12 m
+pub short-character : (m : Meter) (room b : ℕ) → ltb room replyRoom ≡ true → character m room b ≡ unheard 12 m
 unfolding character
 short-character m room b h = rw h
 
-pub short-silence : (m : Meter) (room : ℕ) → ltb room 2048 ≡ true → silence m room ≡ unheard 12 m
+pub short-silence : (m : Meter) (room : ℕ) → ltb room replyRoom ≡ true → silence m room ≡ unheard 12 m
 unfolding silence
 short-silence m room h = rw h
 
@@ -52,13 +53,13 @@ unheard-either : (first : Bool) (n : ℕ) (m : Meter) → cond first (unheard n 
 unheard-either true n m = refl
 unheard-either false n m = refl
 
-pub malformed-character : (m : Meter) (room b : ℕ) → wellFormed m ≡ false → character m room b ≡ unheard (cond (ltb room 2048) 12 14) m
+pub malformed-character : (m : Meter) (room b : ℕ) → wellFormed m ≡ false → character m room b ≡ unheard (cond (ltb room replyRoom) 12 14) m
 unfolding character
-malformed-character m room b h = rw h (unheard-either (ltb room 2048) 12 m)
+malformed-character m room b h = rw h (unheard-either (ltb room replyRoom) 12 m)
 
-pub malformed-silence : (m : Meter) (room : ℕ) → wellFormed m ≡ false → silence m room ≡ unheard (cond (ltb room 2048) 12 14) m
+pub malformed-silence : (m : Meter) (room : ℕ) → wellFormed m ≡ false → silence m room ≡ unheard (cond (ltb room replyRoom) 12 14) m
 unfolding silence
-malformed-silence m room h = rw h (unheard-either (ltb room 2048) 12 m)
+malformed-silence m room h = rw h (unheard-either (ltb room replyRoom) 12 m)
 
 pub malformed-tick : (m : Meter) → wellFormed m ≡ false → tick m ≡ unheard 14 m
 unfolding tick
@@ -93,15 +94,15 @@ frame-never m mark sum =
       refuse = λ n k. frame-number n k;
       leave = λ e. omega arith;
       enter = λ k e. omega arith;
-      password = λ k.
+      password = λ k w.
           choice.either Never (eqb (m .attempts) 3) (λ e. omega arith)
-          (choice.either Never (sameText (passwordGiven m) (m .registers .password)) (λ e. omega arith) (λ e. omega arith));
+          (choice.either Never (sameText (passwordGiven m) (m .registers .facts .password)) (λ e. omega arith) (λ e. omega arith));
       read = λ a g e. omega arith;
       write = λ k f.
           record {
             clock = λ c i r e. omega arith;
             account = λ r e. omega arith;
-            table = λ t i g r. choice.either Never (goodTable 24 (t .0)) (λ e. omega arith) (λ e. omega arith);
+            table = λ t i g r. choice.either Never (goodTable tables (t .0)) (λ e. omega arith) (λ e. omega arith);
             wrong = λ e. omega arith;
           };
     })
@@ -113,25 +114,25 @@ heard-never m c d Hold = λ e. omega arith
 heard-never m c d Restart = λ e. omega arith
 heard-never m c d Empty = λ e. omega arith
 heard-never m c d Line =
-    choice.either Never (m .receiver .mark) (λ e. omega arith)
-    (choice.either Never (signsOnBy (heldText (m .receiver)) (m .registers .serial)) (λ e. omega arith) (λ e. omega arith))
+    choice.either Never (marked (m .receiver)) (λ e. omega arith)
+    (choice.either Never (signsOnBy (heldText (m .receiver)) (m .registers .facts .serial)) (λ e. omega arith) (λ e. omega arith))
 heard-never m c d Confirm =
-    choice.either Never (m .receiver .mark || d) (λ e. omega arith)
+    choice.either Never (marked (m .receiver) || d) (λ e. omega arith)
     (choice.either Never (wantsBlock (heldText (m .receiver)) c) (λ e. omega arith)
     (choice.either Never (wantsProgram (heldText (m .receiver)) c) (λ e. omega arith) (λ e. omega arith)))
-heard-never m c d Frame = frame-never m (m .receiver .mark || d) c
+heard-never m c d Frame = frame-never m (marked (m .receiver) || d) c
 heard-never m c d TooLong = λ e. omega arith
 
 pub character-never-14 : (m : Meter) (room b : ℕ) → wellFormed m ≡ true → character m room b .number ≡ 14 → ⊥
 unfolding character taken Never
 character-never-14 m room b h =
-    rw h (choice.either Never (ltb room 2048) (λ e. omega arith)
+    rw h (choice.either Never (ltb room replyRoom) (λ e. omega arith)
     (heard-never m (symbol b) (damagedAt b) (hearing (m .mode) (m .receiver .count) (lastHeld (m .receiver)) (symbol b))))
 
 pub silence-never-14 : (m : Meter) (room : ℕ) → wellFormed m ≡ true → silence m room .number ≡ 14 → ⊥
 unfolding silence afterSilence Never
 silence-never-14 m room h =
-    rw h (choice.either Never (ltb room 2048) (λ e. omega arith)
+    rw h (choice.either Never (ltb room replyRoom) (λ e. omega arith)
     (choice.either Never (eqb (m .mode) 0) (λ e. omega arith) (choice.either Never (eqb (m .mode) 1) (λ e. omega arith) (λ e. omega arith))))
 
 pub tick-never-14 : (m : Meter) → wellFormed m ≡ true → tick m .number ≡ 14 → ⊥

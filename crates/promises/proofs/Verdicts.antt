@@ -24,6 +24,7 @@ use Rattle.values.specs.declared.reading.ClockRead.{ClockRead}
 use Rattle.values.specs.declared.reading.TableRead.{TableRead}
 use Rattle.values.specs.declared.TableNo.{TableNo}
 use Rattle.values.specs.Texts.{clockForm, tableForm}
+use Rattle.state.specs.Sizes.{tables}
 use Rattle.replies.specs.declared.Ask.{Ask}
 use Rattle.deciding.specs.declared.Verdict.{Verdict}
 use Rattle.deciding.specs.declared.Verdict.the-variants.{Refuse, Leave, Enter, Password, Read, WriteClock, WriteAccount, WriteTable}
@@ -43,14 +44,14 @@ clock-real s h =
     let r = chosen (λ (r : ClockRead). r .ok) (realClock (clockIn s)) _ noClock refl k in
     rw (f, r) r
 
--- a table that reads is one of the 24
-pub table-real : (s : List ℕ) → tableRead 24 s .ok ≡ true → goodTable 24 (tableRead 24 s .table .0) ≡ true
+-- a table that reads is one of those that there are
+pub table-real : (s : List ℕ) → tableRead tables s .ok ≡ true → goodTable tables (tableRead tables s .table .0) ≡ true
 unfolding tableRead
 table-real s h =
-    let some = someTable 24 (numberAt s 0 2) in
+    let some = someTable tables (numberAt s 0 2) in
     let f = chosen (λ (r : TableRead). r .ok) (fits (pattern tableForm) s) some noTable refl h in
     let k : some .ok ≡ true = rw f at h in
-    let r = chosen (λ (r : TableRead). r .ok) (goodTable 24 (numberAt s 0 2)) _ noTable refl k in
+    let r = chosen (λ (r : TableRead). r .ok) (goodTable tables (numberAt s 0 2)) _ noTable refl k in
     rw (f, r) r
 
 four : (h : List ℕ) → 5 ≤ length h → take 4 h ≡ getD h 0 0 ∷ getD h 1 0 ∷ getD h 2 0 ∷ getD h 3 0 ∷ []
@@ -82,7 +83,7 @@ write-starts h f w =
 pub record Told (d : List ℕ) (P : Verdict → Type 0) : Type 0 where
   pub clock : (c : Clock) → c ≡ clockRead (inner d) .clock → realClock c ≡ true → P (WriteClock c)
   pub account : goodAccount (inner d) ≡ true → P WriteAccount
-  pub table : (t : TableNo) → t ≡ tableRead 24 (take 2 (inner d)) .table → goodTable 24 (t .0) ≡ true → goodRow (drop 3 (inner d)) ≡ true → P (WriteTable t)
+  pub table : (t : TableNo) → t ≡ tableRead tables (take 2 (inner d)) .table → goodTable tables (t .0) ≡ true → goodRow (drop 3 (inner d)) ≡ true → P (WriteTable t)
   pub wrong : P (Refuse 9)
 
 pub told-all : (P : Verdict → Type 0) (d : List ℕ) → Told d P → P (told d)
@@ -94,8 +95,8 @@ told-all P d k =
     (choice.given P (goodAccount (inner d)) (k .account) (k .wrong))
     (choice.either P (enclosed 90 d)
     (choice.given P (eqb (getD (inner d) 2 0) 59 && goodRow (drop 3 (inner d)))
-    (λ g. choice.given P (tableRead 24 (take 2 (inner d)) .ok)
-    (λ h. k .table (tableRead 24 (take 2 (inner d)) .table) refl (table-real (take 2 (inner d)) h) (and-right (eqb (getD (inner d) 2 0) 59) (goodRow (drop 3 (inner d))) g))
+    (λ g. choice.given P (tableRead tables (take 2 (inner d)) .ok)
+    (λ h. k .table (tableRead tables (take 2 (inner d)) .table) refl (table-real (take 2 (inner d)) h) (and-right (eqb (getD (inner d) 2 0) 59) (goodRow (drop 3 (inner d))) g))
     (k .wrong))
     (k .wrong))
     (k .wrong)))
@@ -112,7 +113,7 @@ asked-all P d read wrong =
     (choice.either P (sameText d (askEnergy 3)) (read _ refl)
     (choice.either P (sameText d (askEnergy 4)) (read _ refl)
     (choice.either P (fits (90 ∷ 40 ∷ 35 ∷ 35 ∷ 41 ∷ []) d)
-    (choice.given P (tableRead 24 (take 2 (drop 2 d)) .ok) (λ h. read _ (table-real (take 2 (drop 2 d)) h)) wrong)
+    (choice.given P (tableRead tables (take 2 (drop 2 d)) .ok) (λ h. read _ (table-real (take 2 (drop 2 d)) h)) wrong)
     wrong))))))))
 
 -- the numbers with which a frame is refused here
@@ -129,7 +130,7 @@ pub record Known (mode : ℕ) (h : List ℕ) (P : Verdict → Type 0) : Type 0 w
   pub refuse : (n : ℕ) → FrameNumber n → P (Refuse n)
   pub leave : P Leave
   pub enter : mode ≡ 2 → P Enter
-  pub password : mode ≡ 2 → P Password
+  pub password : mode ≡ 2 → fits (bracketed (35 ∷ 35 ∷ 35 ∷ 35 ∷ 35 ∷ 35 ∷ 35 ∷ 35 ∷ [])) (content h) ≡ true → P Password
   pub read : (a : Ask) → answerable a ≡ true → P (Read a)
   pub write : mode ≡ 4 → take 4 h ≡ writeStart → Told (content h) P
 
@@ -147,7 +148,7 @@ verdict-all P mode h mark sum k =
     (λ f. choice.either P (eqb a 80 && eqb b 49)
     (choice.given P (eqb mode 2)
     (λ e. choice.either P (sameText (content h) (chars "()")) (k .enter (eqb-true mode 2 e))
-    (choice.either P (fits (chars "(########)") (content h)) (k .password (eqb-true mode 2 e)) (k .refuse 9 content-wrong)))
+    (choice.given P (fits (chars "(########)") (content h)) (k .password (eqb-true mode 2 e)) (k .refuse 9 content-wrong)))
     no8)
     (choice.either P (eqb a 82 && eqb b 49)
     (choice.either P (eqb mode 3 || eqb mode 4) (asked-all P (content h) (k .read) (k .refuse 9 content-wrong)) no8)
@@ -177,7 +178,7 @@ read-answerable mode h mark sum a e =
       refuse = λ n k. refl;
       leave = refl;
       enter = λ k. refl;
-      password = λ k. refl;
+      password = λ k w. refl;
       read = λ b k. k;
       write = λ k w. record { clock = λ c i r. refl; account = λ r. refl; table = λ t i g r. refl; wrong = refl };
     })

@@ -2,10 +2,9 @@
 use mathlib.Core.Path.{_≡_}
 use mathlib.Core.Bool.{Bool, true, _||_}
 use mathlib.Core.List.{List, [], _∷_}
-use Prim.Native.Nat.{ℕ, _-_, _*_}
-use lib.ListN.{take, drop}
+use Prim.Native.Nat.{ℕ, _+_, _-_}
+use lib.ListN.{length, take, drop}
 use Rattle.line.specs.Characters.{damagedAt}
-use Rattle.text.specs.Writing.{stored}
 use Rattle.clock.specs.Seconds.{realClock}
 use Rattle.clock.specs.declared.Clock.{Clock}
 use Rattle.values.specs.declared.TableNo.{TableNo}
@@ -13,11 +12,13 @@ use Rattle.values.specs.Reading.{clockRead, tableRead}
 use Rattle.values.specs.declared.reading.ClockRead.{ClockRead}
 use Rattle.values.specs.declared.reading.TableRead.{TableRead}
 use Rattle.values.specs.Registers.{goodAccount, goodRow, goodTable}
+use Rattle.state.specs.WellFormed.{marked}
+use Rattle.state.specs.Sizes.{tables}
 use Rattle.state.specs.declared.Registers.{Registers}
 use Rattle.state.specs.declared.Meter.{Meter}
 use Rattle.replies.specs.declared.Ask.{Ask}
 use Rattle.replies.specs.declared.Ask.the-variants as ask
-use Rattle.changes.specs.Changes.{withClock, withAccount, withTables}
+use Rattle.state.specs.Setting.{withClock, withAccount, withTables, withRow}
 use Rattle.receiving.specs.declared.Hearing.{Hearing}
 use Rattle.receiving.specs.declared.Hearing.the-variants.{Frame}
 use Rattle.receiving.specs.Hearing.{hearing}
@@ -38,12 +39,16 @@ writeStart = 1 ∷ 87 ∷ 49 ∷ 2 ∷ []
 abbrev pub tellsOf : Meter → List ℕ
 tellsOf m = inner (content (heldText (m .receiver)))
 
+-- what stands in the brackets of the data that P1 brings
+abbrev pub enteredIn : Meter → List ℕ
+enteredIn m = take (length (content (heldText (m .receiver))) - 2) (drop 1 (content (heldText (m .receiver))))
+
 -- the byte completes a frame that starts SOH W1 STX, in mode 4, and the meter decides it so
 pub record Written (m : Meter) (b : ℕ) (v : Verdict) : Type 0 where
   pub programming : m .mode ≡ 4
   pub completed : hearing (m .mode) (m .receiver .count) (lastHeld (m .receiver)) (symbol b) ≡ Frame
   pub started : take 4 (heldText (m .receiver)) ≡ writeStart
-  pub decided : verdict (m .mode) (heldText (m .receiver)) (m .receiver .mark || damagedAt b) (symbol b) ≡ v
+  pub decided : verdict (m .mode) (heldText (m .receiver)) (marked (m .receiver) || damagedAt b) (symbol b) ≡ v
 
 -- the registers after an outcome: as they were, or with the one register that an accepted write names, and what it tells of it
 pub data Kept (m : Meter) (b : ℕ) (o : Outcome) : Type 0 where
@@ -52,14 +57,14 @@ pub data Kept (m : Meter) (b : ℕ) (o : Outcome) : Type 0 where
       → o .next .registers ≡ withClock (m .registers) c → Kept m b o
   account : Written m b WriteAccount → goodAccount (tellsOf m) ≡ true → o .number ≡ 1
       → o .next .registers ≡ withAccount (m .registers) (tellsOf m) → Kept m b o
-  table : (t : TableNo) → Written m b (WriteTable t) → t ≡ tableRead 24 (take 2 (tellsOf m)) .table
-      → goodTable 24 (t .0) ≡ true → goodRow (drop 3 (tellsOf m)) ≡ true → o .number ≡ 1
-      → o .next .registers ≡ withTables (m .registers) (stored (m .registers .tables) ((t .0 - 1) * 24) (drop 3 (tellsOf m))) → Kept m b o
+  table : (t : TableNo) → Written m b (WriteTable t) → t ≡ tableRead tables (take 2 (tellsOf m)) .table
+      → goodTable tables (t .0) ≡ true → goodRow (drop 3 (tellsOf m)) ≡ true → o .number ≡ 1
+      → o .next .registers ≡ withTables (m .registers) (withRow (m .registers .tables) (t .0) (drop 3 (tellsOf m))) → Kept m b o
 
 -- what is asked can be answered: a table is one of the 24
 unfoldable pub answerable : Ask → Bool
-answerable (ask.Table t) = goodTable 24 (t .0)
+answerable (ask.Table t) = goodTable tables (t .0)
 answerable ask.Clock = true
 answerable ask.Serial = true
 answerable ask.Account = true
-answerable (ask.Energy n) = true
+answerable (ask.Energy e) = true

@@ -14,14 +14,13 @@ use Rattle.frames.specs.Frames.{bareFrame, closed, frameOf, onWire}
 use Rattle.frames.specs.Session.{signOn, signOnTo, confirmation, enterData, passwordData}
 use Rattle.values.specs.Registers.{goodSerial, goodDigits, isAccountCharacter, goodAccount, goodRow, goodTable}
 use Rattle.values.specs.Texts.{serialText, tableForm, clockForm, tableText, clockText}
-use Rattle.values.proofs.Serials.{every-take, every-drop}
-use Rattle.datasets.proofs.Characters.{every-within, layout-within}
+use Rattle.datasets.proofs.Characters.{layout-within}
 use Rattle.values.proofs.Rules.{digits-long, account-long, row-long, zone-most, table-text-long, clock-text-long}
 use Rattle.readback.proofs.Sending.{closed-characters, sent-undamaged-all, sent-comes-back-all, frame-characters, closed-sums}
 use Rattle.line.specs.Characters.{seven, undamagedAll}
 use Rattle.line.specs.Checksum.{bccOf}
 use Rattle.line.specs.Runs.{every}
-use Rattle.line.proofs.Runs.{and-left, and-right, and-both, every-append}
+use Rattle.line.proofs.Runs.{and-left, and-right, and-both, every-append, every-take, every-drop, every-weaker}
 use Rattle.text.specs.Classes.{between, isDigit, isLetter, isPrintable}
 use Rattle.clock.specs.declared.Clock.{Clock}
 use Rattle.blocks.specs.Parts.{isCharacter}
@@ -68,15 +67,15 @@ clock-printable c = layout-within isPrintable digit-printable clockForm _ refl
 
 digits-printable : (n : ℕ) (s : List ℕ) → goodDigits n s ≡ true → every isPrintable s ≡ true
 unfolding goodDigits
-digits-printable n s h = every-within isDigit isPrintable digit-printable s (and-right (eqb (length s) n) (every isDigit s) h)
+digits-printable n s h = every-weaker isDigit isPrintable digit-printable s (and-right (eqb (length s) n) (every isDigit s) h)
 
 row-printable : (s : List ℕ) → goodRow s ≡ true → every isPrintable s ≡ true
 unfolding goodRow
-row-printable s h = every-within (between 49 52) isPrintable (λ c. of-range 49 52 c (omega arith) (omega arith)) s (and-right (eqb (length s) 24) (every (between 49 52) s) h)
+row-printable s h = every-weaker (between 49 52) isPrintable (λ c. of-range 49 52 c (omega arith) (omega arith)) s (and-right (eqb (length s) 24) (every (between 49 52) s) h)
 
 name-printable : (s : List ℕ) → goodAccount s ≡ true → every isPrintable s ≡ true
 unfolding goodAccount
-name-printable s h = every-within isAccountCharacter isPrintable account-printable s (and-right (eqb (length s) 10) (every isAccountCharacter s) h)
+name-printable s h = every-weaker isAccountCharacter isPrintable account-printable s (and-right (eqb (length s) 10) (every isAccountCharacter s) h)
 
 bracketed-printable : (s : List ℕ) → every isPrintable s ≡ true → every isPrintable (bracketed s) ≡ true
 unfolding bracketed every isPrintable between
@@ -141,7 +140,7 @@ letters-printable = of-letters (λ (l : List ℕ). every isPrintable l ≡ true)
 pub command-characters : (tables : ℕ) (c : Command) → goodFields tables c ≡ true → every isCharacter (spoken c) ≡ true
 unfolding spoken
 command-characters tables c h =
-    frame-characters (lettersOf c) (dataOf c) (every-within isPrintable isCharacter character-of (lettersOf c) (letters-printable c)) (every-within isPrintable isCharacter character-of (dataOf c) (command-printable tables c h))
+    frame-characters (lettersOf c) (dataOf c) (every-weaker isPrintable isCharacter character-of (lettersOf c) (letters-printable c)) (every-weaker isPrintable isCharacter character-of (dataOf c) (command-printable tables c h))
 
 -- on the wire no byte of it is damaged, and its seven bits are its characters again
 pub command-undamaged : (c : Command) → undamagedAll (onWire (spoken c)) ≡ true
@@ -204,7 +203,7 @@ sign-on-comes-back = sent-comes-back-all signOn refl
 serial-characters : (s : List ℕ) → goodSerial s ≡ true → every isCharacter (serialText s) ≡ true
 unfolding serialText every isCharacter
 serial-characters s h =
-    let all = every-within isPrintable isCharacter character-of s (digits-printable 10 s h) in
+    let all = every-weaker isPrintable isCharacter character-of s (digits-printable 10 s h) in
     every-append isCharacter (take 3 s) (32 ∷ drop 3 s) (every-take isCharacter 3 s all) (every-drop isCharacter 3 s all)
 
 pub sign-on-to-comes-back : (s : List ℕ) → goodSerial s ≡ true → map seven (onWire (signOnTo s)) ≡ signOnTo s

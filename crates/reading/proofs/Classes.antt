@@ -54,8 +54,3 @@ plain-value c h =
       ne-eqb c 47 (λ e. omega arith),
       ne-eqb c 33 (λ e. omega arith),
     )
-
-pub every-weaker : (p q : ℕ → Bool) → ((c : ℕ) → p c ≡ true → q c ≡ true) → (s : List ℕ) → every p s ≡ true → every q s ≡ true
-unfolding every
-every-weaker p q w [] h = refl
-every-weaker p q w (c ∷ s) h = and-both (q c) (every q s) (w c (and-left (p c) (every p s) h)) (every-weaker p q w s (and-right (p c) (every p s) h))

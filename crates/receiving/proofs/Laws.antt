@@ -16,7 +16,7 @@ use Rattle.text.specs.Classes.{between}
 use Rattle.state.specs.declared.Receiver.{Receiver}
 use Rattle.state.specs.WellFormed.{limit, firstGood, markGood, heldGood, receiverGood}
 use Rattle.state.specs.Making.{emptyReceiver}
-use Rattle.state.proofs.Facts.{FormedReceiver, formed-receiver, receiver-good}
+use Rattle.state.proofs.Parts.{FormedReceiver, formed-receiver, receiver-good}
 use Rattle.receiving.specs.declared.Hearing.{Hearing}
 use Rattle.receiving.specs.declared.Hearing.the-variants.{Drop, Hold, Restart, Empty, Line, Confirm, Frame, TooLong}
 use Rattle.receiving.specs.Hearing.{listening, confirming, framing, hearing}

@@ -5,11 +5,12 @@ ghost use Prim.Native.Nat.{_<_, _-_};
 ghost use lib.ListN.{length, take, getD, set};
 ghost use Rattle.receiving.specs.Hearing.{listening, confirming, framing, hearing};
 ghost use Rattle.receiving.specs.Receivers.{keptReceiver, restartedReceiver, lastHeld};
-ghost use Rattle.state.specs.Making.{emptyReceiver};
+ghost use Rattle.state.specs.Sizes.{heldPlaces};
+use state::HELD_PLACES;
 use state::Receiver;
-
-// A line or frame starts with no damage seen.
-const UNMARKED: bool = false;
+use state::setting::empty_receiver;
+use state::setting::with_held;
+use state::setting::with_mark;
 
 // What a character does to the receiver.
 pub enum Hearing {
@@ -74,7 +75,7 @@ fn frame(count: u8, last: u8, c: u8) -> Hearing
     if count == 0 {
         return Hearing::Drop;
     }
-    if 63 <= count {
+    if HELD_PLACES <= count {
         return Hearing::TooLong;
     }
     Hearing::Hold
@@ -114,7 +115,7 @@ fn chosen(first: bool, a: u8, b: u8) -> u8
 // Puts a character in a place. All places are written, many at once: a byte stored alone and read next with those around it makes the
 // processor wait. At the place `ahead` is 128; it has eight bits like the characters.
 fn put_at(held: &mut [u8], at: u8, c: u8)
-    requires { ⌜ (length (now held) ≡ 63) × (at < 63) ⌝ }
+    requires { ⌜ (length (now held) ≡ heldPlaces) × (at < heldPlaces) ⌝ }
     ensures { λ _. ⌜ now (held .exit) ≡ set (now (held .entry)) at c ⌝ }
 {
     let mut ahead = at + 128;
@@ -128,37 +129,21 @@ fn put_at(held: &mut [u8], at: u8, c: u8)
 
 // The receiver with one character more.
 pub fn keep(r: Receiver, c: u8, damaged: bool) -> Receiver
-    requires { ⌜ r .count < 63 ⌝ }
+    requires { ⌜ r .count < heldPlaces ⌝ }
     ensures { λ x. ⌜ x ≡ keptReceiver r c damaged ⌝ }
 {
     let mut held = r.held;
     put_at(&mut held, r.count, c);
-    Receiver {
-        held,
-        count: r.count + 1,
-        mark: r.mark | damaged,
-    }
+    let next = with_held(r, held, r.count + 1);
+    with_mark(next, chosen(damaged, 1, r.mark))
 }
 
 // The receiver with this character alone.
 pub fn restart(c: u8) -> Receiver
     ensures { λ x. ⌜ x ≡ restartedReceiver c ⌝ }
 {
-    let mut held = [0u8; 63];
+    let r = empty_receiver();
+    let mut held = r.held;
     held[0] = c;
-    Receiver {
-        held,
-        count: 1,
-        mark: UNMARKED,
-    }
-}
-
-pub fn empty() -> Receiver
-    ensures { λ x. ⌜ x ≡ emptyReceiver ⌝ }
-{
-    Receiver {
-        held: [0; 63],
-        count: 0,
-        mark: false,
-    }
+    with_held(r, held, 1)
 }

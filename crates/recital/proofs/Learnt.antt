@@ -2,7 +2,10 @@
 use mathlib.Core.Path.{_≡_, refl}
 use mathlib.Core.Bool.{true}
 use Rattle.values.specs.Edition.{editionTables}
+use Rattle.values.specs.declared.Energy.the-variants.{Total}
+use Rattle.values.specs.Registers.{energyNo, zoneEnergy}
 use Rattle.frames.specs.Frames.{blockOf}
+use Rattle.state.specs.Sizes.{tables}
 use Rattle.state.specs.declared.Meter.{Meter}
 use Rattle.state.specs.WellFormed.{wellFormed}
 use Rattle.replies.specs.declared.Ask.{Ask}
@@ -22,14 +25,14 @@ module _ (m : Meter) (f : wellFormed m ≡ true) where
   learns x a h e = record { content = askedData (m .registers) a; reply = e; reads = answer-block-reads-back m f a h }
 
   pub answers-learnt : Answers m
-  unfolding outcomeOf obeyed answerSays answerable shown.energy
+  unfolding outcomeOf obeyed answerSays answerable shown.energy energyNo
   answers-learnt =
       record {
         block = λ y h e. record { content = blockData editionTables (m .registers); reply = rw e; reads = block-reads-back m f };
         clock = learns _ ask.Clock refl refl;
         own-serial = learns _ ask.Serial refl refl;
         own-account = learns _ ask.Account refl refl;
-        whole = learns _ (ask.Energy 0) refl refl;
-        zone = λ n h. learns _ (ask.Energy n) refl refl;
+        whole = learns _ (ask.Energy Total) refl refl;
+        zone = λ n h. learns _ (ask.Energy (zoneEnergy n)) refl refl;
         table = λ n h. learns _ (ask.Table (record { 0 = n })) h refl;
       }

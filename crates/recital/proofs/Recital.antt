@@ -8,17 +8,19 @@ use borrow.Author.Tests.{leb-true, le-leb}
 use lib.Dec.{leb, lit≤}
 use lib.ListN.{length}
 use Rattle.line.specs.Runs.{every}
-use Rattle.line.proofs.Runs.{and-left, and-right, every-append}
+use Rattle.line.proofs.Runs.{and-left, and-right, every-append, every-weaker}
 use Rattle.text.specs.Classes.{between}
+use Rattle.values.specs.declared.Energy.the-variants.{Total}
 use Rattle.values.specs.Edition.{editionTables}
-use Rattle.values.specs.Registers.{goodTable}
+use Rattle.values.specs.Registers.{goodTable, energyNo, zoneEnergy}
 use Rattle.frames.specs.Frames.{blockOf}
+use Rattle.state.specs.Sizes.{tables}
 use Rattle.state.specs.declared.Registers.{Registers}
 use Rattle.state.specs.declared.Meter.{Meter}
 use Rattle.state.specs.WellFormed.{registersGood, wellFormed}
-use Rattle.state.proofs.Facts.{formed}
+use Rattle.state.proofs.Parts.{formed}
 use Rattle.datasets.specs.Sets.{DataSet, linesOf, tableSet}
-use Rattle.datasets.proofs.Characters.{Within, within, every-within}
+use Rattle.datasets.proofs.Characters.{Within, within}
 use Rattle.replies.specs.declared.Ask.{Ask}
 use Rattle.replies.specs.declared.Ask.the-variants as ask
 use Rattle.replies.specs.Shown.{rowOf}
@@ -36,7 +38,7 @@ use Rattle.meter.specs.Acting.{acted}
 use Rattle.promises.specs.Writes.{answerable}
 use Rattle.promises.proofs.Verdicts.{read-answerable}
 use Rattle.recital.specs.Recital.{Register, row, Recites, tableNumbers, rows, blockSays, answerSays, ReadsBack}
-use Rattle.recital.proofs.Registers.{and-then, and-none, energy-small, energy-reads, serial-reads, account-reads, date-reads, time-reads, counters-small, row-reads}
+use Rattle.recital.proofs.Registers.{and-then, and-none, own-energy-reads, serial-reads, account-reads, date-reads, time-reads, row-reads}
 
 -- what a meter shows may stand in a block
 content : Within (between 10 126) isContent
@@ -47,7 +49,7 @@ content = within (between 10 126) isContent refl (λ c h. omega (arith, leb-true
 reads-back : (c : List ℕ) (xs : List Register) (ds : List DataSet) (at : ℕ) → every (between 10 126) c ≡ true
     → readAll c ≡ record { sets = ds; number = 0; place = at } → Recites ds xs → ReadsBack c xs
 reads-back c xs ds at shows read h =
-    let k = every-within (between 10 126) isContent content c shows in
+    let k = every-weaker (between 10 126) isContent content c shows in
     record {
       strips = λ out room. block-strips c out k room ∙ ap (λ (n : ℕ). record { number = 1; length = n }) (sym (block-long c));
       stripped = λ out room. block-strips-into c out k room;
@@ -82,28 +84,25 @@ numbers-good tables (suc n) h =
     (unfold goodTable between in (rw (le-leb 1 (suc n) (omega arith), le-leb (suc n) tables h)))
 
 block-recites : (g : Registers) → registersGood g ≡ true → Recites (blockSets editionTables g) (blockSays g)
-unfolding blockSets factSets energySets blockSays shown.energy
+unfolding blockSets factSets energySets blockSays shown.energy energyNo
 block-recites g good =
-    let small = counters-small g good in
-    let tables = rw (← tables-are (g .tables) editionTables) at (rows-read g good (tableNumbers editionTables) (numbers-good editionTables editionTables (lit≤ tt))) in
+    let all = rw (← tables-are (g .tables) editionTables) at (rows-read g good (tableNumbers editionTables) (numbers-good editionTables editionTables (lit≤ tt))) in
     and-then _ _ _ _ (serial-reads g good)
     (and-then _ _ _ _ (date-reads g good)
     (and-then _ _ _ _ (time-reads g good)
     (and-then _ _ _ _ (account-reads g good)
-    (and-then _ _ _ _ (energy-reads 1 (g .counters .t1) (small .first))
-    (and-then _ _ _ _ (energy-reads 2 (g .counters .t2) (small .second))
-    (and-then _ _ _ _ (energy-reads 3 (g .counters .t3) (small .third))
-    (and-then _ _ _ _ (energy-reads 4 (g .counters .t4) (small .fourth))
-    (and-then _ _ _ _ (energy-reads 0 (shown.energy (g .counters) 0) (energy-small (g .counters) small 0)) tables))))))))
+    (and-then _ _ _ _ (own-energy-reads g good (zoneEnergy 1))
+    (and-then _ _ _ _ (own-energy-reads g good (zoneEnergy 2))
+    (and-then _ _ _ _ (own-energy-reads g good (zoneEnergy 3))
+    (and-then _ _ _ _ (own-energy-reads g good (zoneEnergy 4))
+    (and-then _ _ _ _ (own-energy-reads g good Total) all))))))))
 
 answer-recites : (g : Registers) → registersGood g ≡ true → (a : Ask) → answerable a ≡ true → Recites (askedSets g a) (answerSays g a)
 unfolding askedSets answerSays answerable
 answer-recites g good ask.Clock h = and-then _ _ _ _ (time-reads g good) (and-then _ _ _ _ (date-reads g good) and-none)
 answer-recites g good ask.Serial h = and-then _ _ _ _ (serial-reads g good) and-none
 answer-recites g good ask.Account h = and-then _ _ _ _ (account-reads g good) and-none
-answer-recites g good (ask.Energy n) h =
-    let wh = shown.energy (g .counters) n in
-    and-then _ _ _ _ (energy-reads n wh (energy-small (g .counters) (counters-small g good) n)) and-none
+answer-recites g good (ask.Energy e) h = and-then _ _ _ _ (own-energy-reads g good e) and-none
 answer-recites g good (ask.Table t) h = and-then _ _ _ _ (row-reads g good (t .0) h) and-none
 
 module _ (m : Meter) (f : wellFormed m ≡ true) where

@@ -8,9 +8,10 @@ use Rattle.line.specs.Quoted.{char}
 use Rattle.values.specs.Edition.{editionTables}
 use Rattle.values.specs.Registers.{goodTable, goodZone}
 use Rattle.frames.specs.Frames.{blockOf}
+use Rattle.state.specs.Sizes.{tables}
 use Rattle.state.specs.declared.Meter.{Meter}
+use Rattle.state.specs.Setting.{counterOf}
 use Rattle.replies.specs.Shown.{total, rowOf}
-use Rattle.replies.specs.Shown as shown
 use Rattle.commands.specs.Building.{goodChoice}
 use Rattle.commands.specs.Spoken.{readClock, readSerial, readAccount, readTotal, readZone, readTable}
 use Rattle.commands.specs.Messages.{Message, confirm, command}
@@ -27,8 +28,8 @@ pub record Learns (m : Meter) (x : Message) (xs : List Register) : Type 0 where
 pub record Answers (m : Meter) : Type 0 where
   pub block : (y : ℕ) → goodChoice y ≡ true → eqb y (char "1") ≡ false → Learns m (confirm y) (blockSays (m .registers))
   pub clock : Learns m (command readClock) (time (m .registers .clock .time) ∷ date (m .registers .clock .date) ∷ [])
-  pub own-serial : Learns m (command readSerial) (serial (m .registers .serial) ∷ [])
+  pub own-serial : Learns m (command readSerial) (serial (m .registers .facts .serial) ∷ [])
   pub own-account : Learns m (command readAccount) (account (m .registers .account) ∷ [])
   pub whole : Learns m (command readTotal) (energy 0 (total (m .registers .counters)) ∷ [])
-  pub zone : (n : ℕ) → goodZone n ≡ true → Learns m (command (readZone n)) (energy n (shown.energy (m .registers .counters) n) ∷ [])
+  pub zone : (n : ℕ) → goodZone n ≡ true → Learns m (command (readZone n)) (energy n (counterOf (m .registers .counters) n) ∷ [])
   pub table : (n : ℕ) → goodTable editionTables n ≡ true → Learns m (command (readTable n)) (row n (rowOf (m .registers .tables) n) ∷ [])

@@ -10,11 +10,13 @@ use Rattle.text.specs.Writing.{holding}
 use Rattle.clock.specs.declared.Date.{Date}
 use Rattle.clock.specs.declared.Time.{Time}
 use Rattle.values.specs.Edition.{editionTables, counterDigits, counterDecimals}
+use Rattle.values.specs.Registers.{energyNo}
 use Rattle.values.specs.Texts.{tableText}
 use Rattle.values.specs.Reading.{dateRead, timeRead, counterRead}
 use Rattle.values.specs.Serials.{serialRead, accountRead, rowRead}
 use Rattle.frames.specs.Frames.{blockOf, onWire}
 use Rattle.state.specs.declared.Registers.{Registers}
+use Rattle.state.specs.Setting.{counterOf}
 use Rattle.datasets.specs.Sets.{DataSet}
 use Rattle.replies.specs.declared.Ask.{Ask}
 use Rattle.replies.specs.declared.Ask.the-variants as ask
@@ -60,16 +62,17 @@ rows tables ns = map (λ n. row n (rowOf tables n)) ns
 -- the data block: serial, date, time, account, T1 to T4, total, the tables
 unfoldable pub blockSays : Registers → List Register
 blockSays g =
-    serial (g .serial) ∷ date (g .clock .date) ∷ time (g .clock .time) ∷ account (g .account)
-    ∷ energy 1 (g .counters .t1) ∷ energy 2 (g .counters .t2) ∷ energy 3 (g .counters .t3) ∷ energy 4 (g .counters .t4)
+    serial (g .facts .serial) ∷ date (g .clock .date) ∷ time (g .clock .time) ∷ account (g .account)
+    ∷ energy 1 (counterOf (g .counters) 1) ∷ energy 2 (counterOf (g .counters) 2)
+    ∷ energy 3 (counterOf (g .counters) 3) ∷ energy 4 (counterOf (g .counters) 4)
     ∷ energy 0 (total (g .counters)) ∷ rows (g .tables) (tableNumbers editionTables)
 
 -- the answers to R1
 unfoldable pub answerSays : Registers → Ask → List Register
 answerSays g ask.Clock = time (g .clock .time) ∷ date (g .clock .date) ∷ []
-answerSays g ask.Serial = serial (g .serial) ∷ []
+answerSays g ask.Serial = serial (g .facts .serial) ∷ []
 answerSays g ask.Account = account (g .account) ∷ []
-answerSays g (ask.Energy n) = energy n (shown.energy (g .counters) n) ∷ []
+answerSays g (ask.Energy e) = energy (energyNo e) (shown.energy (g .counters) e) ∷ []
 answerSays g (ask.Table t) = row (t .0) (rowOf (g .tables) (t .0)) ∷ []
 
 -- a block with this content, as a meter sends it: it strips, its part is the content, and that reads to its end as these registers

@@ -13,96 +13,93 @@ use lib.ListN.{length, take, drop, getD}
 use Rattle.line.specs.Runs.{every}
 use Rattle.line.specs.Characters.{seven}
 use Rattle.line.specs.Checksum.{bccOf}
-use Rattle.line.proofs.Runs.{and-left, and-right, and-both, every-append}
+use Rattle.line.proofs.Runs.{and-left, and-right, and-both, every-append, every-weaker, every-take, every-drop}
 use Rattle.line.proofs.Xor.{bcc-lt}
 use Rattle.text.specs.Classes.{between, isDigit}
-use Rattle.clock.specs.Seconds.{realClock}
-use Rattle.values.specs.Registers.{goodDigits, goodAccount, isAccountCharacter}
+use Rattle.values.specs.Registers.{goodDigits, goodAccount, isAccountCharacter, energyNo}
 use Rattle.frames.specs.Frames.{closed, frameOf, blockOf}
 use Rattle.frames.specs.Commands.{bracketed}
-use Rattle.state.specs.WellFormed.{factsGood, countersGood, tablesGood, registersGood, receiverGood, wellFormed}
+use Rattle.state.specs.Sizes.{rowLength, tables}
+use Rattle.state.specs.Setting.{rowStart, counterOf}
+use Rattle.state.specs.WellFormed.{tablesGood, registersGood, wellFormed}
+use Rattle.state.proofs.Parts.{formed, formed-registers, formed-facts}
 use Rattle.state.specs.declared.Meter.{Meter}
 use Rattle.state.specs.declared.Registers.{Registers}
 use Rattle.datasets.specs.Sets.{DataSet, linesOf}
 use Rattle.datasets.specs.Good.{goodSet, goodSets}
-use Rattle.datasets.proofs.Characters.{Within, within, every-within, every-take, every-drop}
+use Rattle.datasets.proofs.Characters.{Within, within}
 use Rattle.datasets.proofs.Good.{time-good, date-good, serial-good, account-good, energy-good, table-good, good-append, lines-shown}
 use Rattle.replies.specs.declared.Ask.{Ask}
 use Rattle.replies.specs.declared.Ask.the-variants as ask
-use Rattle.replies.specs.Shown.{Lengths, rowOf, energy}
+use Rattle.replies.specs.Shown.{Lengths, rowOf, total, energy}
 use Rattle.replies.specs.Answers.{askedSets, askedData}
 use Rattle.replies.specs.Block.{factSets, energySets, tableSets, blockSets, blockData}
 use Rattle.replies.specs.Fixed.{identification, passwordAsk, accepted, refused}
 use Rattle.replies.proofs.Sizes.{row-short}
 
 -- what the lines of well-formed registers lean on
-pub record Facts (g : Registers) : Type 0 where
-  pub lengths : Lengths 24 g
-  pub serial : every isDigit (g .serial) ≡ true
+pub record Ground (g : Registers) : Type 0 where
+  pub lengths : Lengths tables g
+  pub serial : every isDigit (g .facts .serial) ≡ true
   pub account : every isAccountCharacter (g .account) ≡ true
   pub tables : every (between 49 52) (g .tables) ≡ true
 
-pub register-facts : (g : Registers) → registersGood g ≡ true → Facts g
-unfolding registersGood factsGood goodDigits goodAccount tablesGood
-register-facts g h =
-    let facts = factsGood (g .serial) (g .account) (g .password) (g .clock) in
-    let counters = countersGood (g .counters) in
-    let tables = tablesGood 24 (g .tables) in
-    let serial = goodDigits 10 (g .serial) in
-    let account = goodAccount (g .account) in
-    let hf = and-left facts (counters && tables) h in
-    let ht = and-right counters tables (and-right facts (counters && tables) h) in
-    let hsa = and-left (serial && account) (goodDigits 8 (g .password) && realClock (g .clock)) hf in
-    let hs = and-left serial account hsa in
-    let ha = and-right serial account hsa in
+pub register-ground : (g : Registers) → registersGood g ≡ true → Ground g
+unfolding goodDigits goodAccount tablesGood
+register-ground g h =
+    let f = formed-registers g h in
+    let s = g .facts .serial in
+    let hs = formed-facts (g .facts) (f .facts) .serial in
+    let serial = eqb (length s) 10 in
+    let account = eqb (length (g .account)) 10 in
+    let rows = eqb (length (g .tables)) (tables * rowLength) in
     record {
       lengths = record {
-        serial = eqb-true (length (g .serial)) 10 (and-left (eqb (length (g .serial)) 10) (every isDigit (g .serial)) hs);
-        account = eqb-true (length (g .account)) 10 (and-left (eqb (length (g .account)) 10) (every isAccountCharacter (g .account)) ha);
-        rows = eqb-true (length (g .tables)) 576 (and-left (eqb (length (g .tables)) 576) (every (between 49 52) (g .tables)) ht);
+        serial = eqb-true (length s) 10 (and-left serial (every isDigit s) hs);
+        account = eqb-true (length (g .account)) 10 (and-left account (every isAccountCharacter (g .account)) (f .account));
+        rows = eqb-true (length (g .tables)) (tables * rowLength) (and-left rows (every (between 49 52) (g .tables)) (f .tables));
       };
-      serial = and-right (eqb (length (g .serial)) 10) (every isDigit (g .serial)) hs;
-      account = and-right (eqb (length (g .account)) 10) (every isAccountCharacter (g .account)) ha;
-      tables = and-right (eqb (length (g .tables)) 576) (every (between 49 52) (g .tables)) ht;
+      serial = and-right serial (every isDigit s) hs;
+      account = and-right account (every isAccountCharacter (g .account)) (f .account);
+      tables = and-right rows (every (between 49 52) (g .tables)) (f .tables);
     }
 
 pub well-formed-registers : (m : Meter) → wellFormed m ≡ true → registersGood (m .registers) ≡ true
-unfolding wellFormed
-well-formed-registers m h = and-right ((leb (m .mode) 4 && leb (m .attempts) 3) && receiverGood (m .mode) (m .receiver)) (registersGood (m .registers)) h
+well-formed-registers m h = formed m h .registers
 
 -- what the writers require
-pub well-formed-lengths : (m : Meter) → wellFormed m ≡ true → Lengths 24 (m .registers)
-well-formed-lengths m h = register-facts (m .registers) (well-formed-registers m h) .lengths
+pub well-formed-lengths : (m : Meter) → wellFormed m ≡ true → Lengths tables (m .registers)
+well-formed-lengths m h = register-ground (m .registers) (well-formed-registers m h) .lengths
 
-row-good : (g : Registers) → Facts g → (n : ℕ) → every (between 49 52) (rowOf (g .tables) n) ≡ true
+row-good : (g : Registers) → Ground g → (n : ℕ) → every (between 49 52) (rowOf (g .tables) n) ≡ true
 unfolding rowOf
-row-good g f n = every-take (between 49 52) 24 (drop ((n - 1) * 24) (g .tables)) (every-drop (between 49 52) ((n - 1) * 24) (g .tables) (f .tables))
+row-good g f n = every-take (between 49 52) rowLength (drop (rowStart n) (g .tables)) (every-drop (between 49 52) (rowStart n) (g .tables) (f .tables))
 
 -- every answer to R1 is good data sets
 pub asked-good : (g : Registers) (a : Ask) → registersGood g ≡ true → goodSets (askedSets g a) ≡ true
 unfolding askedSets goodSets
 asked-good g ask.Clock h = rw (time-good (g .clock .time), date-good (g .clock .date))
-asked-good g ask.Serial h = let f = register-facts g h in rw (serial-good (g .serial) (f .lengths .serial) (f .serial))
-asked-good g ask.Account h = let f = register-facts g h in rw (account-good (g .account) (f .lengths .account) (f .account))
-asked-good g (ask.Energy n) h = rw (energy-good n (energy (g .counters) n))
+asked-good g ask.Serial h = let f = register-ground g h in rw (serial-good (g .facts .serial) (f .lengths .serial) (f .serial))
+asked-good g ask.Account h = let f = register-ground g h in rw (account-good (g .account) (f .lengths .account) (f .account))
+asked-good g (ask.Energy e) h = rw (energy-good (energyNo e) (energy (g .counters) e))
 asked-good g (ask.Table t) h =
-    let f = register-facts g h in
+    let f = register-ground g h in
     let short = row-short (g .tables) (t .0) in
     rw (table-good (t .0) (rowOf (g .tables) (t .0)) (omega arith) (row-good g f (t .0)))
 
 -- and so is the data block
-tables-good : (g : Registers) → Facts g → (n : ℕ) → goodSets (tableSets (g .tables) n) ≡ true
+tables-good : (g : Registers) → Ground g → (n : ℕ) → goodSets (tableSets (g .tables) n) ≡ true
 unfolding tableSets goodSets
 tables-good g f zero = refl
 tables-good g f (suc n) =
     let short = row-short (g .tables) (suc n) in
     good-append (tableSets (g .tables) n) _ (tables-good g f n) (rw (table-good (suc n) (rowOf (g .tables) (suc n)) (omega arith) (row-good g f (suc n))))
 
-facts-good : (g : Registers) → Facts g → goodSets (factSets (g .serial) (g .clock) (g .account)) ≡ true
+facts-good : (g : Registers) → Ground g → goodSets (factSets (g .facts .serial) (g .clock) (g .account)) ≡ true
 unfolding factSets goodSets
 facts-good g f =
     rw (
-      serial-good (g .serial) (f .lengths .serial) (f .serial),
+      serial-good (g .facts .serial) (f .lengths .serial) (f .serial),
       date-good (g .clock .date),
       time-good (g .clock .time),
       account-good (g .account) (f .lengths .account) (f .account),
@@ -112,12 +109,18 @@ energies-good : (g : Registers) → goodSets (energySets (g .counters)) ≡ true
 unfolding energySets goodSets
 energies-good g =
     let c = g .counters in
-    rw (energy-good 1 (c .t1), energy-good 2 (c .t2), energy-good 3 (c .t3), energy-good 4 (c .t4), energy-good 0 (energy c 0))
+    rw (
+      energy-good 1 (counterOf c 1),
+      energy-good 2 (counterOf c 2),
+      energy-good 3 (counterOf c 3),
+      energy-good 4 (counterOf c 4),
+      energy-good 0 (total c),
+    )
 
 pub block-good : (tables : ℕ) (g : Registers) → registersGood g ≡ true → goodSets (blockSets tables g) ≡ true
 unfolding blockSets
 block-good tables g h =
-    let f = register-facts g h in
+    let f = register-ground g h in
     good-append _ _ (facts-good g f) (good-append _ _ (energies-good g) (tables-good g f tables))
 
 -- the block is the lines of its data sets and `!` CR LF; of 24 tables, 33 data sets
@@ -125,7 +128,7 @@ pub block-is-lines : (tables : ℕ) (g : Registers) → blockData tables g ≡ l
 unfolding blockData
 block-is-lines tables g = refl
 
-pub block-sets : (g : Registers) → length (blockSets 24 g) ≡ 33
+pub block-sets : (g : Registers) → length (blockSets tables g) ≡ 33
 unfolding blockSets factSets energySets tableSets
 block-sets g = refl
 
@@ -154,7 +157,7 @@ unfolding between
 shown-character = within (between 10 126) (between 0 127) refl shown-low
 
 pub no-etx : (content : List ℕ) → every (between 10 126) content ≡ true → every (λ c. not (eqb c 3)) content ≡ true
-no-etx = every-within (between 10 126) (λ c. not (eqb c 3)) shown-no-etx
+no-etx = every-weaker (between 10 126) (λ c. not (eqb c 3)) shown-no-etx
 
 character-is : (c : ℕ) → c < 128 → between 0 127 c ≡ true
 unfolding between
@@ -163,7 +166,7 @@ character-is c h = rw (le-leb 0 c (omega arith), le-leb c 127 (omega arith))
 pub block-characters : (content : List ℕ) → every (between 10 126) content ≡ true → every (between 0 127) (blockOf content) ≡ true
 unfolding blockOf closed every
 block-characters content h =
-    let e = every-append (between 0 127) content (3 ∷ []) (every-within (between 10 126) (between 0 127) shown-character content h) (rw (character-is 3 (omega arith))) in
+    let e = every-append (between 0 127) content (3 ∷ []) (every-weaker (between 10 126) (between 0 127) shown-character content h) (rw (character-is 3 (omega arith))) in
     rw (character-is 2 (omega arith))
     (every-append (between 0 127) (content ++ (3 ∷ [])) _ e (rw (character-is (bccOf (content ++ (3 ∷ []))) (bcc-lt (content ++ (3 ∷ []))))))
 

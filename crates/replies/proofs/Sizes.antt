@@ -9,8 +9,12 @@ use Rattle.clock.specs.declared.Date.{Date}
 use Rattle.clock.specs.declared.Time.{Time}
 use Rattle.clock.specs.declared.Clock.{Clock}
 use Rattle.values.specs.declared.TableNo.{TableNo}
+use Rattle.values.specs.declared.Energy.{Energy}
+use Rattle.values.specs.Registers.{energyNo}
 use Rattle.state.specs.declared.Counters.{Counters}
 use Rattle.state.specs.declared.Registers.{Registers}
+use Rattle.state.specs.Sizes.{rowLength, tables}
+use Rattle.state.specs.Setting.{rowStart, counterOf}
 use Rattle.frames.specs.Frames.{blockOf}
 use Rattle.frames.proofs.Sealing.{block-length}
 use Rattle.text.specs.Writing.{stored}
@@ -20,13 +24,13 @@ use Rattle.datasets.specs.Sets.{DataSet, linesOf, lineOf, tableSet, timeSet, da
 use Rattle.datasets.proofs.Lengths.{lines-append, lines-cons, time-line, date-line, serial-line, account-line, energy-line, table-line}
 use Rattle.replies.specs.declared.Ask.{Ask}
 use Rattle.replies.specs.declared.Ask.the-variants as ask
-use Rattle.replies.specs.Shown.{Lengths, rowOf, energy}
+use Rattle.replies.specs.Shown.{Lengths, rowOf, total, energy}
 use Rattle.replies.specs.Answers.{askedSets, askedData}
 use Rattle.replies.specs.Block.{factSets, energySets, tableSets, blockSets, blockData}
 
-pub row-short : (tables : List ℕ) (n : ℕ) → length (rowOf tables n) ≤ 24
+pub row-short : (rows : List ℕ) (n : ℕ) → length (rowOf rows n) ≤ rowLength
 unfolding rowOf
-row-short tables n = short 24 (drop ((n - 1) * 24) tables)
+row-short rows n = short rowLength (drop (rowStart n) rows)
   where
     short : (k : ℕ) (s : List ℕ) → length (take k s) ≤ k
     short zero s = omega arith
@@ -34,9 +38,9 @@ row-short tables n = short 24 (drop ((n - 1) * 24) tables)
     short (suc k) (x ∷ s) = omega (arith, short k s)
 
 -- the row of a table that is there
-pub row-long : (tables : List ℕ) (n : ℕ) → suc n * 24 ≤ length tables → length (rowOf tables (suc n)) ≡ 24
+pub row-long : (rows : List ℕ) (n : ℕ) → suc n * rowLength ≤ length rows → length (rowOf rows (suc n)) ≡ rowLength
 unfolding rowOf
-row-long tables n h = length-take-le 24 (drop ((suc n - 1) * 24) tables) (omega (arith, length-drop ((suc n - 1) * 24) tables))
+row-long rows n h = length-take-le rowLength (drop (rowStart (suc n)) rows) (omega (arith, length-drop (rowStart (suc n)) rows))
 
 pub facts-long : (serial : List ℕ) (clock : Clock) (account : List ℕ) → length serial ≡ 10 → length account ≡ 10
     → length (linesOf (factSets serial clock account)) ≡ 73
@@ -57,31 +61,31 @@ pub energies-long : (c : Counters) → length (linesOf (energySets c)) ≡ 120
 unfolding energySets linesOf
 energies-long c =
     rw (
-      lines-cons (energySet 1 (c .t1)) (energySet 2 (c .t2) ∷ energySet 3 (c .t3) ∷ energySet 4 (c .t4) ∷ energySet 0 (energy c 0) ∷ []),
-      lines-cons (energySet 2 (c .t2)) (energySet 3 (c .t3) ∷ energySet 4 (c .t4) ∷ energySet 0 (energy c 0) ∷ []),
-      lines-cons (energySet 3 (c .t3)) (energySet 4 (c .t4) ∷ energySet 0 (energy c 0) ∷ []),
-      lines-cons (energySet 4 (c .t4)) (energySet 0 (energy c 0) ∷ []),
-      lines-cons (energySet 0 (energy c 0)) [],
-      energy-line 1 (c .t1),
-      energy-line 2 (c .t2),
-      energy-line 3 (c .t3),
-      energy-line 4 (c .t4),
-      energy-line 0 (energy c 0),
+      lines-cons (energySet 1 (counterOf c 1)) (energySet 2 (counterOf c 2) ∷ energySet 3 (counterOf c 3) ∷ energySet 4 (counterOf c 4) ∷ energySet 0 (total c) ∷ []),
+      lines-cons (energySet 2 (counterOf c 2)) (energySet 3 (counterOf c 3) ∷ energySet 4 (counterOf c 4) ∷ energySet 0 (total c) ∷ []),
+      lines-cons (energySet 3 (counterOf c 3)) (energySet 4 (counterOf c 4) ∷ energySet 0 (total c) ∷ []),
+      lines-cons (energySet 4 (counterOf c 4)) (energySet 0 (total c) ∷ []),
+      lines-cons (energySet 0 (total c)) [],
+      energy-line 1 (counterOf c 1),
+      energy-line 2 (counterOf c 2),
+      energy-line 3 (counterOf c 3),
+      energy-line 4 (counterOf c 4),
+      energy-line 0 (total c),
     )
 
-pub tables-long : (tables : List ℕ) (n : ℕ) → n * 24 ≤ length tables → length (linesOf (tableSets tables n)) ≡ n * 36
+pub tables-long : (rows : List ℕ) (n : ℕ) → n * rowLength ≤ length rows → length (linesOf (tableSets rows n)) ≡ n * 36
 unfolding tableSets linesOf
-tables-long tables zero h = refl
-tables-long tables (suc n) h =
-    let last = tableSet (suc n) (rowOf tables (suc n)) in
-    rw (lines-append (tableSets tables n) (last ∷ []), length-append (linesOf (tableSets tables n)) (linesOf (last ∷ [])), tables-long tables n (omega arith))
-    (omega (arith, lines-cons last [], table-line (suc n) (rowOf tables (suc n)), row-long tables n h))
+tables-long rows zero h = refl
+tables-long rows (suc n) h =
+    let last = tableSet (suc n) (rowOf rows (suc n)) in
+    rw (lines-append (tableSets rows n) (last ∷ []), length-append (linesOf (tableSets rows n)) (linesOf (last ∷ [])), tables-long rows n (omega arith))
+    (omega (arith, lines-cons last [], table-line (suc n) (rowOf rows (suc n)), row-long rows n h))
 
 -- 193 characters before the tables, 36 for each, 3 at the end
 pub content-long : (tables : ℕ) (g : Registers) → Lengths tables g → length (blockData tables g) ≡ 196 + tables * 36
 unfolding blockData blockSets
 content-long tables g h =
-    let f = factSets (g .serial) (g .clock) (g .account) in
+    let f = factSets (g .facts .serial) (g .clock) (g .account) in
     let e = energySets (g .counters) in
     let t = tableSets (g .tables) tables in
     let a = length-append (linesOf (f ++ (e ++ t))) (33 ∷ 13 ∷ 10 ∷ []) in
@@ -91,14 +95,14 @@ content-long tables g h =
     ∙ omega (
       arith,
       b,
-      facts-long (g .serial) (g .clock) (g .account) (h .serial) (h .account),
+      facts-long (g .facts .serial) (g .clock) (g .account) (h .serial) (h .account),
       energies-long (g .counters),
       tables-long (g .tables) tables (omega (arith, h .rows)),
     )
 
 -- document 01: it is 1,063 characters
-pub block-long : (g : Registers) → Lengths 24 g → length (blockOf (blockData 24 g)) ≡ 1063
-block-long g h = block-length (blockData 24 g) ∙ omega (arith, content-long 24 g h)
+pub block-long : (g : Registers) → Lengths tables g → length (blockOf (blockData tables g)) ≡ 1063
+block-long g h = block-length (blockData tables g) ∙ omega (arith, content-long tables g h)
 
 one-long : (s : DataSet) → length (linesOf (s ∷ [])) ≡ length (lineOf s)
 unfolding linesOf
@@ -108,12 +112,14 @@ pub clock-long : (t : Time) (d : Date) → length (linesOf (timeSet t ∷ dateSe
 clock-long t d = lines-cons (timeSet t) (dateSet d ∷ []) ∙ omega (arith, one-long (dateSet d), time-line t, date-line d)
 
 -- an answer to R1 has at most 36 characters of data
-pub asked-short : (g : Registers) (a : Ask) → Lengths 24 g → length (askedData g a) ≤ 36
+pub asked-short : (g : Registers) (a : Ask) → Lengths tables g → length (askedData g a) ≤ 36
 unfolding askedData askedSets linesOf
 asked-short g ask.Clock h = omega (arith, clock-long (g .clock .time) (g .clock .date))
-asked-short g ask.Serial h = omega (arith, one-long (serialSet (g .serial)), serial-line (g .serial) (h .serial))
+asked-short g ask.Serial h = omega (arith, one-long (serialSet (g .facts .serial)), serial-line (g .facts .serial) (h .serial))
 asked-short g ask.Account h = omega (arith, one-long (accountSet (g .account)), account-line (g .account) (h .account))
-asked-short g (ask.Energy n) h = omega (arith, one-long (energySet n (energy (g .counters) n)), energy-line n (energy (g .counters) n))
+asked-short g (ask.Energy e) h =
+    let wh = energy (g .counters) e in
+    omega (arith, one-long (energySet (energyNo e) wh), energy-line (energyNo e) wh)
 asked-short g (ask.Table t) h =
     let row = rowOf (g .tables) (t .0) in
     omega (arith, one-long (tableSet (t .0) row), table-line (t .0) row, row-short (g .tables) (t .0))
@@ -125,12 +131,13 @@ unfolding askedData
 asked g a sets buf at place after e l = rw e (l .next, l .held)
 
 module _ (g : Registers) (a : Ask) (buf : List ℕ) (at place : ℕ) (after : List ℕ) where
-  pub asked-energy : (n wh : ℕ) → a ≡ ask.Energy n → wh ≡ energy (g .counters) n → place ≡ at + 24
-      → after ≡ stored buf at (lineOf (energySet n wh)) → (place ≡ at + length (askedData g a)) × (after ≡ stored buf at (askedData g a))
+  pub asked-energy : (e : Energy) (wh : ℕ) → a ≡ ask.Energy e → wh ≡ energy (g .counters) e → place ≡ at + 24
+      → after ≡ stored buf at (lineOf (energySet (energyNo e) wh)) → (place ≡ at + length (askedData g a)) × (after ≡ stored buf at (askedData g a))
   unfolding askedSets
-  asked-energy n wh told e p q =
-      let s = energySet n (energy (g .counters) n) in
-      asked g a (s ∷ []) buf at place after (ap (askedSets g) told) (single s 24 buf at place after (energy-line n (energy (g .counters) n)) p (rw e at q))
+  asked-energy e wh told is p q =
+      let shown = energy (g .counters) e in
+      let s = energySet (energyNo e) shown in
+      asked g a (s ∷ []) buf at place after (ap (askedSets g) told) (single s 24 buf at place after (energy-line (energyNo e) shown) p (rw is at q))
 
   pub asked-table : (t : TableNo) → a ≡ ask.Table t → place ≡ at + 12 + length (rowOf (g .tables) (t .0))
       → after ≡ stored buf at (lineOf (tableSet (t .0) (rowOf (g .tables) (t .0)))) → (place ≡ at + length (askedData g a)) × (after ≡ stored buf at (askedData g a))
@@ -142,23 +149,23 @@ module _ (g : Registers) (a : Ask) (buf : List ℕ) (at place : ℕ) (after : Li
 
 -- facts, energies, tables and the end, put in one after the other, are the block's data
 pub whole : (g : Registers) (buf : List ℕ) (at : ℕ) (b1 : List ℕ) (p1 : ℕ) (b2 : List ℕ) (p2 : ℕ) (b3 : List ℕ) (p3 : ℕ) (b4 : List ℕ)
-    → Lengths 24 g → p1 ≡ at + 73 → b1 ≡ stored buf at (linesOf (factSets (g .serial) (g .clock) (g .account)))
+    → Lengths tables g → p1 ≡ at + 73 → b1 ≡ stored buf at (linesOf (factSets (g .facts .serial) (g .clock) (g .account)))
     → p2 ≡ p1 + 120 → b2 ≡ stored b1 p1 (linesOf (energySets (g .counters)))
-    → p3 ≡ p2 + 864 → b3 ≡ stored b2 p2 (linesOf (tableSets (g .tables) 24))
-    → b4 ≡ stored b3 p3 (33 ∷ 13 ∷ 10 ∷ []) → b4 ≡ stored buf at (blockData 24 g)
+    → p3 ≡ p2 + 864 → b3 ≡ stored b2 p2 (linesOf (tableSets (g .tables) tables))
+    → b4 ≡ stored b3 p3 (33 ∷ 13 ∷ 10 ∷ []) → b4 ≡ stored buf at (blockData tables g)
 unfolding blockData blockSets
 whole g buf at b1 p1 b2 p2 b3 p3 b4 h q1 e1 q2 e2 q3 e3 e4 =
-    let f = factSets (g .serial) (g .clock) (g .account) in
+    let f = factSets (g .facts .serial) (g .clock) (g .account) in
     let e = energySets (g .counters) in
-    let t = tableSets (g .tables) 24 in
+    let t = tableSets (g .tables) tables in
     let facts : Lines buf at f p1 b1 =
-    record { next = omega (arith, facts-long (g .serial) (g .clock) (g .account) (h .serial) (h .account)); held = e1 } in
+    record { next = omega (arith, facts-long (g .facts .serial) (g .clock) (g .account) (h .serial) (h .account)); held = e1 } in
     let energies : Lines b1 p1 e p2 b2 = record { next = omega (arith, energies-long (g .counters)); held = e2 } in
-    let tables : Lines b2 p2 t p3 b3 =
-    record { next = omega (arith, tables-long (g .tables) 24 (omega (arith, h .rows))); held = e3 } in
-    let all = joined f (e ++ t) buf at p1 b1 p3 b3 facts (joined e t b1 p1 p2 b2 p3 b3 energies tables) in
+    let rows : Lines b2 p2 t p3 b3 =
+    record { next = omega (arith, tables-long (g .tables) tables (omega (arith, h .rows))); held = e3 } in
+    let all = joined f (e ++ t) buf at p1 b1 p3 b3 facts (joined e t b1 p1 p2 b2 p3 b3 energies rows) in
     and-then buf at (linesOf (f ++ (e ++ t))) b3 p3 (33 ∷ 13 ∷ 10 ∷ []) b4 (all .held) (all .next) e4
 
 -- so every answer to R1 fits, with STX, ETX and BCC
-pub asked-fits : (g : Registers) (a : Ask) → Lengths 24 g → length (blockOf (askedData g a)) ≤ 39
+pub asked-fits : (g : Registers) (a : Ask) → Lengths tables g → length (blockOf (askedData g a)) ≤ 39
 asked-fits g a h = rw (block-length (askedData g a)) (omega (arith, asked-short g a h))

@@ -1,6 +1,7 @@
 -- Document 01, "Deciding a frame": what is asked by R1, and the data of the answer.
 use mathlib.Core.List.{List, [], _∷_}
 use Prim.Native.Nat.{ℕ}
+use Rattle.values.specs.Registers.{energyNo}
 use Rattle.state.specs.declared.Registers.{Registers}
 use Rattle.datasets.specs.Sets.{DataSet, linesOf, timeSet, dateSet, serialSet, accountSet, energySet, tableSet}
 use Rattle.replies.specs.declared.Ask.{Ask}
@@ -10,9 +11,9 @@ use Rattle.replies.specs.Shown.{energy, rowOf}
 -- T(), L(), K(), E0() to E4(), Z(xx)
 unfoldable pub askedSets : Registers → Ask → List DataSet
 askedSets g Clock = timeSet (g .clock .time) ∷ dateSet (g .clock .date) ∷ []
-askedSets g Serial = serialSet (g .serial) ∷ []
+askedSets g Serial = serialSet (g .facts .serial) ∷ []
 askedSets g Account = accountSet (g .account) ∷ []
-askedSets g (Energy n) = energySet n (energy (g .counters) n) ∷ []
+askedSets g (Energy e) = energySet (energyNo e) (energy (g .counters) e) ∷ []
 askedSets g (Table t) = tableSet (t .0) (rowOf (g .tables) (t .0)) ∷ []
 
 -- each line ends CR LF

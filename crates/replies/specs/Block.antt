@@ -5,8 +5,9 @@ use Rattle.line.specs.Quoted.{chars}
 use Rattle.clock.specs.declared.Clock.{Clock}
 use Rattle.state.specs.declared.Counters.{Counters}
 use Rattle.state.specs.declared.Registers.{Registers}
+use Rattle.state.specs.Setting.{counterOf}
 use Rattle.datasets.specs.Sets.{DataSet, linesOf, timeSet, dateSet, serialSet, accountSet, energySet, tableSet}
-use Rattle.replies.specs.Shown.{energy, rowOf}
+use Rattle.replies.specs.Shown.{total, rowOf}
 
 -- serial, date, time, account
 unfoldable pub factSets : List ℕ → Clock → List ℕ → List DataSet
@@ -14,7 +15,9 @@ factSets serial clock account = serialSet serial ∷ dateSet (clock .date) ∷ t
 
 -- T1 to T4, total
 unfoldable pub energySets : Counters → List DataSet
-energySets c = energySet 1 (c .t1) ∷ energySet 2 (c .t2) ∷ energySet 3 (c .t3) ∷ energySet 4 (c .t4) ∷ energySet 0 (energy c 0) ∷ []
+energySets c =
+    energySet 1 (counterOf c 1) ∷ energySet 2 (counterOf c 2) ∷ energySet 3 (counterOf c 3) ∷ energySet 4 (counterOf c 4)
+    ∷ energySet 0 (total c) ∷ []
 
 -- tables 01 to n
 unfoldable pub tableSets : List ℕ → ℕ → List DataSet
@@ -23,7 +26,7 @@ tableSets tables (suc n) = tableSets tables n ++ (tableSet (suc n) (rowOf tables
 
 -- all of it, of a meter with so many tables
 unfoldable pub blockSets : ℕ → Registers → List DataSet
-blockSets tables g = factSets (g .serial) (g .clock) (g .account) ++ (energySets (g .counters) ++ tableSets (g .tables) tables)
+blockSets tables g = factSets (g .facts .serial) (g .clock) (g .account) ++ (energySets (g .counters) ++ tableSets (g .tables) tables)
 
 -- and the line that ends it, `!` CR LF
 unfoldable pub blockData : ℕ → Registers → List ℕ

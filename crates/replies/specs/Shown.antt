@@ -1,26 +1,34 @@
 -- What the registers show: the energies, and the row of a table. And how long the registers are.
 use mathlib.Core.Path.{_≡_}
 use mathlib.Core.List.{List, [], _∷_}
-use Prim.Native.Nat.{ℕ, _+_, _-_, _*_, _%_}
-use lib.ListN.{length, getD, take, drop}
-use Rattle.values.specs.Edition.{rowLength}
+use Prim.Native.Nat.{ℕ, _+_, _*_, _%_}
+use lib.ListN.{length, take, drop}
+use Rattle.values.specs.declared.Energy.{Energy}
+use Rattle.values.specs.declared.Energy.the-variants.{Total, Zone}
+use Rattle.state.specs.Sizes.{rowLength, counterEnd}
+use Rattle.state.specs.Setting.{counterOf, rowStart}
 use Rattle.state.specs.declared.Counters.{Counters}
 use Rattle.state.specs.declared.Registers.{Registers}
 
--- the sum of the four modulo 1,000,000,000
-unfoldable pub total : Counters → ℕ
-total c = (((c .t1 + c .t2) + c .t3) + c .t4) % 1000000000
+unfoldable pub sumOf : List ℕ → ℕ
+sumOf [] = 0
+sumOf (wh ∷ rest) = wh + sumOf rest
 
--- 0 is the total, 1 to 4 the zones
-unfoldable pub energy : Counters → ℕ → ℕ
-energy c n = getD (total c ∷ c .t1 ∷ c .t2 ∷ c .t3 ∷ c .t4 ∷ []) n 0
+-- the sum of the zones modulo 1,000,000,000
+unfoldable pub total : Counters → ℕ
+total c = sumOf (c .zones) % counterEnd
+
+-- the total, or a zone's counter
+unfoldable pub energy : Counters → Energy → ℕ
+energy c Total = total c
+energy c (Zone z) = counterOf c (z .0)
 
 -- the characters of a table
 unfoldable pub rowOf : List ℕ → ℕ → List ℕ
-rowOf tables n = take rowLength (drop ((n - 1) * rowLength) tables)
+rowOf rows n = take rowLength (drop (rowStart n) rows)
 
 -- ten characters of serial and of account, and so many rows
 pub record Lengths (tables : ℕ) (g : Registers) : Type 0 where
-  pub serial : length (g .serial) ≡ 10
+  pub serial : length (g .facts .serial) ≡ 10
   pub account : length (g .account) ≡ 10
   pub rows : length (g .tables) ≡ tables * rowLength

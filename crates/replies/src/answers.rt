@@ -1,8 +1,9 @@
 // The data sets that R1 asks for.
 ghost use mathlib.Core.Path.{_≡_};
 ghost use mathlib.Core.List.{[], _∷_};
-ghost use Prim.Native.Nat.{_+_, _-_, _*_, _≤_};
+ghost use Prim.Native.Nat.{_+_, _≤_, _<_};
 ghost use lib.ListN.{length};
+ghost use Rattle.state.specs.Sizes.{tables};
 ghost use Rattle.text.specs.Writing.{stored};
 ghost use Rattle.datasets.specs.Sets.{lineOf, linesOf, timeSet, dateSet, tableSet};
 ghost use Rattle.replies.specs.Shown.{Lengths, total, energy, rowOf};
@@ -11,44 +12,42 @@ use crate::Ask;
 use clock::Clock;
 use state::Counters;
 use state::Registers;
+use state::setting::row_start;
+use values::Energy;
+use values::ROW_LENGTH;
 use values::TableNo;
 
-// The sum of the four counters modulo 1,000,000,000.
+fn wide(wh: u32) -> u64
+    ensures { λ r. ⌜ r ≡ wh ⌝ }
+    ensures small { λ r. ⌜ r < 4294967296 ⌝ }
+{
+    wh as u64
+}
+
+// The sum of the counters modulo 1,000,000,000.
 pub fn total_of(c: Counters) -> u32
     ensures { λ r. ⌜ r ≡ total c ⌝ }
 {
-    let sum = c.t1 as u64 + c.t2 as u64 + c.t3 as u64 + c.t4 as u64;
-    (sum % 1_000_000_000) as u32
+    let z = c.zones;
+    let sum = wide(z[0]) + wide(z[1]) + wide(z[2]) + wide(z[3]);
+    (sum % state::COUNTER_END as u64) as u32
 }
 
-// The total for 0, and the counter of a zone.
-fn energy_of(c: Counters, n: u8) -> u32
-    ensures { λ r. ⌜ r ≡ energy c n ⌝ }
+// The total, or the counter of a zone.
+fn energy_of(c: Counters, e: Energy) -> u32
+    ensures { λ r. ⌜ r ≡ energy c e ⌝ }
 {
-    let all = [total_of(c), c.t1, c.t2, c.t3, c.t4];
-    let i = n as usize;
-    if i < 5 {
-        return all[i];
+    match e {
+        Energy::Total => total_of(c),
+        Energy::Zone(z) => state::setting::counter_of(c, z),
     }
-    0
-}
-
-// Where a table's row starts.
-fn row_start(t: TableNo) -> usize
-    ensures { λ r. ⌜ r ≡ (t .0 - 1) * 24 ⌝ }
-{
-    let n = t.0 as usize;
-    if n == 0 {
-        return 0;
-    }
-    (n - 1) * 24
 }
 
 // The row of a table.
-fn row_of(tables: &[u8], t: TableNo) -> &[u8]
-    ensures { λ r. ⌜ now r ≡ rowOf (now (tables .entry)) (t .0) ⌝ }
+fn row_of(rows: &[u8], t: TableNo) -> &[u8]
+    ensures { λ r. ⌜ now r ≡ rowOf (now (rows .entry)) (t .0) ⌝ }
 {
-    text::first(text::rest(tables, row_start(t)), 24)
+    text::first(text::rest(rows, row_start(t)), ROW_LENGTH)
 }
 
 // The time, then the date.
@@ -62,18 +61,18 @@ fn put_clock_sets(buf: &mut [u8], at: usize, c: Clock) -> usize
 }
 
 // The row of a table that was asked for.
-fn put_asked_table(buf: &mut [u8], at: usize, tables: &[u8], t: TableNo) -> usize
+fn put_asked_table(buf: &mut [u8], at: usize, rows: &[u8], t: TableNo) -> usize
     requires { ⌜ at + 36 ≤ length (now buf) ⌝ }
-    ensures next { λ r. ⌜ r ≡ at + 12 + length (rowOf (now (tables .entry)) (t .0)) ⌝ }
-    ensures held { λ _. ⌜ now (buf .exit) ≡ stored (now (buf .entry)) at (lineOf (tableSet (t .0) (rowOf (now (tables .entry)) (t .0)))) ⌝ }
+    ensures next { λ r. ⌜ r ≡ at + 12 + length (rowOf (now (rows .entry)) (t .0)) ⌝ }
+    ensures held { λ _. ⌜ now (buf .exit) ≡ stored (now (buf .entry)) at (lineOf (tableSet (t .0) (rowOf (now (rows .entry)) (t .0)))) ⌝ }
 {
-    let row = row_of(tables, t);
+    let row = row_of(rows, t);
     datasets::put_table_set(buf, at, t, row)
 }
 
 // The data that R1 asks for.
 pub fn put_asked(buf: &mut [u8], at: usize, g: Registers, a: Ask) -> usize
-    requires { ⌜ Lengths 24 g × (at + 36 ≤ length (now buf)) ⌝ }
+    requires { ⌜ Lengths tables g × (at + 36 ≤ length (now buf)) ⌝ }
     ensures next { λ r. ⌜ r ≡ at + length (askedData g a) ⌝ }
     ensures held { λ _. ⌜ now (buf .exit) ≡ stored (now (buf .entry)) at (askedData g a) ⌝ }
 {
@@ -82,15 +81,16 @@ pub fn put_asked(buf: &mut [u8], at: usize, g: Registers, a: Ask) -> usize
             return put_clock_sets(buf, at, g.clock);
         }
         Ask::Serial => {
-            let s = g.serial;
+            let f = g.facts;
+            let s = f.serial;
             return datasets::put_serial_set(buf, at, &s);
         }
         Ask::Account => {
             let s = g.account;
             return datasets::put_account_set(buf, at, &s);
         }
-        Ask::Energy(n) => {
-            return datasets::put_energy_set(buf, at, n, energy_of(g.counters, n));
+        Ask::Energy(e) => {
+            return datasets::put_energy_set(buf, at, e, energy_of(g.counters, e));
         }
         Ask::Table(t) => {
             let s = g.tables;

@@ -1,8 +1,9 @@
 // The data sets of the data block.
 ghost use mathlib.Core.Path.{_≡_};
-ghost use Prim.Native.Nat.{_+_, _≤_};
+ghost use Prim.Native.Nat.{_+_, _*_, _≤_};
 ghost use lib.ListN.{length};
 ghost use Rattle.text.specs.Writing.{stored};
+ghost use Rattle.state.specs.Sizes.{tables, rowLength};
 ghost use Rattle.datasets.specs.Sets.{linesOf};
 ghost use Rattle.replies.specs.Shown.{Lengths};
 ghost use Rattle.replies.specs.Block.{factSets, energySets, tableSets, blockData};
@@ -10,7 +11,11 @@ use crate::answers::total_of;
 use clock::Clock;
 use state::Counters;
 use state::Registers;
+use values::Energy;
+use values::ROW_LENGTH;
+use values::TABLES;
 use values::TableNo;
+use values::ZoneNo;
 
 // Serial, date, time and account.
 fn put_facts(buf: &mut [u8], at: usize, serial: &[u8], clock: Clock, account: &[u8]) -> usize
@@ -30,25 +35,26 @@ fn put_energies(buf: &mut [u8], at: usize, c: Counters) -> usize
     ensures next { λ r. ⌜ r ≡ at + 120 ⌝ }
     ensures held { λ _. ⌜ now (buf .exit) ≡ stored (now (buf .entry)) at (linesOf (energySets c)) ⌝ }
 {
-    let p = datasets::put_energy_set(buf, at, 1, c.t1);
-    let q = datasets::put_energy_set(buf, p, 2, c.t2);
-    let r = datasets::put_energy_set(buf, q, 3, c.t3);
-    let s = datasets::put_energy_set(buf, r, 4, c.t4);
-    datasets::put_energy_set(buf, s, 0, total_of(c))
+    let zones = c.zones;
+    let p = datasets::put_energy_set(buf, at, Energy::Zone(ZoneNo(1)), zones[0]);
+    let q = datasets::put_energy_set(buf, p, Energy::Zone(ZoneNo(2)), zones[1]);
+    let r = datasets::put_energy_set(buf, q, Energy::Zone(ZoneNo(3)), zones[2]);
+    let s = datasets::put_energy_set(buf, r, Energy::Zone(ZoneNo(4)), zones[3]);
+    datasets::put_energy_set(buf, s, Energy::Total, total_of(c))
 }
 
 // Tables 01 to 24.
-fn put_tables(buf: &mut [u8], at: usize, tables: &[u8]) -> usize
-    requires { ⌜ (length (now tables) ≡ 576) × (at + 864 ≤ length (now buf)) ⌝ }
+fn put_tables(buf: &mut [u8], at: usize, rows: &[u8]) -> usize
+    requires { ⌜ (length (now rows) ≡ tables * rowLength) × (at + 864 ≤ length (now buf)) ⌝ }
     ensures next { λ r. ⌜ r ≡ at + 864 ⌝ }
-    ensures held { λ _. ⌜ now (buf .exit) ≡ stored (now (buf .entry)) at (linesOf (tableSets (now (tables .entry)) 24)) ⌝ }
+    ensures held { λ _. ⌜ now (buf .exit) ≡ stored (now (buf .entry)) at (linesOf (tableSets (now (rows .entry)) tables)) ⌝ }
 {
     let mut i: u8 = 0;
     let mut place = at;
-    while i < 24 {
-        let from = i as usize * 24;
-        let to = from + 24;
-        place = datasets::put_table_set(buf, place, TableNo(i + 1), &tables[from..to]);
+    while i < TABLES {
+        let from = i as usize * ROW_LENGTH;
+        let to = from + ROW_LENGTH;
+        place = datasets::put_table_set(buf, place, TableNo(i + 1), &rows[from..to]);
         i += 1;
     }
     place
@@ -56,15 +62,16 @@ fn put_tables(buf: &mut [u8], at: usize, tables: &[u8]) -> usize
 
 // All of it, and the line that ends it.
 pub fn put_block(buf: &mut [u8], at: usize, g: Registers) -> usize
-    requires { ⌜ Lengths 24 g × (at + 1060 ≤ length (now buf)) ⌝ }
+    requires { ⌜ Lengths tables g × (at + 1060 ≤ length (now buf)) ⌝ }
     ensures next { λ r. ⌜ r ≡ at + 1060 ⌝ }
-    ensures held { λ _. ⌜ now (buf .exit) ≡ stored (now (buf .entry)) at (blockData 24 g) ⌝ }
+    ensures held { λ _. ⌜ now (buf .exit) ≡ stored (now (buf .entry)) at (blockData tables g) ⌝ }
 {
-    let serial = g.serial;
+    let f = g.facts;
+    let serial = f.serial;
     let account = g.account;
-    let tables = g.tables;
+    let rows = g.tables;
     let a = put_facts(buf, at, &serial, g.clock, &account);
     let b = put_energies(buf, a, g.counters);
-    let c = put_tables(buf, b, &tables);
+    let c = put_tables(buf, b, &rows);
     text::put(buf, c, b"!\r\n")
 }

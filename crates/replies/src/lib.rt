@@ -5,22 +5,24 @@ ghost use Prim.Native.Nat.{_+_, _≤_};
 ghost use lib.ListN.{length};
 ghost use Rattle.text.specs.Writing.{holding};
 ghost use Rattle.frames.specs.Frames.{blockOf, onWire};
+ghost use Rattle.state.specs.Sizes.{tables, replyRoom};
 ghost use Rattle.replies.specs.Shown.{Lengths};
 ghost use Rattle.replies.specs.Answers.{askedData};
 ghost use Rattle.replies.specs.Block.{blockData};
 ghost use Rattle.replies.specs.Fixed.{identification, passwordAsk, accepted, refused};
 use state::Registers;
+use values::Energy;
 use values::TableNo;
 
 mod answers;
 mod block;
 
-// What R1 asks for; the total is energy 0.
+// What R1 asks for.
 pub enum Ask {
     Clock,
     Serial,
     Account,
-    Energy(u8),
+    Energy(Energy),
     Table(TableNo),
 }
 
@@ -74,7 +76,7 @@ pub fn ask_password(buf: &mut [u8]) -> usize
 
 // The answer to R1.
 pub fn answer(buf: &mut [u8], g: Registers, a: Ask) -> usize
-    requires { ⌜ Lengths 24 g × (2048 ≤ length (now buf)) ⌝ }
+    requires { ⌜ Lengths tables g × (replyRoom ≤ length (now buf)) ⌝ }
     ensures whole { λ r. ⌜ r ≡ length (blockOf (askedData g a)) ⌝ }
     ensures held { λ _. ⌜ now (buf .exit) ≡ holding (now (buf .entry)) (onWire (blockOf (askedData g a))) ⌝ }
 {
@@ -85,9 +87,9 @@ pub fn answer(buf: &mut [u8], g: Registers, a: Ask) -> usize
 
 // The data block.
 pub fn data_block(buf: &mut [u8], g: Registers) -> usize
-    requires { ⌜ Lengths 24 g × (2048 ≤ length (now buf)) ⌝ }
+    requires { ⌜ Lengths tables g × (replyRoom ≤ length (now buf)) ⌝ }
     ensures whole { λ r. ⌜ r ≡ 1063 ⌝ }
-    ensures held { λ _. ⌜ now (buf .exit) ≡ holding (now (buf .entry)) (onWire (blockOf (blockData 24 g))) ⌝ }
+    ensures held { λ _. ⌜ now (buf .exit) ≡ holding (now (buf .entry)) (onWire (blockOf (blockData tables g))) ⌝ }
 {
     let start = text::put(buf, 0, b"\x02");
     let end = block::put_block(buf, start, g);

@@ -12,7 +12,7 @@ use Rattle.receiving.specs.declared.Hearing.{Hearing}
 use Rattle.receiving.specs.declared.Hearing.the-variants.{Drop, Hold, Restart, Empty, Line, Confirm, Frame, TooLong}
 use Rattle.receiving.specs.Hearing.{hearing}
 use Rattle.receiving.specs.Receivers.{lastHeld, keptReceiver, restartedReceiver}
-use Rattle.changes.specs.Changes.{withReceiver}
+use Rattle.state.specs.Setting.{withReceiver}
 use Rattle.meter.specs.Outcomes.{Outcome, speedOf}
 use Rattle.meter.specs.Character.{symbol}
 use Rattle.meter.specs.declared.Event.{Event}

@@ -65,7 +65,7 @@ fn hear(m: Meter, b: u8) -> Heard
         Hearing::Drop => go_on(m.mode, r),
         Hearing::Hold => go_on(m.mode, receiving::keep(r, c, damaged)),
         Hearing::Restart => go_on(m.mode, receiving::restart(c)),
-        Hearing::Empty => go_on(m.mode, receiving::empty()),
+        Hearing::Empty => go_on(m.mode, state::setting::empty_receiver()),
         Hearing::Line => end(r),
         Hearing::Confirm => end(r),
         Hearing::Frame => end(r),

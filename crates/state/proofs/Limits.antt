@@ -10,6 +10,7 @@ use borrow.Author.Tests.{le-leb, lt-leb, eq-eqb, ne-eqb}
 use Rattle.line.specs.Runs.{every}
 use Rattle.line.proofs.Runs.{and-assoc, left-next}
 use Rattle.text.specs.Classes.{between}
+use Rattle.state.specs.Sizes.{heldPlaces}
 use Rattle.state.specs.WellFormed.{limit, heldGood}
 
 -- a place: any of 0 to 127 while `below` says that it is held, else 0
@@ -62,15 +63,15 @@ places-all (suc n) below [] e = refl
 places-all (suc n) below (c ∷ s) e =
     rw (held-one below c (omega (arith, e)), places-all n (below - 1) s (omega (arith, e))) (sym (and-assoc (between 0 127 c) (every (between 0 127) s) (every (between 0 0) (drop n s))))
 
-pub places-good : (held : List ℕ) (count : ℕ) → length held ≡ 63 → placesGood (count + 127) held ≡ heldGood held count
+pub places-good : (held : List ℕ) (count : ℕ) → length held ≡ heldPlaces → placesGood (count + 127) held ≡ heldGood held count
 unfolding heldGood
-places-good held count h = rw (eq-eqb (length held) 63 h) (places-all count (count + 127) held refl)
+places-good held count h = rw (eq-eqb (length held) heldPlaces h) (places-all count (count + 127) held refl)
 
 -- no mode holds more
 at-most : (b : Bool) (x y m : ℕ) → x ≤ m → y ≤ m → cond b x y ≤ m
 at-most true x y m h k = h
 at-most false x y m h k = k
 
-pub limit-most : (mode : ℕ) → limit mode ≤ 63
+pub limit-most : (mode : ℕ) → limit mode ≤ heldPlaces
 unfolding limit
 limit-most mode = at-most (eqb mode 0) 31 _ 63 (omega arith) (at-most (eqb mode 1) 5 63 63 (omega arith) (omega arith))

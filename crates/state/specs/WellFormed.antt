@@ -2,7 +2,7 @@
 use mathlib.Core.Bool.{Bool, true, false, cond, not, _&&_, _||_}
 use mathlib.Core.List.{List}
 use Prim.Native.Nat.{ℕ, _*_}
-use lib.Dec.{eqb, leb}
+use lib.Dec.{eqb, leb, ltb}
 use lib.ListN.{length, drop, getD}
 use Rattle.line.specs.Runs.{every}
 use Rattle.text.specs.Classes.{between}
@@ -10,13 +10,15 @@ use Rattle.clock.specs.Seconds.{realClock}
 use Rattle.clock.specs.declared.Clock.{Clock}
 use Rattle.values.specs.Registers.{goodSerial, goodAccount, goodPassword}
 use Rattle.state.specs.declared.Receiver.{Receiver}
+use Rattle.state.specs.declared.Facts.{Facts}
 use Rattle.state.specs.declared.Counters.{Counters}
 use Rattle.state.specs.declared.Registers.{Registers}
 use Rattle.state.specs.declared.Meter.{Meter}
+use Rattle.state.specs.Sizes.{heldPlaces, rowLength, tables, counterEnd}
 
 -- at most 31 held in mode 0, 5 in mode 1, 63 in modes 2 to 4
 unfoldable pub limit : ℕ → ℕ
-limit mode = cond (eqb mode 0) 31 (cond (eqb mode 1) 5 63)
+limit mode = cond (eqb mode 0) 31 (cond (eqb mode 1) 5 heldPlaces)
 
 -- the first held is '/' in mode 0, SOH in modes 2 to 4
 unfoldable pub firstGood : ℕ → ℕ → ℕ → Bool
@@ -24,11 +26,15 @@ firstGood mode count first = cond (eqb mode 0) (eqb count 0 || eqb first 47) (eq
 
 -- there are 63 places; held characters are 0 to 127, and unused places hold 0
 unfoldable pub heldGood : List ℕ → ℕ → Bool
-heldGood held count = eqb (length held) 63 && (every (between 0 127) held && every (between 0 0) (drop count held))
+heldGood held count = eqb (length held) heldPlaces && (every (between 0 127) held && every (between 0 0) (drop count held))
 
--- an empty receiver has no mark
-unfoldable pub markGood : ℕ → Bool → Bool
-markGood count mark = not (eqb count 0) || not mark
+-- a mark is 0 or 1, and an empty receiver has none
+unfoldable pub markGood : ℕ → ℕ → Bool
+markGood count mark = leb mark 1 && (not (eqb count 0) || eqb mark 0)
+
+-- damage was seen
+abbrev pub marked : Receiver → Bool
+marked r = eqb (r .mark) 1
 
 unfoldable pub receiverGood : ℕ → Receiver → Bool
 receiverGood mode r =
@@ -36,20 +42,30 @@ receiverGood mode r =
     ((firstGood mode (r .count) (getD (r .held) 0 0) && markGood (r .count) (r .mark)) && heldGood (r .held) (r .count))
     false
 
--- each counter is 0 to 999,999,999
-unfoldable pub countersGood : Counters → Bool
-countersGood c = (leb (c .t1) 999999999 && leb (c .t2) 999999999) && (leb (c .t3) 999999999 && leb (c .t4) 999999999)
+-- four counters, each 0 to 999,999,999
+unfoldable pub below : ℕ → ℕ → Bool
+below end n = ltb n end
+
+unfoldable pub zonesGood : List ℕ → Bool
+zonesGood zones = eqb (length zones) 4 && every (below counterEnd) zones
+
+abbrev pub countersGood : Counters → Bool
+countersGood c = zonesGood (c .zones)
 
 -- so many tables of 24 characters '1' to '4'
 unfoldable pub tablesGood : ℕ → List ℕ → Bool
-tablesGood tables s = eqb (length s) (tables * 24) && every (between 49 52) s
+tablesGood n s = eqb (length s) (n * rowLength) && every (between 49 52) s
 
--- serial, account, password and clock
-unfoldable pub factsGood : List ℕ → List ℕ → List ℕ → Clock → Bool
-factsGood serial account password clock = (goodSerial serial && goodAccount account) && (goodPassword password && realClock clock)
+-- what a meter has for life: serial and password
+unfoldable pub factsGood : Facts → Bool
+factsGood f = goodSerial (f .serial) && goodPassword (f .password)
+
+-- what a meter is made from: these, account and clock
+unfoldable pub factoryGood : Facts → List ℕ → Clock → Bool
+factoryGood facts account clock = factsGood facts && (goodAccount account && realClock clock)
 
 unfoldable pub registersGood : Registers → Bool
-registersGood g = factsGood (g .serial) (g .account) (g .password) (g .clock) && (countersGood (g .counters) && tablesGood 24 (g .tables))
+registersGood g = factoryGood (g .facts) (g .account) (g .clock) && (countersGood (g .counters) && tablesGood tables (g .tables))
 
 unfoldable pub wellFormed : Meter → Bool
 wellFormed m = ((leb (m .mode) 4 && leb (m .attempts) 3) && receiverGood (m .mode) (m .receiver)) && registersGood (m .registers)

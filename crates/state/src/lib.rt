@@ -2,38 +2,59 @@
 ghost use mathlib.Core.Path.{_≡_};
 ghost use Prim.Native.Nat.{_≤_};
 ghost use lib.ListN.{length};
-ghost use Rattle.state.specs.WellFormed.{limit, firstGood, heldGood, receiverGood, countersGood, tablesGood, factsGood, registersGood, wellFormed};
-ghost use Rattle.state.specs.Making.{meterOf, blankMeter, madeOf};
+ghost use Rattle.line.specs.Runs.{every};
+ghost use Rattle.state.specs.Sizes.{tables, heldPlaces};
+ghost use Rattle.state.specs.WellFormed.{limit, firstGood, heldGood, receiverGood, below, zonesGood, countersGood, tablesGood, factsGood, factoryGood, registersGood, wellFormed};
+ghost use Rattle.state.specs.Making.{factsOf, meterOf, blankMeter, madeOf};
 use clock::Clock;
 use clock::Date;
 use clock::Time;
+use values::ROW_LENGTH;
+use values::TABLES;
 
-// What was received of a line or frame so far.
+pub mod setting;
+
+// A receiver holds so many characters at most.
+pub const HELD_PLACES: u8 = 63;
+
+// The rows of all tables, one after the other.
+pub const ALL_ROWS: usize = TABLES as usize * ROW_LENGTH;
+
+// A counter rolls over here.
+pub const COUNTER_END: u32 = 1_000_000_000;
+
+// The least room of a reply buffer.
+pub const REPLY_ROOM: usize = 2_048;
+
+// What was received of a line or frame so far; the mark is 1 where damage was seen, else 0.
 #[repr(C)]
 pub struct Receiver {
-    pub held: [u8; 63],
+    pub held: [u8; HELD_PLACES as usize],
     pub count: u8,
-    pub mark: bool,
+    pub mark: u8,
+}
+
+// What a meter has for life.
+#[repr(C)]
+pub struct Facts {
+    pub serial: [u8; 10],
+    pub password: [u8; 8],
 }
 
 // The zones' counters in Wh.
 #[repr(C)]
 pub struct Counters {
-    pub t1: u32,
-    pub t2: u32,
-    pub t3: u32,
-    pub t4: u32,
+    pub zones: [u32; 4],
 }
 
 // What a refused frame never changes.
 #[repr(C)]
 pub struct Registers {
-    pub serial: [u8; 10],
+    pub facts: Facts,
     pub account: [u8; 10],
-    pub password: [u8; 8],
     pub clock: Clock,
     pub counters: Counters,
-    pub tables: [u8; 576],
+    pub tables: [u8; ALL_ROWS],
 }
 
 // Mode: 0 listening, 1 confirmation, 2 password, 3 read-only, 4 programming.
@@ -61,7 +82,7 @@ pub fn limit_of(mode: u8) -> u8
     if mode == 1 {
         return 5;
     }
-    63
+    HELD_PLACES
 }
 
 // Whether the first held character is the one that the mode asks for.
@@ -77,7 +98,7 @@ fn first_good(mode: u8, count: u8, first: u8) -> bool
 // Whether 63 characters are within 0 to 127, and 0 from the count on. As long as a place is below the count, `below` is 128 or more: it has
 // eight bits like the characters, so that the compiler tests many places at once.
 fn held_good(held: &[u8], count: u8) -> bool
-    requires { ⌜ (length (now held) ≡ 63) × (count ≤ 63) ⌝ }
+    requires { ⌜ (length (now held) ≡ heldPlaces) × (count ≤ heldPlaces) ⌝ }
     ensures { λ r. ⌜ r ≡ heldGood (now (held .entry)) count ⌝ }
 {
     let mut ok = true;
@@ -99,41 +120,66 @@ fn receiver_good(mode: u8, r: Receiver) -> bool
     let held = r.held;
     if count <= limit_of(mode) {
         let first = held[0];
-        let mark = !(count == 0) | !r.mark;
+        let mark = (r.mark <= 1) & (!(count == 0) | (r.mark == 0));
         return (first_good(mode, count, first) & mark) & held_good(&held, count);
     }
     false
 }
 
+// Whether every number is below an end.
+fn all_below(s: &[u32], end: u32) -> bool
+    ensures { λ r. ⌜ r ≡ every (below end) (now (s .entry)) ⌝ }
+{
+    let mut ok = true;
+    let mut i = 0;
+    while i < s.len() {
+        ok = ok & (s[i] < end);
+        i += 1;
+    }
+    ok
+}
+
+fn zones_good(s: &[u32]) -> bool
+    ensures { λ r. ⌜ r ≡ zonesGood (now (s .entry)) ⌝ }
+{
+    (s.len() == 4) & all_below(s, COUNTER_END)
+}
+
 fn counters_good(c: Counters) -> bool
     ensures { λ r. ⌜ r ≡ countersGood c ⌝ }
 {
-    ((c.t1 <= 999_999_999) & (c.t2 <= 999_999_999))
-        & ((c.t3 <= 999_999_999) & (c.t4 <= 999_999_999))
+    let zones = c.zones;
+    zones_good(&zones)
 }
 
 fn tables_good(s: &[u8]) -> bool
-    ensures { λ r. ⌜ r ≡ tablesGood 24 (now (s .entry)) ⌝ }
+    ensures { λ r. ⌜ r ≡ tablesGood tables (now (s .entry)) ⌝ }
 {
-    (s.len() == 576) & text::all_between(s, 49, 52)
+    (s.len() == ALL_ROWS) & text::all_between(s, 49, 52)
+}
+
+// Whether what a meter has for life is good.
+fn facts_good(f: Facts) -> bool
+    ensures { λ r. ⌜ r ≡ factsGood f ⌝ }
+{
+    let serial = f.serial;
+    let password = f.password;
+    values::is_digits(&serial, 10) & values::is_digits(&password, 8)
 }
 
 // Whether the facts that a meter is made from are good.
-fn facts_good(serial: &[u8], account: &[u8], password: &[u8], clock: Clock) -> bool
-    ensures { λ r. ⌜ r ≡ factsGood (now (serial .entry)) (now (account .entry)) (now (password .entry)) clock ⌝ }
+fn factory_good(f: Facts, account: &[u8], clock: Clock) -> bool
+    ensures { λ r. ⌜ r ≡ factoryGood f (now (account .entry)) clock ⌝ }
 {
-    (values::is_digits(serial, 10) & values::is_account(account))
-        & (values::is_digits(password, 8) & clock::is_clock(clock))
+    facts_good(f) & (values::is_account(account) & clock::is_clock(clock))
 }
 
 // The tables come last and apart: they are most of the record, and what is read of it early has to be kept.
 fn registers_good(g: Registers) -> bool
     ensures { λ r. ⌜ r ≡ registersGood g ⌝ }
 {
-    let serial = g.serial;
     let account = g.account;
-    let password = g.password;
-    if facts_good(&serial, &account, &password, g.clock) & counters_good(g.counters) {
+    if factory_good(g.facts, &account, g.clock) & counters_good(g.counters) {
         let tables = g.tables;
         return tables_good(&tables);
     }
@@ -153,29 +199,19 @@ pub fn is_well_formed(m: Meter) -> bool
 }
 
 // A new meter: counters 0, attempts 0, all tables '1', mode 0, an empty receiver.
-fn meter_of(serial: [u8; 10], account: [u8; 10], password: [u8; 8], clock: Clock) -> Meter
-    ensures { λ r. ⌜ r ≡ meterOf serial account password clock ⌝ }
+fn meter_of(facts: Facts, account: [u8; 10], clock: Clock) -> Meter
+    ensures { λ r. ⌜ r ≡ meterOf facts account clock ⌝ }
 {
     Meter {
         mode: 0,
         attempts: 0,
-        receiver: Receiver {
-            held: [0; 63],
-            count: 0,
-            mark: false,
-        },
+        receiver: setting::empty_receiver(),
         registers: Registers {
-            serial,
+            facts,
             account,
-            password,
             clock,
-            counters: Counters {
-                t1: 0,
-                t2: 0,
-                t3: 0,
-                t4: 0,
-            },
-            tables: [b'1'; 576],
+            counters: Counters { zones: [0; 4] },
+            tables: [b'1'; ALL_ROWS],
         },
     }
 }
@@ -196,17 +232,22 @@ pub fn blank() -> Meter
             second: 0,
         },
     };
-    meter_of([b'0'; 10], [b' '; 10], [b'0'; 8], clock)
+    let facts = Facts {
+        serial: [b'0'; 10],
+        password: [b'0'; 8],
+    };
+    meter_of(facts, [b' '; 10], clock)
 }
 
 // A new meter from the factory's facts; bad facts give 15 and the blank one.
 pub fn make(serial: [u8; 10], account: [u8; 10], password: [u8; 8], clock: Clock) -> Made
     ensures { λ r. ⌜ r ≡ madeOf serial account password clock ⌝ }
 {
-    if facts_good(&serial, &account, &password, clock) {
+    let facts = Facts { serial, password };
+    if factory_good(facts, &account, clock) {
         return Made {
             number: 1,
-            meter: meter_of(serial, account, password, clock),
+            meter: meter_of(facts, account, clock),
         };
     }
     Made {

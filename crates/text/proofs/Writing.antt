@@ -1,5 +1,6 @@
 -- Writes that follow one another are one write, a write keeps the length, and the reader's form of a write. Assumes nothing.
 use mathlib.Core.Path.{_≡_, refl, sym, ap, _∙_}
+use mathlib.Core.Bool.{Bool, true}
 use mathlib.Core.List.{List, [], _∷_, _++_, append-nil}
 use Prim.Native.Nat.{ℕ, zero, suc, _+_, _<_, _≤_}
 use native.Mathlib.Nat.{add-zero, add-assoc, zero-add}
@@ -7,12 +8,21 @@ use native.Mathlib.Omega.{arith}
 use native.Mathlib.Numerals.{add-one, one-add}
 use lib.ListN.{length, getD, take, drop, set, length-append, length-set, drop-of-length-le}
 use lib.Seq.{take-suc, length-take-le, sets, sets-eq}
+use Rattle.line.specs.Runs.{every}
+use Rattle.line.proofs.Runs.{and-left, and-right, every-set}
 use Rattle.text.specs.Writing.{stored, holding}
 
 pub length-stored : (buf : List ℕ) (at : ℕ) (xs : List ℕ) → length (stored buf at xs) ≡ length buf
 unfolding stored
 length-stored buf at [] = refl
 length-stored buf at (x ∷ xs) = length-stored (set buf at x) (at + 1) xs ∙ length-set buf at x
+
+-- what is said of every byte stays said, where it is said of those written
+pub every-stored : (p : ℕ → Bool) (buf : List ℕ) (at : ℕ) (xs : List ℕ) → every p buf ≡ true → every p xs ≡ true → every p (stored buf at xs) ≡ true
+unfolding every stored
+every-stored p buf at [] h k = h
+every-stored p buf at (x ∷ xs) h k =
+    every-stored p (set buf at x) (at + 1) xs (every-set p buf at x h (and-left (p x) (every p xs) k)) (and-right (p x) (every p xs) k)
 
 -- writes that follow one another are one write
 pub stored-append : (buf : List ℕ) (at : ℕ) (xs ys : List ℕ) → stored (stored buf at xs) (at + length xs) ys ≡ stored buf at (xs ++ ys)

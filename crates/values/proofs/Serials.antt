@@ -10,7 +10,7 @@ use lib.Dec.{eqb}
 use lib.ListN.{length, take, drop, take-append-drop, length-drop, length-append}
 use lib.Seq.{take-at, drop-at, length-take-le, drop-append-add}
 use Rattle.line.specs.Runs.{every}
-use Rattle.line.proofs.Runs.{and-left, and-right, chosen}
+use Rattle.line.proofs.Runs.{and-left, and-right, chosen, every-take, every-drop}
 use Rattle.text.specs.Classes.{isDigit}
 use Rattle.text.specs.Decimal.{decimal, valueOf, numberAt}
 use Rattle.text.specs.Layout.{layoutText, numbersFrom, pattern, fits, numbersFit, plain}
@@ -29,19 +29,6 @@ use Rattle.values.proofs.Fields.{fits-long}
 serial-plain : plain serialForm ≡ true
 unfolding plain every
 serial-plain = refl
-
--- digits, cut
-pub every-take : (p : ℕ → Bool) (n : ℕ) (s : List ℕ) → every p s ≡ true → every p (take n s) ≡ true
-unfolding every
-every-take p zero s h = refl
-every-take p (suc n) [] h = refl
-every-take p (suc n) (c ∷ s) h = rw (and-left (p c) (every p s) h) (every-take p n s (and-right (p c) (every p s) h))
-
-pub every-drop : (p : ℕ → Bool) (n : ℕ) (s : List ℕ) → every p s ≡ true → every p (drop n s) ≡ true
-unfolding every
-every-drop p zero s h = h
-every-drop p (suc n) [] h = refl
-every-drop p (suc n) (c ∷ s) h = every-drop p n s (and-right (p c) (every p s) h)
 
 shown : (s : List ℕ) → serialText s ≡ take 3 s ++ (32 ∷ drop 3 s)
 unfolding serialText

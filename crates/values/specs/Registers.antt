@@ -8,6 +8,8 @@ use Rattle.line.specs.Quoted.{char}
 use Rattle.line.specs.Runs.{every}
 use Rattle.text.specs.Classes.{between, isDigit, isLetter}
 use Rattle.values.specs.Edition.{rowLength}
+use Rattle.values.specs.declared.Energy.{Energy}
+use Rattle.values.specs.declared.Energy.the-variants.{Total, Zone}
 
 -- so many digits
 unfoldable pub goodDigits : ℕ → List ℕ → Bool
@@ -38,3 +40,12 @@ goodTable tables n = between 1 tables n
 
 unfoldable pub goodZone : ℕ → Bool
 goodZone n = between 1 4 n
+
+-- what stands for an energy in asks and addresses: 0 is the total, 1 to 4 are the zones
+unfoldable pub energyNo : Energy → ℕ
+energyNo Total = 0
+energyNo (Zone z) = z .0
+
+-- the energy of a zone
+abbrev pub zoneEnergy : ℕ → Energy
+zoneEnergy n = Zone (record { 0 = n })

@@ -3,7 +3,7 @@ ghost use mathlib.Core.Path.{_≡_};
 ghost use Prim.Native.Nat.{_+_, _≤_};
 ghost use lib.ListN.{length};
 ghost use Rattle.text.specs.Decimal.{valueOf};
-ghost use Rattle.values.specs.Registers.{goodDigits, isAccountCharacter, goodAccount, goodRow, goodTable, goodZone};
+ghost use Rattle.values.specs.Registers.{goodDigits, isAccountCharacter, goodAccount, goodRow, goodTable, goodZone, energyNo};
 
 pub mod characters;
 mod number;
@@ -16,11 +16,27 @@ pub struct TableNo(pub u8);
 // A zone's number, 1 to 4.
 pub struct ZoneNo(pub u8);
 
+// An energy: the total, or a zone's.
+pub enum Energy {
+    Total,
+    Zone(ZoneNo),
+}
+
 // How many tables a meter of edition 1 holds.
 pub const TABLES: u8 = 24;
 
-// How many characters a table's row has, one for each hour.
+// How many characters a table's row has, one an hour.
 pub const ROW_LENGTH: usize = 24;
+
+// The number that stands for an energy in asks and addresses: 0 is the total.
+pub fn energy_no(e: Energy) -> u8
+    ensures { λ r. ⌜ r ≡ energyNo e ⌝ }
+{
+    match e {
+        Energy::Total => 0,
+        Energy::Zone(z) => z.0,
+    }
+}
 
 // Whether a text is so many digits.
 pub fn is_digits(s: &[u8], n: usize) -> bool

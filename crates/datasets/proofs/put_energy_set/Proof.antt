@@ -11,14 +11,18 @@ use Rattle.datasets.proofs.put_energy_set.Tie as tie
 returns : tie.Need-returns
 unfolding decimal
 returns c =
-    let start = c .before .before .before .before .before .before .before .before .before .before .before .before .before .before .before in
-    let opened = c .before .before .before .before .before .before .before .before .before .before .before .put .ensures in
-    let shown = c .before .before .before .before .before .before .before .put-counter .ensures in
+    let after-value = c .before .before .before .before .before .before .before in
+    let after-address = after-value .before .before .before .before in
+    let named = after-address .before .before .before .energy-no in
+    let a = after-address .before .before .before .before .before .args in
+    let opened = after-address .put .ensures in
+    let shown = after-value .put-counter .ensures in
     let ended = c .before .before .put2 .ensures in
-    let line = energySet (start .args .n) (start .args .wh) in (
+    let line = energySet (named .result) (a .wh) in
+    rw (← named .ensures) (
       omega (arith, opened .0, shown .0, ended .0),
-      one-line (line .address) (line .value) 14 (start .args .buf .now) (start .args .at) _ _ _ _ _ (counter-long (start .args .wh)) (opened .0) (opened .1) (shown .0) (shown .1) (ended .1),
+      one-line (line .address) (line .value) 14 (a .buf .now) (a .at) _ _ _ _ _ (counter-long (a .wh)) (opened .0) (opened .1) (shown .0) (shown .1) (ended .1),
     )
 
 pub put-energy-set-spec : {M : Type 1} → statement M
-put-energy-set-spec = tie.close (tie.spec (λ c. search needs) (λ c. search needs) (λ c κs. search needs) (λ c κs. search needs) (λ c. search needs) (λ c κs. search needs) (λ c. search needs) returns)
+put-energy-set-spec = tie.close (tie.spec (λ c κs. search needs) (λ c. search needs) (λ c. search needs) (λ c κs. search needs) (λ c κs. search needs) (λ c. search needs) (λ c κs. search needs) (λ c. search needs) returns)

@@ -51,7 +51,7 @@ use Rattle.state.proofs.Receiver as R
 use Rattle.state.proofs.Receiver.Laws as R′
 use Rattle.state.proofs.Registers as G
 use Rattle.state.proofs.Registers.Laws as G′
-use Rattle.changes.specs.Changes.{withReceiver}
+use Rattle.state.specs.Setting.{withReceiver}
 use Rattle.meter.specs.Outcomes.{Outcome, answerOf}
 use Rattle.meter.specs.declared.Event.{Event}
 use Rattle.meter.specs.Life.{eventOf, met, happened}

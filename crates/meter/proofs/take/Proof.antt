@@ -28,7 +28,7 @@ returns-3 c = (rw (← c .before .before .before .before .before .before .before
 
 returns-4 : tie.Need-returns-4
 unfolding taken heard holding
-returns-4 c = (rw (← c .before .before .before .before .before .before .before .before .before .damaged .ensures, ← c .before .before .before .before .before .before .before .before .symbol-of .ensures, ← c .before .before .before .before .before .before .last-held .ensures, ← c .before .before .before .before .before .hear .ensures, c .before .before .before .enum-told4 .given .1, c .quiet4 .ensures, c .before .with-receiver3 .ensures, c .before .before .empty .ensures), rw (← c .before .before .before .before .before .before .before .before .before .damaged .ensures, ← c .before .before .before .before .before .before .before .before .symbol-of .ensures, ← c .before .before .before .before .before .before .last-held .ensures, ← c .before .before .before .before .before .hear .ensures, c .before .before .before .enum-told4 .given .1))
+returns-4 c = (rw (← c .before .before .before .before .before .before .before .before .before .damaged .ensures, ← c .before .before .before .before .before .before .before .before .symbol-of .ensures, ← c .before .before .before .before .before .before .last-held .ensures, ← c .before .before .before .before .before .hear .ensures, c .before .before .before .enum-told4 .given .1, c .quiet4 .ensures, c .before .with-receiver3 .ensures, c .before .before .empty-receiver .ensures), rw (← c .before .before .before .before .before .before .before .before .before .damaged .ensures, ← c .before .before .before .before .before .before .before .before .symbol-of .ensures, ← c .before .before .before .before .before .before .last-held .ensures, ← c .before .before .before .before .before .hear .ensures, c .before .before .before .enum-told4 .given .1))
 
 returns-5 : tie.Need-returns-5
 unfolding taken heard holding

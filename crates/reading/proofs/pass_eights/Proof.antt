@@ -5,10 +5,11 @@ use Prim.Native.Nat.{_+_, _-_, _≤_}
 use native.Mathlib.Omega.{arith}
 use borrow.Author.Tests.{not-false}
 use lib.ListN.{length, take, drop}
+use Rattle.line.proofs.Runs.{every-weaker}
 use Rattle.line.specs.Runs.{every}
 use Rattle.text.specs.Classes.{between}
 use Rattle.text.specs.Classes.{isValue}
-use Rattle.reading.proofs.Classes.{plain-value, every-weaker}
+use Rattle.reading.proofs.Classes.{plain-value}
 use Rattle.reading.proofs.Leading.{eight-more, none-passed}
 use Rattle.reading.proofs.pass_eights.Statement.{statement}
 use Rattle.reading.proofs.pass_eights.Tie as tie

@@ -4,8 +4,8 @@ use Prim.Native.Nat.{_-_, _≤_}
 use native.Mathlib.Omega.{arith}
 use borrow.Author.Needs.{needs}
 use lib.ListN.{length, take, drop}
+use Rattle.line.proofs.Runs.{every-weaker}
 use Rattle.reading.proofs.Leading.{passed}
-use Rattle.reading.proofs.Classes.{every-weaker}
 use Rattle.text.specs.Classes.{isValue}
 use Rattle.reading.specs.Sets.{ofKind}
 use Rattle.reading.proofs.value_run.Statement.{statement}

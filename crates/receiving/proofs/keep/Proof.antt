@@ -4,7 +4,9 @@ use Rattle.receiving.proofs.keep.Statement.{statement}
 use Rattle.receiving.proofs.keep.Tie as tie
 
 returns : tie.Need-returns
-returns c = rw (c .before .before .before .put-at .ensures)
+returns c =
+    let after = c .before .before in
+    rw (c .with-mark .ensures, c .before .chosen .ensures, after .with-held .ensures, after .before .before .before .put-at .ensures)
 
 pub keep-spec : {M : Type 1} → statement M
-keep-spec = tie.close (tie.spec (λ c. search needs) (λ c κs. search needs) (λ c. search needs) returns)
+keep-spec = tie.close (tie.spec (λ c. search needs) (λ c κs. search needs) (λ c. search needs) (λ c κs. search needs) (λ c κs. search needs) (λ c κs. search needs) returns)

@@ -27,7 +27,7 @@ returns-3 c = rw (← c .before .before .before .before .before .before .before 
 
 returns-4 : tie.Need-returns-4
 unfolding heardBy heardAs
-returns-4 c = rw (← c .before .before .before .before .before .before .before .before .damaged .ensures, ← c .before .before .before .before .before .before .before .symbol-of .ensures, ← c .before .before .before .before .before .last-held .ensures, ← c .before .before .before .before .hear .ensures, c .before .before .enum-told4 .given .1, c .go-on4 .ensures, c .before .empty .ensures)
+returns-4 c = rw (← c .before .before .before .before .before .before .before .before .damaged .ensures, ← c .before .before .before .before .before .before .before .symbol-of .ensures, ← c .before .before .before .before .before .last-held .ensures, ← c .before .before .before .before .hear .ensures, c .before .before .enum-told4 .given .1, c .go-on4 .ensures, c .before .empty-receiver .ensures)
 
 returns-5 : tie.Need-returns-5
 unfolding heardBy heardAs

@@ -6,7 +6,7 @@ use Rattle.state.proofs.facts_good.Tie as tie
 
 returns : tie.Need-returns
 unfolding factsGood
-returns c = rw (c .before .before .before .is-digits .ensures, c .before .before .is-account .ensures, c .before .is-digits2 .ensures, c .is-clock .ensures)
+returns c = rw (c .before .before .is-digits .ensures, c .is-digits2 .ensures)
 
 pub facts-good-spec : {M : Type 1} → statement M
-facts-good-spec = tie.close (tie.spec (λ c κs. search needs) (λ c κs. search needs) (λ c κs. search needs) (λ c κs. search needs) returns)
+facts-good-spec = tie.close (tie.spec (λ c. search needs) (λ c κs. search needs) (λ c. search needs) (λ c κs. search needs) returns)

@@ -6,11 +6,11 @@ use Rattle.state.proofs.make.Tie as tie
 
 returns : tie.Need-returns
 unfolding madeOf
-returns c = rw (← c .before .before .facts-good .ensures, c .before .if1 .taken, c .meter-of .ensures)
+returns c = rw (← c .before .before .factory-good .ensures, c .before .if1 .taken, c .meter-of .ensures)
 
 returns-2 : tie.Need-returns-2
 unfolding madeOf
-returns-2 c = rw (← c .before .before .facts-good .ensures, c .before .if1 .left, c .blank .ensures)
+returns-2 c = rw (← c .before .before .factory-good .ensures, c .before .if1 .left, c .blank .ensures)
 
 pub make-spec : {M : Type 1} → statement M
-make-spec = tie.close (tie.spec (λ c. search needs) (λ c. search needs) (λ c. search needs) (λ c κs. search needs) (λ c κs. search needs) returns (λ c κs. search needs) returns-2)
+make-spec = tie.close (tie.spec (λ c. search needs) (λ c κs. search needs) (λ c κs. search needs) returns (λ c κs. search needs) returns-2)

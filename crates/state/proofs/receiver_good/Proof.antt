@@ -9,13 +9,15 @@ use Rattle.state.proofs.receiver_good.Tie as tie
 
 held-good-requires : tie.Need-held-good-requires
 held-good-requires c κs =
-    let fits = c .before .before .before .if1 .taken in
-    let most = c .before .before .before .before .limit-of .ensures in
-    (search needs, omega (arith, fits, most, limit-most (c .before .before .before .before .before .before .args .mode)))
+    let asked = c .before .before .before .before in
+    let most = limit-most (asked .before .before .before .args .mode) in
+    (search needs, omega (arith, asked .if1 .taken, asked .before .limit-of .ensures, most))
 
 returns : tie.Need-returns
 unfolding receiverGood markGood
-returns c = rw (← c .before .before .before .before .before .limit-of .ensures, le-leb _ _ (c .before .before .before .before .if1 .taken), c .before .before .first-good .ensures, c .held-good .ensures)
+returns c =
+    let asked = c .before .before .before .before .before in
+    rw (← asked .before .limit-of .ensures, le-leb _ _ (asked .if1 .taken), c .before .before .first-good .ensures, c .held-good .ensures)
 
 returns-2 : tie.Need-returns-2
 unfolding receiverGood markGood

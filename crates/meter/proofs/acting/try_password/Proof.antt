@@ -1,5 +1,5 @@
 -- `meter::acting::try_password` meets its contract: each way out is the case of the definition that its tests name. Assumes nothing.
-use Rattle.state.proofs.Facts.{formed}
+use Rattle.state.proofs.Parts.{formed}
 use native.Mathlib.Omega.{arith}
 use Rattle.text.specs.Writing.{holding}
 use Rattle.meter.specs.Acting.{tried}
@@ -13,7 +13,7 @@ unfolding tried holding
 returns c = (rw (eq-eqb _ _ (c .before .before .before .before .if1 .taken), c .before .before .refuse .ensures .0), rw (eq-eqb _ _ (c .before .before .before .before .if1 .taken)) (c .before .before .refuse .ensures .1))
 
 accept-requires : tie.Need-accept-requires
-accept-requires c κs = omega (arith, c .before .before .before .before .before .before .before .before .before .before .before .before .before .before .before .pre .1)
+accept-requires c κs = omega (arith, c .before .before .before .before .before .before .before .before .before .before .before .before .before .before .before .before .pre .1)
 
 returns-2 : tie.Need-returns-2
 unfolding tried holding
@@ -21,7 +21,7 @@ returns-2 c = (rw (ne-eqb _ _ (c .before .before .before .before .before .before
 
 add-with-attempts : tie.Need-add-with-attempts
 add-with-attempts c =
-    let start = c .before .before .before .before .before .before .before .before .before .before .before .before in
+    let start = c .before .before .before .before .before .before .before .before .before .before .before .before .before in
     omega (arith, formed (start .args .m) (start .pre .0) .attempts)
 
 returns-3 : tie.Need-returns-3

@@ -1,6 +1,5 @@
 -- `meter::passing::take_pulse` meets its contract: each way out is the case of the definition that its tests name. Assumes nothing.
 use mathlib.Core.Path.{sym, _∙_}
-use Rattle.meter.proofs.Known.{counters-fit}
 use native.Mathlib.Omega.{arith}
 use Rattle.meter.specs.Events.{pulse}
 use borrow.Author.Tests.{le-ltb, lt-ltb}
@@ -13,8 +12,7 @@ unfolding pulse
 returns c = rw (lt-ltb _ _ (c .before .if1 .taken), c .unheard-with .ensures)
 
 pulse-requires : tie.Need-pulse-requires
-pulse-requires c κs =
-    (counters-fit (c .before .before .before .args .m) (sym (c .before .is-well-formed .ensures) ∙ c .if2 .taken), omega arith)
+pulse-requires c κs = (sym (c .before .is-well-formed .ensures) ∙ c .if2 .taken, omega arith)
 
 returns-2 : tie.Need-returns-2
 unfolding pulse

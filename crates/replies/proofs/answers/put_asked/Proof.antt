@@ -24,11 +24,13 @@ returns c =
 returns-2 : tie.Need-returns-2
 unfolding askedSets
 returns-2 c =
-    let start = c .before .before .before .before .before .before .before .before .before in
+    let met = c .before .before .before .before .before .before .before in
+    let start = met .before .before .before in
     let a = start .args in
     let e = c .before .before .put-serial-set .ensures in
-    asked (a .g) (a .a) _ (a .buf .now) (a .at) _ _ (ap (askedSets (a .g)) (c .before .before .before .before .before .before .enum-told2 .given .1))
-    (single (serialSet (a .g .serial)) 20 _ _ _ _ (serial-line (a .g .serial) (start .pre .0 .serial)) (e .0) (e .1))
+    let serial = a .g .facts .serial in
+    asked (a .g) (a .a) _ (a .buf .now) (a .at) _ _ (ap (askedSets (a .g)) (met .enum-told2 .given .1))
+    (single (serialSet serial) 20 _ _ _ _ (serial-line serial (start .pre .0 .serial)) (e .0) (e .1))
 
 returns-3 : tie.Need-returns-3
 unfolding askedSets

@@ -7,14 +7,17 @@ use Rattle.replies.proofs.block.put_block.Tie as tie
 
 returns : tie.Need-returns
 returns c =
-    let start = c .before .before .before .before .before .before .before .before .before .before .before .before .before .before .before .before .before .before .before .before .before .before .before .before in
+    let rows-put = c .before .before .before .before .before .before .before in
+    let energies-put = rows-put .before .before .before .before .before in
+    let facts-put = energies-put .before .before .before .before in
+    let start = facts-put .before .before .before .before .before .before .before .before .before in
     let a = start .args in
-    let facts = c .before .before .before .before .before .before .before .before .before .before .before .before .before .before .before .before .put-facts .ensures in
-    let energies = c .before .before .before .before .before .before .before .before .before .before .before .before .put-energies .ensures in
-    let tables = c .before .before .before .before .before .before .before .put-tables .ensures in
+    let facts = facts-put .put-facts .ensures in
+    let energies = energies-put .put-energies .ensures in
+    let rows = rows-put .put-tables .ensures in
     let ended = c .before .before .put .ensures in (
-      omega (arith, facts .0, energies .0, tables .0, ended .0),
-      whole (a .g) (a .buf .now) (a .at) _ _ _ _ _ _ _ (start .pre .0) (facts .0) (facts .1) (energies .0) (energies .1) (tables .0) (tables .1) (ended .1),
+      omega (arith, facts .0, energies .0, rows .0, ended .0),
+      whole (a .g) (a .buf .now) (a .at) _ _ _ _ _ _ _ (start .pre .0) (facts .0) (facts .1) (energies .0) (energies .1) (rows .0) (rows .1) (ended .1),
     )
 
 pub put-block-spec : {M : Type 1} → statement M

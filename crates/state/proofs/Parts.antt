@@ -1,0 +1,158 @@
+-- A well-formed state taken apart into its parts, and put together again. Assumes nothing.
+use mathlib.Core.Path.{_≡_, refl}
+use mathlib.Core.Bool.{Bool, true, false, cond, not, _&&_, _||_}
+use mathlib.Core.List.{List, [], _∷_}
+use Prim.Native.Nat.{ℕ, zero, suc, _*_, _≤_, _<_}
+use native.Mathlib.Omega.{arith}
+use borrow.Author.Tests.{leb-true, le-leb, eqb-true, ltb-true}
+use lib.Dec.{eqb, leb, ltb}
+use lib.ListN.{length, drop, getD}
+use Rattle.line.specs.Runs.{every}
+use Rattle.line.proofs.Runs.{and-left, and-right, and-assoc, chosen}
+use Rattle.text.specs.Classes.{between}
+use Rattle.clock.specs.Seconds.{realClock}
+use Rattle.clock.specs.declared.Clock.{Clock}
+use Rattle.values.specs.Registers.{goodDigits, goodSerial, goodAccount, goodPassword}
+use Rattle.state.specs.declared.Receiver.{Receiver}
+use Rattle.state.specs.declared.Facts.{Facts}
+use Rattle.state.specs.declared.Counters.{Counters}
+use Rattle.state.specs.declared.Registers.{Registers}
+use Rattle.state.specs.declared.Meter.{Meter}
+use Rattle.state.specs.Sizes.{heldPlaces, rowLength, tables, counterEnd}
+use Rattle.state.specs.WellFormed.{limit, firstGood, markGood, heldGood, receiverGood, below, zonesGood, countersGood, tablesGood, factsGood, factoryGood, registersGood, wellFormed}
+use Rattle.state.specs.Setting.{zonePlace, counterOf}
+
+-- what is asked only after two tests have passed, and what has failed before it
+pub then-all : (a b c : Bool) → (a && b) ≡ true → c ≡ (a && (b && c))
+then-all a b c h = rw (← and-assoc a b c, h)
+
+pub then-none : (a b c : Bool) → (a && b) ≡ false → false ≡ (a && (b && c))
+then-none a b c h = rw (← and-assoc a b c, h)
+
+pub record Formed (m : Meter) : Type 0 where
+  pub mode : m .mode ≤ 4
+  pub attempts : m .attempts ≤ 3
+  pub receiver : receiverGood (m .mode) (m .receiver) ≡ true
+  pub registers : registersGood (m .registers) ≡ true
+
+pub formed : (m : Meter) → wellFormed m ≡ true → Formed m
+unfolding wellFormed
+formed m h =
+    let rest = and-left ((leb (m .mode) 4 && leb (m .attempts) 3) && receiverGood (m .mode) (m .receiver)) (registersGood (m .registers)) h in
+    let small = and-left (leb (m .mode) 4 && leb (m .attempts) 3) (receiverGood (m .mode) (m .receiver)) rest in
+    record {
+      mode = leb-true (m .mode) 4 (and-left (leb (m .mode) 4) (leb (m .attempts) 3) small);
+      attempts = leb-true (m .attempts) 3 (and-right (leb (m .mode) 4) (leb (m .attempts) 3) small);
+      receiver = and-right (leb (m .mode) 4 && leb (m .attempts) 3) (receiverGood (m .mode) (m .receiver)) rest;
+      registers = and-right ((leb (m .mode) 4 && leb (m .attempts) 3) && receiverGood (m .mode) (m .receiver)) (registersGood (m .registers)) h;
+    }
+
+pub well-formed : (m : Meter) → Formed m → wellFormed m ≡ true
+unfolding wellFormed
+well-formed m f = rw (le-leb (m .mode) 4 (f .mode), le-leb (m .attempts) 3 (f .attempts), f .receiver, f .registers)
+
+pub record FormedRegisters (g : Registers) : Type 0 where
+  pub facts : factsGood (g .facts) ≡ true
+  pub account : goodAccount (g .account) ≡ true
+  pub clock : realClock (g .clock) ≡ true
+  pub counters : countersGood (g .counters) ≡ true
+  pub tables : tablesGood tables (g .tables) ≡ true
+
+pub formed-registers : (g : Registers) → registersGood g ≡ true → FormedRegisters g
+unfolding registersGood factoryGood
+formed-registers g h =
+    let f = factsGood (g .facts) in
+    let a = goodAccount (g .account) in
+    let k = realClock (g .clock) in
+    let c = countersGood (g .counters) in
+    let t = tablesGood tables (g .tables) in
+    let made = and-left (f && (a && k)) (c && t) h in
+    let rest = and-right (f && (a && k)) (c && t) h in
+    record {
+      facts = and-left f (a && k) made;
+      account = and-left a k (and-right f (a && k) made);
+      clock = and-right a k (and-right f (a && k) made);
+      counters = and-left c t rest;
+      tables = and-right c t rest;
+    }
+
+pub registers-good : (g : Registers) → FormedRegisters g → registersGood g ≡ true
+unfolding registersGood factoryGood
+registers-good g f = rw (f .facts, f .account, f .clock, f .counters, f .tables)
+
+-- what a meter has for life, taken apart
+pub record FormedFacts (f : Facts) : Type 0 where
+  pub serial : goodSerial (f .serial) ≡ true
+  pub password : goodPassword (f .password) ≡ true
+
+pub formed-facts : (f : Facts) → factsGood f ≡ true → FormedFacts f
+unfolding factsGood
+formed-facts f h =
+    let s = goodSerial (f .serial) in
+    let p = goodPassword (f .password) in
+    record { serial = and-left s p h; password = and-right s p h }
+
+pub record FormedReceiver (mode : ℕ) (r : Receiver) : Type 0 where
+  pub count : r .count ≤ limit mode
+  pub first : firstGood mode (r .count) (getD (r .held) 0 0) ≡ true
+  pub mark : markGood (r .count) (r .mark) ≡ true
+  pub held : heldGood (r .held) (r .count) ≡ true
+
+pub formed-receiver : (mode : ℕ) (r : Receiver) → receiverGood mode r ≡ true → FormedReceiver mode r
+unfolding receiverGood
+formed-receiver mode r h =
+    let f = firstGood mode (r .count) (getD (r .held) 0 0) in
+    let k = markGood (r .count) (r .mark) in
+    let l = heldGood (r .held) (r .count) in
+    let fits = chosen (λ (b : Bool). b) (leb (r .count) (limit mode)) ((f && k) && l) false refl h in
+    let all : ((f && k) && l) ≡ true = rw fits at h in
+    let fk = and-left (f && k) l all in
+    record { count = leb-true (r .count) (limit mode) fits; first = and-left f k fk; mark = and-right f k fk; held = and-right (f && k) l all }
+
+pub receiver-good : (mode : ℕ) (r : Receiver) → FormedReceiver mode r → receiverGood mode r ≡ true
+unfolding receiverGood
+receiver-good mode r f = rw (le-leb (r .count) (limit mode) (f .count), f .first, f .mark, f .held)
+
+-- the lengths that are known of a well-formed state
+pub held-long : (mode : ℕ) (r : Receiver) → receiverGood mode r ≡ true → length (r .held) ≡ heldPlaces
+unfolding heldGood
+held-long mode r h =
+    eqb-true (length (r .held)) heldPlaces (and-left (eqb (length (r .held)) heldPlaces) _ (formed-receiver mode r h .held))
+
+pub record Long (m : Meter) : Type 0 where
+  pub held : length (m .receiver .held) ≡ heldPlaces
+  pub serial : length (m .registers .facts .serial) ≡ 10
+  pub password : length (m .registers .facts .password) ≡ 8
+  pub account : length (m .registers .account) ≡ 10
+  pub tables : length (m .registers .tables) ≡ tables * rowLength
+
+digits-long : (n : ℕ) (s : List ℕ) → goodDigits n s ≡ true → length s ≡ n
+unfolding goodDigits
+digits-long n s h = eqb-true (length s) n (and-left (eqb (length s) n) _ h)
+
+pub long : (m : Meter) → wellFormed m ≡ true → Long m
+unfolding goodAccount tablesGood
+long m h =
+    let f = formed m h in
+    let g = formed-registers (m .registers) (f .registers) in
+    let life = formed-facts (m .registers .facts) (g .facts) in
+    let account = length (m .registers .account) in
+    let rows = length (m .registers .tables) in
+    record {
+      held = held-long (m .mode) (m .receiver) (f .receiver);
+      serial = digits-long 10 (m .registers .facts .serial) (life .serial);
+      password = digits-long 8 (m .registers .facts .password) (life .password);
+      account = eqb-true account 10 (and-left (eqb account 10) _ (g .account));
+      tables = eqb-true rows (tables * rowLength) (and-left (eqb rows (tables * rowLength)) _ (g .tables));
+    }
+
+-- of good counters each lies below 1,000,000,000, whatever zone is asked for
+zones-small : (zones : List ℕ) → every (below counterEnd) zones ≡ true → (i : ℕ) → getD zones i 0 < counterEnd
+unfolding every below
+zones-small [] h i = omega arith
+zones-small (wh ∷ zones) h zero = ltb-true wh counterEnd (and-left (ltb wh counterEnd) (every (below counterEnd) zones) h)
+zones-small (wh ∷ zones) h (suc i) = zones-small zones (and-right (ltb wh counterEnd) (every (below counterEnd) zones) h) i
+
+pub counter-small : (c : Counters) → countersGood c ≡ true → (n : ℕ) → counterOf c n < counterEnd
+unfolding zonesGood
+counter-small c h n = zones-small (c .zones) (and-right (eqb (length (c .zones)) 4) (every (below counterEnd) (c .zones)) h) (zonePlace n)

@@ -1,0 +1,65 @@
+-- A record with one field anew, and all others as they were. Nothing above spells a record of the state out.
+use mathlib.Core.List.{List}
+use Prim.Native.Nat.{ℕ, _-_, _*_}
+use lib.ListN.{getD}
+use Rattle.text.specs.Writing.{stored}
+use Rattle.clock.specs.declared.Clock.{Clock}
+use Rattle.state.specs.declared.Receiver.{Receiver}
+use Rattle.state.specs.declared.Counters.{Counters}
+use Rattle.state.specs.declared.Registers.{Registers}
+use Rattle.state.specs.declared.Meter.{Meter}
+use Rattle.state.specs.Sizes.{rowLength}
+use Rattle.state.specs.Making.{emptyReceiver}
+
+-- these characters, so many of them
+abbrev pub withHeld : Receiver → List ℕ → ℕ → Receiver
+withHeld r held count = record { held = held; count = count; mark = r .mark }
+
+abbrev pub withMark : Receiver → ℕ → Receiver
+withMark r mark = record { held = r .held; count = r .count; mark = mark }
+
+-- a meter of these
+abbrev pub meterIn : ℕ → ℕ → Receiver → Registers → Meter
+meterIn mode attempts r g = record { mode = mode; attempts = attempts; receiver = r; registers = g }
+
+abbrev pub withReceiver : Meter → Receiver → Meter
+withReceiver m r = record { mode = m .mode; attempts = m .attempts; receiver = r; registers = m .registers }
+
+-- in another mode, the receiver empty
+abbrev pub inMode : Meter → ℕ → Meter
+inMode m mode = record { mode = mode; attempts = m .attempts; receiver = emptyReceiver; registers = m .registers }
+
+abbrev pub withAttempts : Meter → ℕ → Meter
+withAttempts m attempts = record { mode = m .mode; attempts = attempts; receiver = m .receiver; registers = m .registers }
+
+abbrev pub withRegisters : Meter → Registers → Meter
+withRegisters m g = record { mode = m .mode; attempts = m .attempts; receiver = m .receiver; registers = g }
+
+abbrev pub withAccount : Registers → List ℕ → Registers
+withAccount g a = record { facts = g .facts; account = a; clock = g .clock; counters = g .counters; tables = g .tables }
+
+abbrev pub withClock : Registers → Clock → Registers
+withClock g c = record { facts = g .facts; account = g .account; clock = c; counters = g .counters; tables = g .tables }
+
+abbrev pub withCounters : Registers → Counters → Registers
+withCounters g c = record { facts = g .facts; account = g .account; clock = g .clock; counters = c; tables = g .tables }
+
+abbrev pub withTables : Registers → List ℕ → Registers
+withTables g t = record { facts = g .facts; account = g .account; clock = g .clock; counters = g .counters; tables = t }
+
+-- the counter of a zone
+abbrev pub zonePlace : ℕ → ℕ
+zonePlace n = n - 1
+
+abbrev pub counterOf : Counters → ℕ → ℕ
+counterOf c n = getD (c .zones) (zonePlace n) 0
+
+abbrev pub withZones : Counters → List ℕ → Counters
+withZones c zones = record { zones = zones }
+
+-- where the row of a table starts, and the tables with that row anew
+abbrev pub rowStart : ℕ → ℕ
+rowStart n = (n - 1) * rowLength
+
+abbrev pub withRow : List ℕ → ℕ → List ℕ → List ℕ
+withRow rows n row = stored rows (rowStart n) row

@@ -1,0 +1,15 @@
+-- Document 01's sizes, each named once.
+use Prim.Native.Nat.{ℕ}
+pub use Rattle.values.specs.Edition.{rowLength, editionTables as tables}
+
+-- a receiver holds 63 characters at most
+abbrev pub heldPlaces : ℕ
+heldPlaces = 63
+
+-- a counter rolls over at 1,000,000,000
+abbrev pub counterEnd : ℕ
+counterEnd = 1000000000
+
+-- the least room of a reply buffer
+abbrev pub replyRoom : ℕ
+replyRoom = 2048
