@@ -82,6 +82,39 @@ static void say(struct dirgemist_meter *meter, const char *what, const char *mes
 #define SAY(meter, what, message, number, reply, speed) \
     say(meter, what, message, sizeof(message) - 1, number, reply, sizeof(reply) - 1, speed)
 
+/* Any bytes at all in the record have a ruled answer. A million records: whole ones of random bytes, and good ones with a few
+ * bytes anywhere made random. None is read as anything but numbers, and what answers 14 is left as it was. */
+static void any_bytes(const struct dirgemist_meter *good) {
+    struct dirgemist_meter *meter = exactly(sizeof *meter);
+    uint8_t *reply = exactly(DIRGEMIST_REPLY_ROOM);
+    uint64_t chance = 1;
+    int malformed = 0;
+    for (int record = 0; record < 1000000; record++) {
+        uint8_t *bytes = (uint8_t *)meter;
+        size_t few = record % 8 == 0 ? sizeof *meter : 1u + (unsigned)record % 3;
+        memcpy(meter, good, sizeof *meter);
+        for (size_t at = 0; at < few; at++) {
+            chance = chance * 6364136223846793005u + 1442695040888963407u;
+            bytes[few == sizeof *meter ? at : (chance >> 40) % 132] = (uint8_t)(chance >> 33);
+        }
+        struct dirgemist_meter before;
+        memcpy(&before, meter, sizeof before);
+        size_t length = 99;
+        uint8_t speed = 99;
+        uint8_t number = dirgemist_meter_receive(meter, (uint8_t)(chance >> 56), reply, DIRGEMIST_REPLY_ROOM, &length, &speed);
+        if (number == 14) {
+            malformed++;
+            expect(length == 0 && speed == 0 && memcmp(meter, &before, sizeof before) == 0, "a malformed record kept");
+        } else {
+            expect(number <= 11 && before.receiver.mark <= 1 && meter->receiver.mark <= 1, "a well-formed record answered");
+        }
+    }
+    expect(malformed > 500000 && malformed < 1000000, "both kinds of record");
+    calls += 1000000;
+    give_back(reply, DIRGEMIST_REPLY_ROOM);
+    give_back(meter, sizeof *meter);
+}
+
 int main(void) {
     struct dirgemist_meter *meter = exactly(sizeof *meter);
     memset(meter, 0, sizeof *meter);
@@ -136,6 +169,7 @@ int main(void) {
     meter->receiver.mark = 0;
     expect(hear(meter, with_parity('/'), buffer, DIRGEMIST_REPLY_ROOM, &length, &speed) == 0 && meter->receiver.count == 1, "held");
     give_back(buffer, DIRGEMIST_REPLY_ROOM);
+    any_bytes(&kept);
     give_back(meter, sizeof *meter);
 
     printf("firmware in C: %d calls, %s\n", calls, wrong ? "WRONG" : "as document 01 has them");
