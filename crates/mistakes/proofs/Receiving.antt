@@ -67,7 +67,6 @@ pub setting : Setting
 unfolding stored decimal serial account twos newMeter used heldIn
 setting =
     record {
-use Rattle.state.specs.Setting.{counterOf}
       ten = (byte 0 refl, byte 0 refl);
       «with_row» = (byte 144 refl, byte 145 refl);
       «row_start» = (number refl, number refl);

@@ -1,7 +1,6 @@
 -- `meter::events::take_event` meets its contract: each way out is the case of the definition that its tests name. Assumes nothing.
 use Rattle.text.specs.Writing.{holding}
 use Rattle.meter.specs.Life.{happened}
-use Rattle.meter.proofs.Known.{counters-fit}
 use Rattle.meter.proofs.Tests.{character-room, silence-room, pulse-small}
 use borrow.Author.Needs.{needs}
 use Rattle.meter.proofs.events.take_event.Statement.{statement}
@@ -14,7 +13,7 @@ silence-requires : tie.Need-silence-requires
 silence-requires c κs = silence-room _ _ (c .before .enum-told .given .1) (c .before .before .before .before .pre .1)
 
 pulse-requires : tie.Need-pulse-requires
-pulse-requires c κs = let known = c .before .before .before .before .pre in (counters-fit _ (known .0), pulse-small _ _ _ (c .before .e2 .given .1) (known .1))
+pulse-requires c κs = let known = c .before .before .before .before .pre in (known .0, pulse-small _ _ _ (c .before .e2 .given .1) (known .1))
 
 returns : tie.Need-returns
 unfolding happened holding
