@@ -8,14 +8,14 @@ use native.Mathlib.Numerals.{add-one}
 use native.Mathlib.Omega.{arith}
 use borrow.Author.Tests.{le-leb, lt-leb, eqb-true}
 use lib.Bits.{bitXor}
-use lib.Dec.{leb, eqb}
+use lib.Dec.{leb, eqb, lit<}
 use lib.ListN.{length, take, drop, getD, take-append-drop, drop-of-length-le, length-drop}
 use lib.Seq.{take-suc, getD-drop}
-use Rattle.line.specs.Characters.{seven}
 use Rattle.line.specs.Checksum.{bccOf}
 use Rattle.line.specs.Runs.{every}
 use Rattle.line.proofs.Runs.{left-next, and-assoc, and-left, and-right}
-use Rattle.line.proofs.Xor.{bcc-append}
+use Rattle.line.proofs.Parity.{seven-small}
+use Rattle.line.proofs.Xor.{bcc-last}
 use Rattle.blocks.specs.Parts.{isCharacter, notEtx, isContent, between, isBlock, bccFits, partOf, Within}
 use Rattle.blocks.specs.declared.Seen.{Seen}
 
@@ -92,13 +92,13 @@ module _ (s : List ℕ) (long : 3 ≤ length s) where
 
   -- its BCC, where the last but one is ETX
   pub bcc-is : getD s (length s - 2) 0 ≡ 3 → bccOf (take (length s - 2) (drop 1 s)) ≡ bitXor (bccOf (between s)) 3
-  unfolding between bccOf seven
+  unfolding between
   bcc-is e =
       let k = length s - 3 in
       let n : length s - 2 ≡ suc k = omega arith in
       let at : getD (drop 1 s) k 0 ≡ 3 = getD-drop 1 s k 0 ∙ ap (λ (i : ℕ). getD s i 0) {x = 1 + k} {y = length s - 2} (omega arith) ∙ e in
       let cut : take (suc k) (drop 1 s) ≡ take k (drop 1 s) ++ (3 ∷ []) = take-suc (drop 1 s) k 0 (omega (arith, length-drop 1 s)) ∙ ap (λ (c : ℕ). take k (drop 1 s) ++ (c ∷ [])) at in
-      ap (λ (i : ℕ). bccOf (take i (drop 1 s))) n ∙ ap bccOf cut ∙ bcc-append (take k (drop 1 s)) (3 ∷ [])
+      ap (λ (i : ℕ). bccOf (take i (drop 1 s))) n ∙ ap bccOf cut ∙ bcc-last (take k (drop 1 s)) 3 ∙ ap (bitXor (bccOf (take k (drop 1 s)))) (seven-small 3 (lit< tt))
 
 -- what the pass over what stands between found, where a part of that length was lent to it
 module _ (s : List ℕ) (long : 3 ≤ length s) (seen : Seen)

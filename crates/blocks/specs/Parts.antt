@@ -5,15 +5,16 @@ use mathlib.Core.List.{List}
 use Prim.Native.Nat.{ℕ, _+_, _-_, _≤_}
 use lib.Dec.{eqb, leb}
 use lib.ListN.{length, take, drop, getD}
+use Rattle.line.specs.Controls.{STX, ETX}
 use Rattle.line.specs.Runs.{every}
 use Rattle.line.specs.Checksum.{bccOf}
 use Rattle.blocks.specs.declared.PartAt.{PartAt}
 
 unfoldable pub isCharacter : ℕ → Bool
-isCharacter c = leb c 127
+isCharacter c = leb c 0x7F
 
 unfoldable pub notEtx : ℕ → Bool
-notEtx c = not (eqb c 3)
+notEtx c = not (eqb c ETX)
 
 -- what stands between the first character and the last two
 unfoldable pub between : List ℕ → List ℕ
@@ -21,7 +22,7 @@ between s = take (length s - 3) (drop 1 s)
 
 -- first STX, last but one ETX, no other ETX before it, none above 7F
 unfoldable pub isBlock : List ℕ → Bool
-isBlock s = (leb 3 (length s) && (eqb (getD s 0 0) 2 && eqb (getD s (length s - 2) 0) 3)) && (every notEtx (between s) && every isCharacter s)
+isBlock s = (leb 3 (length s) && (eqb (getD s 0 0) STX && eqb (getD s (length s - 2) 0) ETX)) && (every notEtx (between s) && every isCharacter s)
 
 -- the last character is the BCC, from the second character through that ETX
 unfoldable pub bccFits : List ℕ → Bool
@@ -39,6 +40,6 @@ pub record Within (s : List ℕ) (p : PartAt) : Type 0 where
   pub is : p ≡ partOf s
   pub inside : p .start + p .length ≤ length s
 
--- the content of a block, read once: whether it is characters without ETX, and their BCC with the ETX after them
+-- a character that may stand in a block's content: any but ETX
 unfoldable pub isContent : ℕ → Bool
-isContent c = leb c 127 && not (eqb c 3)
+isContent c = leb c 0x7F && not (eqb c ETX)

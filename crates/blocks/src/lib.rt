@@ -90,7 +90,7 @@ fn look(s: &[u8]) -> Seen
     }
     Seen {
         plain: (most <= 127) & clear,
-        sum: sum % 128,
+        sum: line::character(sum),
     }
 }
 

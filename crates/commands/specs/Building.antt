@@ -5,12 +5,13 @@ use mathlib.Core.List.{List}
 use Prim.Native.Nat.{ℕ, _+_, _≤_}
 use lib.Dec.{eqb, ltb}
 use lib.ListN.{length}
+use Rattle.line.specs.Quoted.{char}
 use Rattle.text.specs.Writing.{holding}
 use Rattle.commands.specs.declared.Built.{Built}
 
 -- Y of the confirmation: '0', '1' or '7'
 unfoldable pub goodChoice : ℕ → Bool
-goodChoice y = (eqb y 48 || eqb y 49) || eqb y 55
+goodChoice y = (eqb y (char "0") || eqb y (char "1")) || eqb y (char "7")
 
 -- 19 for a buffer under 64, then 9 for a field outside its rule, else 1 with the command's length
 unfoldable pub builtIn : List ℕ → Bool → List ℕ → Built

@@ -4,7 +4,9 @@ ghost use mathlib.Core.Bool.{true, _&&_};
 ghost use mathlib.Core.List.{[], _∷_, _++_};
 ghost use Prim.Native.Nat.{_+_, _≤_};
 ghost use lib.ListN.{length};
+ghost use Rattle.line.specs.Quoted.{chars};
 ghost use Rattle.clock.specs.Seconds.{realClock};
+ghost use Rattle.values.specs.Edition.{editionTables, rowLength};
 ghost use Rattle.values.specs.Registers.{goodSerial, goodPassword, goodAccount, goodRow, goodTable, goodZone};
 ghost use Rattle.values.specs.Texts.{serialText, tableText, clockText};
 ghost use Rattle.frames.specs.Frames.{sealed, frameOf, bareFrame, onWire};
@@ -66,7 +68,7 @@ fn line_of(buf: &mut [u8], start: &[u8], content: &[u8], end: &[u8]) -> Built
 // A frame: its start through the opening bracket, and its content; the closing bracket, ETX and BCC come after it.
 fn frame(buf: &mut [u8], start: &[u8], content: &[u8]) -> Built
     requires { ⌜ Room (now buf) (now start) (now content) ⌝ }
-    ensures { λ r. ⌜ Made (now (buf .entry)) (onWire (sealed (now (start .entry) ++ (now (content .entry) ++ (41 ∷ []))))) r (now (buf .exit)) ⌝ }
+    ensures { λ r. ⌜ Made (now (buf .entry)) (onWire (sealed (now (start .entry) ++ (now (content .entry) ++ chars ")")))) r (now (buf .exit)) ⌝ }
 {
     let a = text::put(buf, 0, start);
     let b = text::put(buf, a, content);
@@ -81,7 +83,7 @@ fn frame(buf: &mut [u8], start: &[u8], content: &[u8]) -> Built
 // The same where the buffer has room and the field lies within its rule; else refused, and nothing is written.
 fn build(buf: &mut [u8], good: bool, start: &[u8], content: &[u8]) -> Built
     requires { ⌜ Small good (now start) (now content) ⌝ }
-    ensures { λ r. ⌜ Builds (now (buf .entry)) good (onWire (sealed (now (start .entry) ++ (now (content .entry) ++ (41 ∷ []))))) r (now (buf .exit)) ⌝ }
+    ensures { λ r. ⌜ Builds (now (buf .entry)) good (onWire (sealed (now (start .entry) ++ (now (content .entry) ++ chars ")")))) r (now (buf .exit)) ⌝ }
 {
     if buf.len() < ROOM {
         return short();
@@ -193,16 +195,25 @@ pub fn read_zone(buf: &mut [u8], zone: ZoneNo) -> Built
         return refused();
     }
     let n = zone.0;
-    frame(buf, &[1, b'R', b'1', 2, b'E', 48 + n, b'('], b"")
+    frame(
+        buf,
+        &[line::SOH, b'R', b'1', line::STX, b'E', b'0' + n, b'('],
+        b"",
+    )
 }
 
 // R1 for a table.
 pub fn read_table(buf: &mut [u8], table: TableNo) -> Built
-    ensures { λ r. ⌜ Builds (now (buf .entry)) (goodTable 24 (table .0)) (onWire (frameOf R1 (askTable (table .0)))) r (now (buf .exit)) ⌝ }
+    ensures { λ r. ⌜ Builds (now (buf .entry)) (goodTable editionTables (table .0)) (onWire (frameOf R1 (askTable (table .0)))) r (now (buf .exit)) ⌝ }
 {
     let good = values::is_table(table, values::TABLES);
     let n = table.0;
-    build(buf, good, b"\x01R1\x02Z(", &[48 + n / 10 % 10, 48 + n % 10])
+    build(
+        buf,
+        good,
+        b"\x01R1\x02Z(",
+        &[b'0' + n / 10 % 10, b'0' + n % 10],
+    )
 }
 
 // The clock as it is written.
@@ -232,8 +243,8 @@ pub fn write_account(buf: &mut [u8], account: &[u8]) -> Built
 
 // A table's number and its row, as they are written.
 fn shown_table(t: TableNo, row: &[u8]) -> [u8; 27]
-    requires { ⌜ length (now row) ≡ 24 ⌝ }
-    ensures { λ r. ⌜ r ≡ tableText (t .0) ++ (59 ∷ now (row .entry)) ⌝ }
+    requires { ⌜ length (now row) ≡ rowLength ⌝ }
+    ensures { λ r. ⌜ r ≡ tableText (t .0) ++ (chars ";" ++ now (row .entry)) ⌝ }
 {
     let mut shown = [0u8; 27];
     let a = values::writing::put_table(&mut shown, 0, t);
@@ -244,7 +255,7 @@ fn shown_table(t: TableNo, row: &[u8]) -> [u8; 27]
 
 // W1 for a table.
 pub fn write_table(buf: &mut [u8], table: TableNo, row: &[u8]) -> Built
-    ensures { λ r. ⌜ Builds (now (buf .entry)) (goodTable 24 (table .0) && goodRow (now (row .entry))) (onWire (frameOf W1 (setTable (table .0) (now (row .entry))))) r (now (buf .exit)) ⌝ }
+    ensures { λ r. ⌜ Builds (now (buf .entry)) (goodTable editionTables (table .0) && goodRow (now (row .entry))) (onWire (frameOf W1 (setTable (table .0) (now (row .entry))))) r (now (buf .exit)) ⌝ }
 {
     if buf.len() < ROOM {
         return short();

@@ -20,8 +20,9 @@ use Rattle.post.specs.Grammar.{Entry, goodEntry, rising}
 use Rattle.post.proofs.Lines.{row-length, row-zones}
 use Rattle.post.proofs.Reading.{rising-rest, rising-row}
 use Rattle.export.specs.Frames.{entryFrame, framesOf}
-use Rattle.readback.specs.Said.{writeTable, goodFields, lettersOf, dataOf, spoken}
-use Rattle.dialogue.specs.Messages.{command, textOf, goodMessage, allowedAt, allowedIn, obeyed, outcomeOf}
+use Rattle.commands.specs.Spoken.{writeTable, goodFields, lettersOf, dataOf, spoken}
+use Rattle.commands.specs.Messages.{command, textOf, goodMessage}
+use Rattle.dialogue.specs.Messages.{allowedAt, allowedIn, obeyed, outcomeOf}
 use Rattle.dialogue.proofs.Feeding.{Fed, fed-none, fed-append}
 use Rattle.dialogue.proofs.Held.{Fit, idle}
 use Rattle.dialogue.proofs.Dialogue.{message-fed}

@@ -16,6 +16,7 @@ use Rattle.text.specs.Classes.{between, isPrintable, matching, sameText}
 use Rattle.text.specs.Writing.{stored}
 use Rattle.text.specs.Decimal.{decimal}
 use Rattle.text.specs.Layout.{layoutText}
+use Rattle.values.specs.Edition.{editionTables, rowLength}
 use Rattle.values.specs.Registers.{goodPassword, goodAccount, goodRow, goodTable}
 use Rattle.values.specs.Texts.{tableText}
 use Rattle.values.proofs.Rules.{digits-long, account-long, row-long, zone-most}
@@ -31,7 +32,7 @@ use Rattle.deciding.specs.Telling.{told}
 use Rattle.meter.specs.Outcomes.{ack, nak}
 use Rattle.meter.specs.Acting.{acted, tried}
 use Rattle.reading.proofs.Leading.{or-cases}
-use Rattle.readback.specs.Said.{Command, enter, password, readClock, readSerial, readAccount, readTotal, readZone, readTable, writeClock, writeAccount, writeTable, goodFields, lettersOf, dataOf, spoken}
+use Rattle.commands.specs.Spoken.{Command, enter, password, readClock, readSerial, readAccount, readTotal, readZone, readTable, writeClock, writeAccount, writeTable, goodFields, lettersOf, dataOf, spoken}
 use Rattle.readback.proofs.Commands.{command-printable, letters-two, letters-printable, data-short}
 use Rattle.dialogue.specs.Feeding.{saidIn, atLast}
 use Rattle.dialogue.specs.Messages.{allowedAt, decidedAs, triedWith, obeyed}
@@ -60,22 +61,22 @@ abbrev pub bodyOf : Command → List ℕ
 bodyOf c = lettersOf c ++ (2 ∷ dataOf c)
 
 -- the command that the head says is the command that the meter decides
-pub command-decided : (c : Command) (mode : ℕ) → goodFields c ≡ true → allowedAt c mode ≡ true
+pub command-decided : (c : Command) (mode : ℕ) → goodFields editionTables c ≡ true → allowedAt c mode ≡ true
     → verdict mode (1 ∷ (bodyOf c ++ (3 ∷ []))) false (bccOf (bodyOf c ++ (3 ∷ []))) ≡ decidedAs c
 unfolding decidedAs lettersOf dataOf allowedAt goodFields sameText matching
-command-decided enter mode h k = by-entry mode (dataOf enter) (command-printable enter h) k ∙ entry-plain
-command-decided (password p) mode h k = by-entry mode (dataOf (password p)) (command-printable (password p) h) k ∙ entry-password p h
-command-decided readClock mode h k = by-asked mode (dataOf readClock) (command-printable readClock h) k ∙ asked-clock
-command-decided readSerial mode h k = by-asked mode (dataOf readSerial) (command-printable readSerial h) k ∙ asked-serial
-command-decided readAccount mode h k = by-asked mode (dataOf readAccount) (command-printable readAccount h) k ∙ asked-account
-command-decided readTotal mode h k = by-asked mode (dataOf readTotal) (command-printable readTotal h) k ∙ asked-energy 0 (lit≤ tt)
-command-decided (readZone n) mode h k = by-asked mode (dataOf (readZone n)) (command-printable (readZone n) h) k ∙ asked-energy n (zone-most n h)
-command-decided (readTable n) mode h k = by-asked mode (dataOf (readTable n)) (command-printable (readTable n) h) k ∙ asked-table n h
-command-decided (writeClock c) mode h k = by-told mode (dataOf (writeClock c)) (command-printable (writeClock c) h) k ∙ told-clock c h
-command-decided (writeAccount a) mode h k = by-told mode (dataOf (writeAccount a)) (command-printable (writeAccount a) h) k ∙ told-account a h
+command-decided enter mode h k = by-entry mode (dataOf enter) (command-printable editionTables enter h) k ∙ entry-plain
+command-decided (password p) mode h k = by-entry mode (dataOf (password p)) (command-printable editionTables (password p) h) k ∙ entry-password p h
+command-decided readClock mode h k = by-asked mode (dataOf readClock) (command-printable editionTables readClock h) k ∙ asked-clock
+command-decided readSerial mode h k = by-asked mode (dataOf readSerial) (command-printable editionTables readSerial h) k ∙ asked-serial
+command-decided readAccount mode h k = by-asked mode (dataOf readAccount) (command-printable editionTables readAccount h) k ∙ asked-account
+command-decided readTotal mode h k = by-asked mode (dataOf readTotal) (command-printable editionTables readTotal h) k ∙ asked-energy 0 (lit≤ tt)
+command-decided (readZone n) mode h k = by-asked mode (dataOf (readZone n)) (command-printable editionTables (readZone n) h) k ∙ asked-energy n (zone-most n h)
+command-decided (readTable n) mode h k = by-asked mode (dataOf (readTable n)) (command-printable editionTables (readTable n) h) k ∙ asked-table n h
+command-decided (writeClock c) mode h k = by-told mode (dataOf (writeClock c)) (command-printable editionTables (writeClock c) h) k ∙ told-clock c h
+command-decided (writeAccount a) mode h k = by-told mode (dataOf (writeAccount a)) (command-printable editionTables (writeAccount a) h) k ∙ told-account a h
 command-decided (writeTable n row) mode h k =
-    by-told mode (dataOf (writeTable n row)) (command-printable (writeTable n row) h) k
-    ∙ told-table n row (and-left (goodTable 24 n) (goodRow row) h) (and-right (goodTable 24 n) (goodRow row) h)
+    by-told mode (dataOf (writeTable n row)) (command-printable editionTables (writeTable n row) h) k
+    ∙ told-table n row (and-left (goodTable editionTables n) (goodRow row) h) (and-right (goodTable editionTables n) (goodRow row) h)
 
 -- what stood in the brackets, as the meter takes it from what it holds
 given : (x : List ℕ) (n : ℕ) (zs : List ℕ) → length x ≡ n → take n (((x ++ (41 ∷ [])) ++ (3 ∷ [])) ++ zs) ≡ x
@@ -93,13 +94,13 @@ account-given : (a zs : List ℕ) → goodAccount a ≡ true → take 10 (drop 6
 unfolding lettersOf dataOf setAccount bracketed
 account-given a zs h = given a 10 zs (account-long a h)
 
-row-given : (n : ℕ) (row zs : List ℕ) → goodRow row ≡ true → take 24 (drop 9 (1 ∷ ((bodyOf (writeTable n row) ++ (3 ∷ [])) ++ zs))) ≡ row
+row-given : (n : ℕ) (row zs : List ℕ) → goodRow row ≡ true → take rowLength (drop 9 (1 ∷ ((bodyOf (writeTable n row) ++ (3 ∷ [])) ++ zs))) ≡ row
 unfolding lettersOf dataOf setTable bracketed tableText layoutText decimal
-row-given n row zs h = given row 24 zs (row-long row h)
+row-given n row zs h = given row rowLength zs (row-long row h)
 
 module _ (mode a : ℕ) (g : Registers) where
   -- and it does what the command says
-  pub command-done : (c : Command) → goodFields c ≡ true → acted (holding mode a g 1 (bodyOf c ++ (3 ∷ []))) (decidedAs c) ≡ obeyed (idle mode a g) c
+  pub command-done : (c : Command) → goodFields editionTables c ≡ true → acted (holding mode a g 1 (bodyOf c ++ (3 ∷ []))) (decidedAs c) ≡ obeyed (idle mode a g) c
   unfolding acted decidedAs obeyed goodFields
   command-done enter h = refl
   command-done (password p) h =
@@ -115,9 +116,9 @@ module _ (mode a : ℕ) (g : Registers) where
   command-done (writeClock c) h = refl
   command-done (writeAccount x) h = ap (λ (x : List ℕ). ack (idle mode a (withAccount g x))) (account-given x (spare (bodyOf (writeAccount x))) h)
   command-done (writeTable n row) h =
-      rw (and-left (goodTable 24 n) (goodRow row) h)
-      (ap (λ (x : List ℕ). ack (idle mode a (withTables g (stored (g .tables) ((n - 1) * 24) x))))
-      (row-given n row (spare (bodyOf (writeTable n row))) (and-right (goodTable 24 n) (goodRow row) h)))
+      rw (and-left (goodTable editionTables n) (goodRow row) h)
+      (ap (λ (x : List ℕ). ack (idle mode a (withTables g (stored (g .tables) ((n - 1) * rowLength) x))))
+      (row-given n row (spare (bodyOf (writeTable n row))) (and-right (goodTable editionTables n) (goodRow row) h)))
 
 -- a command is allowed in no mode below 2
 pub allowed-low : (c : Command) (mode : ℕ) → allowedAt c mode ≡ true → 2 ≤ mode
@@ -133,11 +134,11 @@ allowed-low c mode = pick (sameText (lettersOf c) P1) (sameText (lettersOf c) R1
     pick false false h = is 4 (lit≤ tt) h
 
 -- its characters are held for themselves
-body-plain : (c : Command) → goodFields c ≡ true → every inFrame (bodyOf c) ≡ true
+body-plain : (c : Command) → goodFields editionTables c ≡ true → every inFrame (bodyOf c) ≡ true
 unfolding every
 body-plain c h =
     every-append inFrame (lettersOf c) (2 ∷ dataOf c) (every-within isPrintable inFrame prints (lettersOf c) (letters-printable c))
-    (and-both (inFrame 2) (every inFrame (dataOf c)) (unfold besides in refl) (every-within isPrintable inFrame prints (dataOf c) (command-printable c h)))
+    (and-both (inFrame 2) (every inFrame (dataOf c)) (unfold besides in refl) (every-within isPrintable inFrame prints (dataOf c) (command-printable editionTables c h)))
   where
     prints : (x : ℕ) → isPrintable x ≡ true → inFrame x ≡ true
     prints x = printable-besides 1 1 x (lit< tt) (lit< tt)
@@ -146,10 +147,10 @@ pub body-long : (c : Command) → length (bodyOf c) ≡ length (dataOf c) + 3
 body-long c = omega (arith, letters-two c, length-append (lettersOf c) (2 ∷ dataOf c))
 
 -- given byte by byte, it is taken at its last byte
-pub command-fed : (mode a : ℕ) (g : Registers) (c : Command) → Fit mode a g → goodFields c ≡ true → allowedAt c mode ≡ true
+pub command-fed : (mode a : ℕ) (g : Registers) (c : Command) → Fit mode a g → goodFields editionTables c ≡ true → allowedAt c mode ≡ true
     → Fed (idle mode a g) (onWire (spoken c)) (atLast (suc (suc (length (bodyOf c)))) mode (saidIn (obeyed (idle mode a g) c))) (obeyed (idle mode a g) c .next)
 unfolding spoken frameOf
 command-fed mode a g c fit h k =
     let d = command-decided c mode h k in
-    frame-fed mode a g fit (allowed-low c mode k) (bodyOf c) (body-plain c h) (omega (arith, body-long c, data-short c h)) (obeyed (idle mode a g) c)
+    frame-fed mode a g fit (allowed-low c mode k) (bodyOf c) (body-plain c h) (omega (arith, body-long c, data-short editionTables c h)) (obeyed (idle mode a g) c)
     (ap (acted (holding mode a g 1 (bodyOf c ++ (3 ∷ [])))) d ∙ command-done mode a g c h)

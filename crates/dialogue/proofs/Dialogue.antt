@@ -12,6 +12,7 @@ use Rattle.line.specs.Characters.{sent}
 use Rattle.line.specs.Checksum.{bccOf}
 use Rattle.text.specs.Classes.{sameText}
 use Rattle.text.specs.Writing.{holding}
+use Rattle.values.specs.Edition.{editionTables}
 use Rattle.values.specs.Texts.{serialText}
 use Rattle.values.proofs.Rules.{digits-long, serial-text-long}
 use Rattle.frames.specs.Frames.{closed, frameOf, bareFrame, onWire}
@@ -21,9 +22,10 @@ use Rattle.state.specs.declared.Meter.{Meter}
 use Rattle.meter.specs.Outcomes.{Outcome}
 use Rattle.commands.specs.declared.Built.{Built}
 use Rattle.commands.specs.Building.{builtIn, keptOr, Builds}
-use Rattle.readback.specs.Said.{Command, enter, password, readClock, readSerial, readAccount, readTotal, readZone, readTable, writeClock, writeAccount, writeTable, spoken}
+use Rattle.commands.specs.Spoken.{Command, enter, password, readClock, readSerial, readAccount, readTotal, readZone, readTable, writeClock, writeAccount, writeTable, spoken}
 use Rattle.dialogue.specs.Feeding.{saidIn, atLast}
-use Rattle.dialogue.specs.Messages.{Message, call, callTo, confirm, command, leave, textOf, goodMessage, allowedIn, triedWith, obeyed, outcomeOf, Listens, Taken, misheard}
+use Rattle.commands.specs.Messages.{Message, call, callTo, confirm, command, leave, textOf, goodMessage}
+use Rattle.dialogue.specs.Messages.{allowedIn, triedWith, obeyed, outcomeOf, Listens, Taken, misheard}
 use Rattle.dialogue.proofs.Feeding.{Fed, fed-in}
 use Rattle.dialogue.proofs.Held.{Fit, idle, idle-formed, idle-is, fit-is}
 use Rattle.dialogue.proofs.Commands.{bodyOf, command-fed}
@@ -50,7 +52,7 @@ at-mode mode n a g x e f = subst (λ (k : ℕ). FedAs (idle k a g) x) (sym (eqb-
 now-fit : (mode n a : ℕ) (g : Registers) → eqb mode n ≡ true → Fit mode a g → Fit n a g
 now-fit mode n a g e f = subst (λ (k : ℕ). Fit k a g) (eqb-true mode n e) f
 
-pub message-fed : (mode a : ℕ) (g : Registers) (x : Message) → Fit mode a g → goodMessage x ≡ true → allowedIn x mode ≡ true → FedAs (idle mode a g) x
+pub message-fed : (mode a : ℕ) (g : Registers) (x : Message) → Fit mode a g → goodMessage editionTables x ≡ true → allowedIn x mode ≡ true → FedAs (idle mode a g) x
 unfolding textOf goodMessage allowedIn
 message-fed mode a g call fit h k = at-mode mode 0 a g call k (unfold signOn in call-fed a g (now-fit mode 0 a g k fit))
 message-fed mode a g (callTo s) fit h k =
@@ -69,7 +71,7 @@ pub idle-listens : (mode a : ℕ) (g : Registers) (x : Message) → Fit mode a g
 idle-listens mode a g x fit k = record { formed = idle-formed mode a g fit; empty = refl; allowed = k }
 
 -- what the head says is what the meter takes
-pub message-taken : (m : Meter) (x : Message) → goodMessage x ≡ true → Listens m x → Taken m x (onWire (textOf x))
+pub message-taken : (m : Meter) (x : Message) → goodMessage editionTables x ≡ true → Listens m x → Taken m x (onWire (textOf x))
 message-taken m x h l =
     let f = l .formed in
     let fed = subst (λ (n : Meter). FedAs n x) (sym (idle-is m f (l .empty))) (message-fed (m .mode) (m .attempts) (m .registers) x (fit-is m f) h (l .allowed)) in
@@ -79,8 +81,8 @@ message-taken m x h l =
     }
 
 -- and that is what stands in the buffer of a builder whose promise is kept
-pub built-is-said : (x : Message) (buf : List ℕ) (r : Built) (after : List ℕ) → goodMessage x ≡ true → 64 ≤ length buf
-    → Builds buf (goodMessage x) (onWire (textOf x)) r after → take (r .length) after ≡ onWire (textOf x)
+pub built-is-said : (x : Message) (buf : List ℕ) (r : Built) (after : List ℕ) → goodMessage editionTables x ≡ true → 64 ≤ length buf
+    → Builds buf (goodMessage editionTables x) (onWire (textOf x)) r after → take (r .length) after ≡ onWire (textOf x)
 unfolding builtIn keptOr holding
 built-is-said x buf r after h room b =
     let bytes = onWire (textOf x) in
@@ -88,8 +90,8 @@ built-is-said x buf r after h room b =
     let w : after ≡ bytes ++ drop (length bytes) buf = rw (h, le-ltb (length buf) 64 room) at (b .held) in
     ap₂ (λ (n : Built) (l : List ℕ). take (n .length) l) k w ∙ take-append-seam bytes (drop (length bytes) buf)
 
-pub built-taken : (m : Meter) (x : Message) (buf : List ℕ) (r : Built) (after : List ℕ) → Listens m x → goodMessage x ≡ true → 64 ≤ length buf
-    → Builds buf (goodMessage x) (onWire (textOf x)) r after → Taken m x (take (r .length) after)
+pub built-taken : (m : Meter) (x : Message) (buf : List ℕ) (r : Built) (after : List ℕ) → Listens m x → goodMessage editionTables x ≡ true → 64 ≤ length buf
+    → Builds buf (goodMessage editionTables x) (onWire (textOf x)) r after → Taken m x (take (r .length) after)
 built-taken m x buf r after l h room b = subst (Taken m x) (sym (built-is-said x buf r after h room b)) (message-taken m x h l)
 
 -- and never as something else

@@ -8,6 +8,7 @@ use borrow.Author.Tests.{le-leb, lt-ltb}
 use lib.Dec.{eqb, leb}
 use lib.ListN.{length, getD, take, length-append}
 use lib.Seq.{take-at, getD-append-seam}
+use Rattle.line.specs.Quoted.{chars}
 use Rattle.line.specs.Runs.{every}
 use Rattle.line.proofs.Runs.{and-right}
 use Rattle.text.specs.Classes.{isDigit, matching, sameText}
@@ -18,6 +19,7 @@ use Rattle.text.proofs.Forms.{text-fits}
 use Rattle.text.proofs.Matching.{matching-length}
 use Rattle.clock.specs.declared.Clock.{Clock}
 use Rattle.clock.specs.Seconds.{realClock}
+use Rattle.values.specs.Edition.{editionTables}
 use Rattle.values.specs.Registers.{goodDigits, goodPassword, goodAccount, goodRow, goodTable}
 use Rattle.values.specs.Texts.{tableText, clockText}
 use Rattle.values.specs.Reading.{tableRead}
@@ -39,10 +41,10 @@ entry-plain = refl
 
 -- eight digits in brackets
 abbrev passwordForm : List Piece
-passwordForm = fixed (40 ∷ []) ∷ digits 8 ∷ fixed (41 ∷ []) ∷ []
+passwordForm = fixed (chars "(") ∷ digits 8 ∷ fixed (chars ")") ∷ []
 
 module _ (p : List ℕ) (good : goodPassword p ≡ true) where
-  password-fits : fits (bracketed (35 ∷ 35 ∷ 35 ∷ 35 ∷ 35 ∷ 35 ∷ 35 ∷ 35 ∷ [])) (bracketed p) ≡ true
+  password-fits : fits (chars "(########)") (bracketed p) ≡ true
   unfolding bracketed goodDigits numbersFit plain pattern layoutText every
   password-fits =
       let n = digits-long 8 p good in
@@ -51,9 +53,9 @@ module _ (p : List ℕ) (good : goodPassword p ≡ true) where
       let low : valueOf p < 10 ^ 8 = rw n at (value-lt p all) in
       rw same at (text-fits passwordForm (valueOf p ∷ []) refl (rw (lt-ltb (valueOf p) (10 ^ 8) low)))
 
-  not-plain : sameText (bracketed p) (bracketed []) ≡ false
+  not-plain : sameText (bracketed p) (chars "()") ≡ false
   unfolding bracketed sameText
-  not-plain = matching-length eqb (40 ∷ (p ++ (41 ∷ []))) (40 ∷ 41 ∷ []) (λ e. omega (arith, digits-long 8 p good, length-append p (41 ∷ [])))
+  not-plain = matching-length eqb (chars "(" ++ (p ++ chars ")")) (chars "()") (λ e. omega (arith, digits-long 8 p good, length-append p (41 ∷ [])))
 
   pub entry-password : entry (passwordData p) ≡ Password
   unfolding entry passwordData
@@ -83,7 +85,7 @@ asked-energy (suc (suc (suc (suc zero)))) h = refl
 asked-energy (suc (suc (suc (suc (suc n))))) h = absurd (omega arith)
 
 -- Z(xx), of two digits
-two-asked : (x y : ℕ) → isDigit x ≡ true → isDigit y ≡ true → asked (90 ∷ 40 ∷ x ∷ y ∷ 41 ∷ []) ≡ tableNamed (tableRead 24 (x ∷ y ∷ []))
+two-asked : (x y : ℕ) → isDigit x ≡ true → isDigit y ≡ true → asked (90 ∷ 40 ∷ x ∷ y ∷ 41 ∷ []) ≡ tableNamed (tableRead editionTables (x ∷ y ∷ []))
 unfolding asked energyAsked tableAsked askClock askSerial askAccount askEnergy bracketed sameText matching fits agrees
 two-asked x y hx hy = rw (hx, hy)
 
@@ -95,12 +97,12 @@ digits-are : (n : ℕ) → (48 + n / 10 % 10) ∷ (48 + n % 10) ∷ [] ≡ table
 unfolding tableText layoutText decimal
 digits-are n = refl
 
-pub asked-table : (n : ℕ) → goodTable 24 n ≡ true → asked (askTable n) ≡ Read (ask.Table (record { 0 = n }))
+pub asked-table : (n : ℕ) → goodTable editionTables n ≡ true → asked (askTable n) ≡ Read (ask.Table (record { 0 = n }))
 asked-table n good =
     ap asked (ask-table-is n)
     ∙ two-asked (48 + n / 10 % 10) (48 + n % 10) (digit-is (n / 10 % 10) (omega arith)) (digit-is (n % 10) (omega arith))
-    ∙ ap (λ (t : List ℕ). tableNamed (tableRead 24 t)) (digits-are n)
-    ∙ ap tableNamed (table-reads-back 24 n (omega arith) good)
+    ∙ ap (λ (t : List ℕ). tableNamed (tableRead editionTables t)) (digits-are n)
+    ∙ ap tableNamed (table-reads-back editionTables n (omega arith) good)
 
 -- W1
 
@@ -141,15 +143,15 @@ pub told-account : (a : List ℕ) → goodAccount a ≡ true → told (setAccoun
 unfolding setAccount accountTold
 told-account a good = told-by 75 a ∙ (rw good)
 
-two-told : (x y : ℕ) (row : List ℕ) → goodRow row ≡ true → tableTold (x ∷ y ∷ 59 ∷ row) ≡ tableMeant (tableRead 24 (x ∷ y ∷ []))
+two-told : (x y : ℕ) (row : List ℕ) → goodRow row ≡ true → tableTold (x ∷ y ∷ 59 ∷ row) ≡ tableMeant (tableRead editionTables (x ∷ y ∷ []))
 unfolding tableTold
 two-told x y row good = rw good
 
-pub told-table : (n : ℕ) (row : List ℕ) → goodTable 24 n ≡ true → goodRow row ≡ true → told (setTable n row) ≡ WriteTable (record { 0 = n })
+pub told-table : (n : ℕ) (row : List ℕ) → goodTable editionTables n ≡ true → goodRow row ≡ true → told (setTable n row) ≡ WriteTable (record { 0 = n })
 unfolding setTable
 told-table n row good-n good =
     told-by 90 (tableText n ++ (59 ∷ row))
     ∙ ap (λ (t : List ℕ). tableTold (t ++ (59 ∷ row))) (sym (digits-are n))
     ∙ two-told (48 + n / 10 % 10) (48 + n % 10) row good
-    ∙ ap (λ (t : List ℕ). tableMeant (tableRead 24 t)) (digits-are n)
-    ∙ ap tableMeant (table-reads-back 24 n (omega arith) good-n)
+    ∙ ap (λ (t : List ℕ). tableMeant (tableRead editionTables t)) (digits-are n)
+    ∙ ap tableMeant (table-reads-back editionTables n (omega arith) good-n)

@@ -38,7 +38,8 @@ use Rattle.meter.specs.Character.{lineEnded, confirmed, heard, character}
 use Rattle.commands.specs.Building.{goodChoice}
 use Rattle.reading.proofs.Leading.{or-cases}
 use Rattle.dialogue.specs.Feeding.{saidIn, atLast}
-use Rattle.dialogue.specs.Messages.{call, callTo, confirm, leave, outcomeOf}
+use Rattle.commands.specs.Messages.{call, callTo, confirm, leave}
+use Rattle.dialogue.specs.Messages.{outcomeOf}
 use Rattle.dialogue.proofs.Feeding.{Fed, fed-none, fed-next}
 use Rattle.dialogue.proofs.Held.{Fit, idle, holding, heard-as, held-is, holding-formed, begun}
 use Rattle.dialogue.proofs.Rules.{besides, inLine, line-rule, ends-line, anything, confirmation-rule, ends-confirmation}

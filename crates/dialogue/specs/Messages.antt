@@ -1,16 +1,16 @@
--- Demand 2: everything that the head says, the mode that allows it, and what a meter with an empty receiver makes of it.
+-- Demand 2: the mode that allows what the head says, and what a meter with an empty receiver makes of it.
 use mathlib.Core.Path.{_≡_}
 use mathlib.Core.Bool.{Bool, true, cond, _&&_, _||_}
 use mathlib.Core.List.{List}
 use Prim.Native.Nat.{ℕ, _+_, _-_, _*_, _≤_}
 use lib.Dec.{eqb, leb}
 use lib.ListN.{length, replicate}
+use Rattle.line.specs.Quoted.{char}
 use Rattle.text.specs.Classes.{sameText}
 use Rattle.text.specs.Writing.{stored}
-use Rattle.values.specs.Registers.{goodSerial}
-use Rattle.frames.specs.Frames.{bareFrame, blockOf}
-use Rattle.frames.specs.Commands.{B0, P1, R1}
-use Rattle.frames.specs.Session.{signOn, signOnTo, confirmation}
+use Rattle.values.specs.Edition.{editionTables, rowLength}
+use Rattle.frames.specs.Frames.{blockOf}
+use Rattle.frames.specs.Commands.{P1, R1}
 use Rattle.state.specs.declared.Meter.{Meter}
 use Rattle.state.specs.WellFormed.{wellFormed}
 use Rattle.replies.specs.declared.Ask.{Ask}
@@ -22,32 +22,9 @@ use Rattle.changes.specs.Changes.{inMode, withAttempts, withRegisters, withCloc
 use Rattle.deciding.specs.declared.Verdict.{Verdict}
 use Rattle.deciding.specs.declared.Verdict.the-variants as verdict
 use Rattle.meter.specs.Outcomes.{Outcome, silent, saying, nak, ack}
-use Rattle.commands.specs.Building.{goodChoice}
-use Rattle.readback.specs.Said.{Command, enter, password, readClock, readSerial, readAccount, readTotal, readZone, readTable, writeClock, writeAccount, writeTable, goodFields, lettersOf, spoken}
+use Rattle.commands.specs.Spoken.{Command, enter, password, readClock, readSerial, readAccount, readTotal, readZone, readTable, writeClock, writeAccount, writeTable, lettersOf}
+use Rattle.commands.specs.Messages.{Message, call, callTo, confirm, command, leave}
 use Rattle.dialogue.specs.Feeding.{saidIn, answered, left, atLast}
-
--- the sign-on to any meter or to one, the confirmation, a command with data, B0
-pub data Message : Type 0 where
-  call : Message
-  callTo : List ℕ → Message
-  confirm : ℕ → Message
-  command : Command → Message
-  leave : Message
-
-unfoldable pub textOf : Message → List ℕ
-textOf call = signOn
-textOf (callTo serial) = signOnTo serial
-textOf (confirm y) = confirmation y
-textOf (command c) = spoken c
-textOf leave = bareFrame B0
-
--- the head builds it: its fields lie within their rules
-unfoldable pub goodMessage : Message → Bool
-goodMessage call = true
-goodMessage (callTo serial) = goodSerial serial
-goodMessage (confirm y) = goodChoice y
-goodMessage (command c) = goodFields c
-goodMessage leave = true
 
 -- P1 in mode 2, R1 in 3 and 4, W1 in 4
 unfoldable pub allowedAt : Command → ℕ → Bool
@@ -98,15 +75,15 @@ obeyed m (readZone n) = telling m (ask.Energy n)
 obeyed m (readTable n) = telling m (ask.Table (record { 0 = n }))
 obeyed m (writeClock c) = ack (withRegisters m (withClock (m .registers) c))
 obeyed m (writeAccount a) = ack (withRegisters m (withAccount (m .registers) a))
-obeyed m (writeTable n row) = ack (withRegisters m (withTables (m .registers) (stored (m .registers .tables) ((n - 1) * 24) row)))
+obeyed m (writeTable n row) = ack (withRegisters m (withTables (m .registers) (stored (m .registers .tables) ((n - 1) * rowLength) row)))
 
 -- a meter that is called by its own serial, or by zeros, identifies itself; another says nothing
 unfoldable pub outcomeOf : Meter → Message → Outcome
 outcomeOf m call = saying 1 0 identification (inMode m 1)
 outcomeOf m (callTo serial) =
-    cond (sameText serial (m .registers .serial) || sameText serial (replicate 10 48)) (saying 1 0 identification (inMode m 1)) (silent 0 m)
+    cond (sameText serial (m .registers .serial) || sameText serial (replicate 10 (char "0"))) (saying 1 0 identification (inMode m 1)) (silent 0 m)
 outcomeOf m (confirm y) =
-    cond (eqb y 49) (saying 1 5 passwordAsk (inMode m 2)) (saying 1 5 (blockOf (blockData 24 (m .registers))) (inMode m 0))
+    cond (eqb y (char "1")) (saying 1 5 passwordAsk (inMode m 2)) (saying 1 5 (blockOf (blockData editionTables (m .registers))) (inMode m 0))
 outcomeOf m (command c) = obeyed m c
 outcomeOf m leave = ack (inMode m 0)
 

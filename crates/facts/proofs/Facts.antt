@@ -5,6 +5,8 @@ use mathlib.Core.List.{List, [], _∷_, _++_, map}
 use Prim.Native.Nat.{ℕ, _+_, _-_}
 use lib.Count.{ones}
 use lib.ListN.{getD, replicate}
+use Rattle.line.specs.Quoted.{chars}
+use Rattle.line.specs.Controls.{STX, ETX}
 use Rattle.line.specs.Characters.{seven, sent}
 use Rattle.line.specs.Checksum.{bccOf}
 use Rattle.line.specs.Runs.{every}
@@ -30,12 +32,12 @@ use Rattle.deciding.specs.Asking.{energyAsked, asked}
 use Rattle.deciding.specs.Telling.{enclosed, inner, clockTold, told}
 use Rattle.changes.specs.Zones.{tableFor, grown, counted}
 use Rattle.post.specs.Grammar.{lineText}
-use Rattle.facts.specs.Facts.{Facts, leapDay, allOnes}
+use Rattle.facts.specs.Facts.{Facts, allOnes}
 use Rattle.facts.proofs.Places.{only-answer, empty-answer, last-answer, past-answer}
 
 energy-shown : (g : Registers) → g .counters .t1 ≡ 1500
     → blockOf (askedData g (Energy 1))
-    ≡ 2 ∷ 49 ∷ 53 ∷ 46 ∷ 56 ∷ 46 ∷ 49 ∷ 40 ∷ 48 ∷ 48 ∷ 48 ∷ 48 ∷ 48 ∷ 49 ∷ 46 ∷ 53 ∷ 48 ∷ 48 ∷ 42 ∷ 107 ∷ 87 ∷ 104 ∷ 41 ∷ 13 ∷ 10 ∷ 3 ∷ 108 ∷ []
+    ≡ STX ∷ chars "15.8.1(000001.500*kWh)\r\n" ++ ETX ∷ 0x6C ∷ []
 unfolding askedData askedSets energy linesOf dataSet counterText layoutText decimal blockOf closed bccOf seven
 energy-shown g h = ap (λ (wh : ℕ). blockOf (linesOf (energySet 1 wh ∷ []))) h
 
@@ -62,6 +64,6 @@ facts =
       leap-day = refl;
       no-leap-day = refl;
       empty-text = only-answer [] 20 0 empty-answer;
-      only-last = only-answer (33 ∷ []) 20 0 last-answer;
-      past-24 = λ row good. only-answer (lineText 24 row ++ (49 ∷ [])) 20 36 (past-answer row good);
+      only-last = only-answer (chars "!") 20 0 last-answer;
+      past-24 = λ row good. only-answer (lineText 24 row ++ chars "1") 20 36 (past-answer row good);
     }

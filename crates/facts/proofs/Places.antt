@@ -6,6 +6,7 @@ use Prim.Native.Nat.{ℕ, zero, suc, _+_, _≤_, _<_}
 use native.Mathlib.Omega.{arith}
 use lib.ListN.{length, getD, drop, length-append}
 use lib.Seq.{drop-at}
+use Rattle.line.specs.Quoted.{chars}
 use Rattle.text.specs.Classes.{between}
 use Rattle.values.specs.Registers.{goodRow}
 use Rattle.post.specs.Grammar.{lineText, lastLine}
@@ -36,39 +37,39 @@ empty-answer =
     (record { in-text = omega arith; in-line = omega arith; before = λ j h. absurd (omega arith); stops = λ h i. absurd (omega arith) })
     (record { in-text = omega arith; in-line = omega arith; before = λ j h. absurd (omega arith); stops = λ h i c. omega arith })
 
-no-line-there : Column 24 0 (33 ∷ []) 0 → ⊥
+no-line-there : Column 24 0 (chars "!") 0 → ⊥
 unfolding columnFits lowest highest between
 no-line-there c = let h : false ≡ true = c .held in let z : _≡_ {A = ℕ} 0 1 = cc in omega arith
 
-stray-there : columnFits (33 ∷ []) 0 ≡ false
+stray-there : columnFits (chars "!") 0 ≡ false
 unfolding columnFits lowest highest between
 stray-there = refl
 
-pub last-answer : CheckedAs 24 (33 ∷ []) 20 0
+pub last-answer : CheckedAs 24 (chars "!") 20 0
 last-answer =
-    at-once (33 ∷ []) (omega arith)
+    at-once (chars "!") (omega arith)
     (record { in-text = omega arith; in-line = omega arith; before = λ j h. absurd (omega arith); stops = λ h i. stray-there })
     (record { in-text = omega arith; in-line = omega arith; before = λ j h. absurd (omega arith); stops = λ h i c. no-line-there c })
 
 -- a '1' begins a line, and the text ends behind it
-one-begins : FirstStray (49 ∷ []) 1
+one-begins : FirstStray (chars "1") 1
 unfolding columnFits lowest highest between
 one-begins = record { in-text = omega arith; in-line = omega arith; before = first; stops = λ h i. absurd (omega arith) }
   where
-    first : (j : ℕ) → j < 1 → columnFits (49 ∷ []) j ≡ true
+    first : (j : ℕ) → j < 1 → columnFits (chars "1") j ≡ true
     first zero h = refl
     first (suc j) h = absurd (omega arith)
 
 -- below table 24 only the last line may stand
 module _ (row : List ℕ) (good : goodRow row ≡ true) where
   abbrev text : List ℕ
-  text = lineText 24 row ++ (49 ∷ [])
+  text = lineText 24 row ++ (chars "1")
 
-  behind : drop 36 text ≡ 49 ∷ []
-  behind = drop-at (lineText 24 row) (49 ∷ []) 36 (length-line 24 row good)
+  behind : drop 36 text ≡ chars "1"
+  behind = drop-at (lineText 24 row) (chars "1") 36 (length-line 24 row good)
 
   text-long : length text ≡ 37
-  text-long = length-append (lineText 24 row) (49 ∷ []) ∙ ap (λ (n : ℕ). n + 1) (length-line 24 row good)
+  text-long = length-append (lineText 24 row) (chars "1") ∙ ap (λ (n : ℕ). n + 1) (length-line 24 row good)
 
   passed : Passed 24 text 36 24
   passed =

@@ -7,6 +7,7 @@ use lib.ListN.{length, length-append, length-map}
 use Rattle.line.specs.Checksum.{bccOf}
 use Rattle.text.specs.Decimal.{decimal}
 use Rattle.text.specs.Layout.{layoutText}
+use Rattle.values.specs.Edition.{rowLength}
 use Rattle.values.specs.Texts.{tableText}
 use Rattle.frames.specs.Frames.{closed, frameOf}
 use Rattle.frames.specs.Commands.{W1, bracketed, setTable}
@@ -25,11 +26,11 @@ pub table-frame : (n : ℕ) (row : List ℕ) → frameOf W1 (setTable n row) ≡
 unfolding frameOf closed
 table-frame n row = ap (λ (b : List ℕ). 1 ∷ (b ++ (bccOf b ∷ []))) (body-is n row)
 
-pub length-body : (n : ℕ) (row : List ℕ) → length row ≡ 24 → length (tableBody n row) ≡ 34
+pub length-body : (n : ℕ) (row : List ℕ) → length row ≡ rowLength → length (tableBody n row) ≡ 34
 unfolding tableBody tableText layoutText decimal
 length-body n row h = rw (length-append row (41 ∷ 3 ∷ []), h)
 
 -- 36 characters
-pub length-table-frame : (n : ℕ) (row : List ℕ) → length row ≡ 24 → length (frameOf W1 (setTable n row)) ≡ 36
+pub length-table-frame : (n : ℕ) (row : List ℕ) → length row ≡ rowLength → length (frameOf W1 (setTable n row)) ≡ 36
 length-table-frame n row h =
     ap length (table-frame n row) ∙ ap suc (length-append (tableBody n row) (bccOf (tableBody n row) ∷ [])) ∙ (rw (length-body n row h))

@@ -2,6 +2,7 @@
 ghost use mathlib.Core.Path.{_≡_};
 ghost use mathlib.Core.Bool.{true, _&&_};
 ghost use Rattle.clock.specs.Seconds.{realClock, dateOf, timeOf};
+ghost use Rattle.values.specs.Edition.{editionTables};
 ghost use Rattle.values.specs.Registers.{goodSerial, goodPassword, goodAccount, goodRow, goodTable, goodZone};
 ghost use Rattle.frames.specs.Frames.{frameOf, bareFrame, onWire};
 ghost use Rattle.frames.specs.Commands.{B0, P1, R1, W1, askClock, askSerial, askAccount, askEnergy, askTable, setClock, setAccount, setTable};
@@ -116,7 +117,7 @@ pub extern "C" fn dirgemist_head_read_zone(zone: u8, out: &mut [u8], size: &mut 
 // R1 for a table.
 #[no_mangle]
 pub extern "C" fn dirgemist_head_read_table(table: u8, out: &mut [u8], size: &mut usize) -> u8
-    ensures { λ r. ⌜ Builds (now (out .entry)) (goodTable 24 table) (onWire (frameOf R1 (askTable table))) (record { number = r; length = now (size .exit) }) (now (out .exit)) ⌝ }
+    ensures { λ r. ⌜ Builds (now (out .entry)) (goodTable editionTables table) (onWire (frameOf R1 (askTable table))) (record { number = r; length = now (size .exit) }) (now (out .exit)) ⌝ }
 {
     let b = commands::read_table(out, TableNo(table));
     *size = b.length;
@@ -172,7 +173,7 @@ pub extern "C" fn dirgemist_head_write_table(
     out: &mut [u8],
     size: &mut usize,
 ) -> u8
-    ensures { λ r. ⌜ Builds (now (out .entry)) (goodTable 24 table && goodRow (now (row .entry))) (onWire (frameOf W1 (setTable table (now (row .entry))))) (record { number = r; length = now (size .exit) }) (now (out .exit)) ⌝ }
+    ensures { λ r. ⌜ Builds (now (out .entry)) (goodTable editionTables table && goodRow (now (row .entry))) (onWire (frameOf W1 (setTable table (now (row .entry))))) (record { number = r; length = now (size .exit) }) (now (out .exit)) ⌝ }
 {
     let b = commands::write_table(out, TableNo(table), row);
     *size = b.length;

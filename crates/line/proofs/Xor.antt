@@ -61,6 +61,11 @@ unfolding bccOf
 bcc-append [] t = refl
 bcc-append (b ∷ s) t = ap (bitXor (seven b)) (bcc-append s t) ∙ sym (xor-assoc (seven b) (bccOf s) (bccOf t))
 
+-- one character more
+pub bcc-last : (s : List ℕ) (c : ℕ) → bccOf (s ++ (c ∷ [])) ≡ bitXor (bccOf s) (seven c)
+unfolding bccOf
+bcc-last s c = bcc-append s (c ∷ []) ∙ ap (bitXor (bccOf s)) (xor-zero-r (seven c))
+
 -- a block followed by its own BCC sums to zero
 pub bcc-own : (s : List ℕ) → bccOf (s ++ (bccOf s ∷ [])) ≡ 0
 unfolding bccOf seven
@@ -75,7 +80,11 @@ unfolding bccOf
 bcc-sent [] = refl
 bcc-sent (b ∷ s) = ap₂ bitXor (seven-sent b ∙ sym (seven-seven b)) (bcc-sent s)
 
--- a sum of whole bytes so far, with the BCC of what is left, is the BCC of the whole
+-- a sum of whole bytes so far, with the BCC of what is left, is the BCC of the whole; before the first byte it is nothing
+pub bcc-start : (s : List ℕ) → bitXor (seven 0) (bccOf s) ≡ bccOf s
+unfolding seven
+bcc-start s = refl
+
 module _ (s : List ℕ) (i sum whole : ℕ) where
   pub bcc-turn : i < length s → bitXor (seven sum) (bccOf (drop i s)) ≡ whole → bitXor (seven (bitXor sum (getD s i 0))) (bccOf (drop (i + 1) s)) ≡ whole
   unfolding bccOf

@@ -13,10 +13,11 @@ use Rattle.clock.specs.Seconds.{realClock}
 use Rattle.clock.specs.declared.Clock.{Clock}
 use Rattle.text.specs.Classes.{sameText, isPrintable}
 use Rattle.line.specs.Checksum.{bccOf}
+use Rattle.line.specs.Quoted.{chars}
 use Rattle.line.specs.Runs.{every}
 use Rattle.text.specs.Decimal.{numberAt}
 use Rattle.text.specs.Layout.{fits, pattern}
-use Rattle.frames.specs.Commands.{bracketed, askClock, askSerial, askAccount, askEnergy}
+use Rattle.frames.specs.Commands.{askClock, askSerial, askAccount, askEnergy}
 use Rattle.values.specs.Registers.{goodAccount, goodRow, goodTable}
 use Rattle.values.specs.Reading.{clockRead, clockIn, someClock, noClock, tableRead, someTable, noTable}
 use Rattle.values.specs.declared.reading.ClockRead.{ClockRead}
@@ -145,8 +146,8 @@ verdict-all P mode h mark sum k =
     (choice.given P (framedShape h)
     (λ f. choice.either P (eqb a 80 && eqb b 49)
     (choice.given P (eqb mode 2)
-    (λ e. choice.either P (sameText (content h) (bracketed [])) (k .enter (eqb-true mode 2 e))
-    (choice.either P (fits (bracketed (35 ∷ 35 ∷ 35 ∷ 35 ∷ 35 ∷ 35 ∷ 35 ∷ 35 ∷ [])) (content h)) (k .password (eqb-true mode 2 e)) (k .refuse 9 content-wrong)))
+    (λ e. choice.either P (sameText (content h) (chars "()")) (k .enter (eqb-true mode 2 e))
+    (choice.either P (fits (chars "(########)") (content h)) (k .password (eqb-true mode 2 e)) (k .refuse 9 content-wrong)))
     no8)
     (choice.either P (eqb a 82 && eqb b 49)
     (choice.either P (eqb mode 3 || eqb mode 4) (asked-all P (content h) (k .read) (k .refuse 9 content-wrong)) no8)

@@ -26,7 +26,7 @@ use Rattle.text.specs.Classes.{between, isDigit, isLetter, isPrintable}
 use Rattle.clock.specs.declared.Clock.{Clock}
 use Rattle.blocks.specs.Parts.{isCharacter}
 use Rattle.reading.proofs.Leading.{or-cases}
-use Rattle.readback.specs.Said.{Command, enter, password, readClock, readSerial, readAccount, readTotal, readZone, readTable, writeClock, writeAccount, writeTable, goodFields, lettersOf, dataOf, spoken}
+use Rattle.commands.specs.Spoken.{Command, enter, password, readClock, readSerial, readAccount, readTotal, readZone, readTable, writeClock, writeAccount, writeTable, goodFields, lettersOf, dataOf, spoken}
 
 printable : (c : ℕ) → 32 ≤ c → c ≤ 126 → isPrintable c ≡ true
 unfolding isPrintable between
@@ -88,7 +88,7 @@ unfolding every
 named-printable letter s l h = rw l (bracketed-printable s h)
 
 energy-printable : (n : ℕ) → n ≤ 4 → every isPrintable (askEnergy n) ≡ true
-unfolding askEnergy every
+unfolding askEnergy bracketed every
 energy-printable n h = and-both (isPrintable 69) _ (printable 69 (omega arith) (omega arith)) (named-printable (48 + n) [] (printable (48 + n) (omega arith) (omega arith)) refl)
 
 row-data-printable : (n : ℕ) (row : List ℕ) → goodRow row ≡ true → every isPrintable (tableText n ++ (59 ∷ row)) ≡ true
@@ -97,20 +97,20 @@ row-data-printable n row h =
     every-append isPrintable (tableText n) (59 ∷ row) (table-printable n) (and-both (isPrintable 59) (every isPrintable row) (printable 59 (omega arith) (omega arith)) (row-printable row h))
 
 -- the data of a command are printable
-pub command-printable : (c : Command) → goodFields c ≡ true → every isPrintable (dataOf c) ≡ true
-unfolding dataOf goodFields enterData passwordData askClock askSerial askAccount askTable setClock setAccount setTable
-command-printable enter h = bracketed-printable [] (unfold every in refl)
-command-printable (password p) h = bracketed-printable p (digits-printable 8 p h)
-command-printable readClock h = named-printable 84 [] (printable 84 (omega arith) (omega arith)) (unfold every in refl)
-command-printable readSerial h = named-printable 76 [] (printable 76 (omega arith) (omega arith)) (unfold every in refl)
-command-printable readAccount h = named-printable 75 [] (printable 75 (omega arith) (omega arith)) (unfold every in refl)
-command-printable readTotal h = energy-printable 0 (omega arith)
-command-printable (readZone n) h = energy-printable n (zone-most n h)
-command-printable (readTable n) h = named-printable 90 (tableText n) (printable 90 (omega arith) (omega arith)) (table-printable n)
-command-printable (writeClock c) h = named-printable 84 (clockText c) (printable 84 (omega arith) (omega arith)) (clock-printable c)
-command-printable (writeAccount a) h = named-printable 75 a (printable 75 (omega arith) (omega arith)) (name-printable a h)
-command-printable (writeTable n row) h =
-    named-printable 90 (tableText n ++ (59 ∷ row)) (printable 90 (omega arith) (omega arith)) (row-data-printable n row (and-right (goodTable 24 n) (goodRow row) h))
+pub command-printable : (tables : ℕ) (c : Command) → goodFields tables c ≡ true → every isPrintable (dataOf c) ≡ true
+unfolding dataOf goodFields bracketed enterData passwordData askClock askSerial askAccount askTable setClock setAccount setTable
+command-printable tables enter h = bracketed-printable [] (unfold every in refl)
+command-printable tables (password p) h = bracketed-printable p (digits-printable 8 p h)
+command-printable tables readClock h = named-printable 84 [] (printable 84 (omega arith) (omega arith)) (unfold every in refl)
+command-printable tables readSerial h = named-printable 76 [] (printable 76 (omega arith) (omega arith)) (unfold every in refl)
+command-printable tables readAccount h = named-printable 75 [] (printable 75 (omega arith) (omega arith)) (unfold every in refl)
+command-printable tables readTotal h = energy-printable 0 (omega arith)
+command-printable tables (readZone n) h = energy-printable n (zone-most n h)
+command-printable tables (readTable n) h = named-printable 90 (tableText n) (printable 90 (omega arith) (omega arith)) (table-printable n)
+command-printable tables (writeClock c) h = named-printable 84 (clockText c) (printable 84 (omega arith) (omega arith)) (clock-printable c)
+command-printable tables (writeAccount a) h = named-printable 75 a (printable 75 (omega arith) (omega arith)) (name-printable a h)
+command-printable tables (writeTable n row) h =
+    named-printable 90 (tableText n ++ (59 ∷ row)) (printable 90 (omega arith) (omega arith)) (row-data-printable n row (and-right (goodTable tables n) (goodRow row) h))
 
 character-of : (c : ℕ) → isPrintable c ≡ true → isCharacter c ≡ true
 unfolding isPrintable isCharacter between
@@ -138,17 +138,17 @@ pub letters-printable : (c : Command) → every isPrintable (lettersOf c) ≡ tr
 unfolding every isPrintable between
 letters-printable = of-letters (λ (l : List ℕ). every isPrintable l ≡ true) refl refl refl
 
-pub command-characters : (c : Command) → goodFields c ≡ true → every isCharacter (spoken c) ≡ true
+pub command-characters : (tables : ℕ) (c : Command) → goodFields tables c ≡ true → every isCharacter (spoken c) ≡ true
 unfolding spoken
-command-characters c h =
-    frame-characters (lettersOf c) (dataOf c) (every-within isPrintable isCharacter character-of (lettersOf c) (letters-printable c)) (every-within isPrintable isCharacter character-of (dataOf c) (command-printable c h))
+command-characters tables c h =
+    frame-characters (lettersOf c) (dataOf c) (every-within isPrintable isCharacter character-of (lettersOf c) (letters-printable c)) (every-within isPrintable isCharacter character-of (dataOf c) (command-printable tables c h))
 
 -- on the wire no byte of it is damaged, and its seven bits are its characters again
 pub command-undamaged : (c : Command) → undamagedAll (onWire (spoken c)) ≡ true
 command-undamaged c = sent-undamaged-all (spoken c)
 
-pub command-comes-back : (c : Command) → goodFields c ≡ true → map seven (onWire (spoken c)) ≡ spoken c
-command-comes-back c h = sent-comes-back-all (spoken c) (command-characters c h)
+pub command-comes-back : (tables : ℕ) (c : Command) → goodFields tables c ≡ true → map seven (onWire (spoken c)) ≡ spoken c
+command-comes-back tables c h = sent-comes-back-all (spoken c) (command-characters tables c h)
 
 -- its BCC fits: from the second character on it sums to nothing
 pub command-bcc : (c : Command) → bccOf (drop 1 (spoken c)) ≡ 0
@@ -162,35 +162,35 @@ pub record Shaped (s letters content : List ℕ) : Type 0 where
   pub named : every isPrintable letters ≡ true
   pub plain : every isPrintable content ≡ true
 
-pub command-shape : (c : Command) → goodFields c ≡ true → Shaped (spoken c) (lettersOf c) (dataOf c)
+pub command-shape : (tables : ℕ) (c : Command) → goodFields tables c ≡ true → Shaped (spoken c) (lettersOf c) (dataOf c)
 unfolding spoken frameOf closed
-command-shape c h = record { whole = refl; two = letters-two c; named = letters-printable c; plain = command-printable c h }
+command-shape tables c h = record { whole = refl; two = letters-two c; named = letters-printable c; plain = command-printable tables c h }
 
 bracketed-long : (s : List ℕ) → length (bracketed s) ≡ length s + 2
 unfolding bracketed
 bracketed-long s = omega (arith, length-append s (41 ∷ []))
 
-pub data-short : (c : Command) → goodFields c ≡ true → length (dataOf c) ≤ 30
+pub data-short : (tables : ℕ) (c : Command) → goodFields tables c ≡ true → length (dataOf c) ≤ 30
 unfolding dataOf goodFields enterData passwordData askClock askSerial askAccount askEnergy askTable setClock setAccount setTable
-data-short enter h = omega (arith, bracketed-long [])
-data-short (password p) h = omega (arith, bracketed-long p, digits-long 8 p h)
-data-short readClock h = omega (arith, bracketed-long [])
-data-short readSerial h = omega (arith, bracketed-long [])
-data-short readAccount h = omega (arith, bracketed-long [])
-data-short readTotal h = omega (arith, bracketed-long [])
-data-short (readZone n) h = omega (arith, bracketed-long [])
-data-short (readTable n) h = omega (arith, bracketed-long (tableText n), table-text-long n)
-data-short (writeClock c) h = omega (arith, bracketed-long (clockText c), clock-text-long c)
-data-short (writeAccount a) h = omega (arith, bracketed-long a, account-long a h)
-data-short (writeTable n row) h =
-    omega (arith, bracketed-long (tableText n ++ (59 ∷ row)), length-append (tableText n) (59 ∷ row), table-text-long n, row-long row (and-right (goodTable 24 n) (goodRow row) h))
+data-short tables enter h = omega (arith, bracketed-long [])
+data-short tables (password p) h = omega (arith, bracketed-long p, digits-long 8 p h)
+data-short tables readClock h = omega (arith, bracketed-long [])
+data-short tables readSerial h = omega (arith, bracketed-long [])
+data-short tables readAccount h = omega (arith, bracketed-long [])
+data-short tables readTotal h = omega (arith, bracketed-long [])
+data-short tables (readZone n) h = omega (arith, bracketed-long [])
+data-short tables (readTable n) h = omega (arith, bracketed-long (tableText n), table-text-long n)
+data-short tables (writeClock c) h = omega (arith, bracketed-long (clockText c), clock-text-long c)
+data-short tables (writeAccount a) h = omega (arith, bracketed-long a, account-long a h)
+data-short tables (writeTable n row) h =
+    omega (arith, bracketed-long (tableText n ++ (59 ∷ row)), length-append (tableText n) (59 ∷ row), table-text-long n, row-long row (and-right (goodTable tables n) (goodRow row) h))
 
 -- no command is longer than 36 characters; a frame may have 64
-pub command-short : (c : Command) → goodFields c ≡ true → length (spoken c) ≤ 36
+pub command-short : (tables : ℕ) (c : Command) → goodFields tables c ≡ true → length (spoken c) ≤ 36
 unfolding spoken frameOf closed
-command-short c h =
+command-short tables c h =
     let body = lettersOf c ++ (2 ∷ dataOf c) in
-    omega (arith, data-short c h, letters-two c, length-append (lettersOf c) (2 ∷ dataOf c), length-append body (3 ∷ []), length-append (body ++ (3 ∷ [])) (bccOf (body ++ (3 ∷ [])) ∷ []))
+    omega (arith, data-short tables c h, letters-two c, length-append (lettersOf c) (2 ∷ dataOf c), length-append body (3 ∷ []), length-append (body ++ (3 ∷ [])) (bccOf (body ++ (3 ∷ [])) ∷ []))
 
 -- B0 comes back too, and so do the sign-on and the confirmation
 pub sign-off-comes-back : map seven (onWire (bareFrame B0)) ≡ bareFrame B0

@@ -4,13 +4,14 @@ use mathlib.Core.List.{List, [], _∷_}
 use Prim.Native.Nat.{ℕ, zero, suc, _+_}
 use lib.Dec.{eqb}
 use lib.ListN.{length, take, drop}
+use Rattle.line.specs.Quoted.{chars}
 use Rattle.text.specs.DataSet.{DataSet}
 use Rattle.reading.specs.Sets.{setRead}
 use Rattle.reading.specs.declared.SetRead.{SetRead}
 
 -- ! CR LF
 unfoldable pub lastLine : List ℕ
-lastLine = 33 ∷ 13 ∷ 10 ∷ []
+lastLine = chars "!\r\n"
 
 -- the set that was read at a place
 unfoldable pub setOf : List ℕ → ℕ → SetRead → DataSet

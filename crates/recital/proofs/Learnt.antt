@@ -1,6 +1,7 @@
 -- What is asked for is what is read: each reply's block is one that reads back. Assumes nothing.
 use mathlib.Core.Path.{_≡_, refl}
 use mathlib.Core.Bool.{true}
+use Rattle.values.specs.Edition.{editionTables}
 use Rattle.frames.specs.Frames.{blockOf}
 use Rattle.state.specs.declared.Meter.{Meter}
 use Rattle.state.specs.WellFormed.{wellFormed}
@@ -9,7 +10,8 @@ use Rattle.replies.specs.declared.Ask.the-variants as ask
 use Rattle.replies.specs.Answers.{askedData}
 use Rattle.replies.specs.Block.{blockData}
 use Rattle.replies.specs.Shown as shown
-use Rattle.dialogue.specs.Messages.{Message, obeyed, outcomeOf}
+use Rattle.commands.specs.Messages.{Message}
+use Rattle.dialogue.specs.Messages.{obeyed, outcomeOf}
 use Rattle.promises.specs.Writes.{answerable}
 use Rattle.recital.specs.Recital.{answerSays}
 use Rattle.recital.specs.Learnt.{Learns, Answers}
@@ -23,7 +25,7 @@ module _ (m : Meter) (f : wellFormed m ≡ true) where
   unfolding outcomeOf obeyed answerSays answerable shown.energy
   answers-learnt =
       record {
-        block = λ y h e. record { content = blockData 24 (m .registers); reply = rw e; reads = block-reads-back m f };
+        block = λ y h e. record { content = blockData editionTables (m .registers); reply = rw e; reads = block-reads-back m f };
         clock = learns _ ask.Clock refl refl;
         own-serial = learns _ ask.Serial refl refl;
         own-account = learns _ ask.Account refl refl;

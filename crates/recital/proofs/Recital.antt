@@ -1,15 +1,16 @@
 -- Every block of a well-formed meter, its data block and its answers to R1, reads back to the meter's own registers. Assumes nothing.
 use mathlib.Core.Path.{_≡_, refl, sym, ap, subst, _∙_}
 use mathlib.Core.Bool.{Bool, true}
-use mathlib.Core.List.{List, [], _∷_, map}
-use Prim.Native.Nat.{ℕ}
+use mathlib.Core.List.{List, [], _∷_, _++_, map, map-append}
+use Prim.Native.Nat.{ℕ, zero, suc, _≤_}
 use native.Mathlib.Omega.{arith}
-use borrow.Author.Tests.{leb-true}
-use lib.Dec.{leb}
+use borrow.Author.Tests.{leb-true, le-leb}
+use lib.Dec.{leb, lit≤}
 use lib.ListN.{length}
 use Rattle.line.specs.Runs.{every}
-use Rattle.line.proofs.Runs.{and-left, and-right}
+use Rattle.line.proofs.Runs.{and-left, and-right, every-append}
 use Rattle.text.specs.Classes.{between}
+use Rattle.values.specs.Edition.{editionTables}
 use Rattle.values.specs.Registers.{goodTable}
 use Rattle.frames.specs.Frames.{blockOf}
 use Rattle.state.specs.declared.Registers.{Registers}
@@ -57,27 +58,34 @@ reads-back c xs ds at shows read h =
     }
 
 -- the rows of tables that are there
-rows-read : (g : Registers) → registersGood g ≡ true → (ns : List ℕ) → every (goodTable 24) ns ≡ true
+rows-read : (g : Registers) → registersGood g ≡ true → (ns : List ℕ) → every (goodTable editionTables) ns ≡ true
     → Recites (map (λ n. tableSet n (rowOf (g .tables) n)) ns) (rows (g .tables) ns)
 unfolding every rows
 rows-read g good [] h = and-none
 rows-read g good (n ∷ ns) h =
     and-then (row n (rowOf (g .tables) n)) (tableSet n (rowOf (g .tables) n)) (rows (g .tables) ns) (map (λ n. tableSet n (rowOf (g .tables) n)) ns)
-    (row-reads g good n (and-left (goodTable 24 n) (every (goodTable 24) ns) h)) (rows-read g good ns (and-right (goodTable 24 n) (every (goodTable 24) ns) h))
+    (row-reads g good n (and-left (goodTable editionTables n) (every (goodTable editionTables) ns) h)) (rows-read g good ns (and-right (goodTable editionTables n) (every (goodTable editionTables) ns) h))
 
-tables-are : (tables : List ℕ) → tableSets tables 24 ≡ map (λ n. tableSet n (rowOf tables n)) tableNumbers
+tables-are : (tables : List ℕ) (n : ℕ) → tableSets tables n ≡ map (λ n. tableSet n (rowOf tables n)) (tableNumbers n)
 unfolding tableSets tableNumbers
-tables-are tables = refl
+tables-are tables zero = refl
+tables-are tables (suc n) =
+    ap (λ (l : List DataSet). l ++ (tableSet (suc n) (rowOf tables (suc n)) ∷ [])) (tables-are tables n)
+    ∙ sym (map-append (λ n. tableSet n (rowOf tables n)) (tableNumbers n) (suc n ∷ []))
 
-numbers-good : every (goodTable 24) tableNumbers ≡ true
-unfolding every goodTable between tableNumbers
-numbers-good = refl
+-- of so many tables, the first n are there
+numbers-good : (tables n : ℕ) → n ≤ tables → every (goodTable tables) (tableNumbers n) ≡ true
+unfolding every tableNumbers
+numbers-good tables zero h = refl
+numbers-good tables (suc n) h =
+    every-append (goodTable tables) (tableNumbers n) (suc n ∷ []) (numbers-good tables n (omega arith))
+    (unfold goodTable between in (rw (le-leb 1 (suc n) (omega arith), le-leb (suc n) tables h)))
 
-block-recites : (g : Registers) → registersGood g ≡ true → Recites (blockSets 24 g) (blockSays g)
+block-recites : (g : Registers) → registersGood g ≡ true → Recites (blockSets editionTables g) (blockSays g)
 unfolding blockSets factSets energySets blockSays shown.energy
 block-recites g good =
     let small = counters-small g good in
-    let tables = rw (← tables-are (g .tables)) at (rows-read g good tableNumbers numbers-good) in
+    let tables = rw (← tables-are (g .tables) editionTables) at (rows-read g good (tableNumbers editionTables) (numbers-good editionTables editionTables (lit≤ tt))) in
     and-then _ _ _ _ (serial-reads g good)
     (and-then _ _ _ _ (date-reads g good)
     (and-then _ _ _ _ (time-reads g good)
@@ -100,12 +108,12 @@ answer-recites g good (ask.Table t) h = and-then _ _ _ _ (row-reads g good (t .0
 
 module _ (m : Meter) (f : wellFormed m ≡ true) where
   -- the data block: all 33 data sets in order
-  pub block-reads-back : ReadsBack (blockData 24 (m .registers)) (blockSays (m .registers))
+  pub block-reads-back : ReadsBack (blockData editionTables (m .registers)) (blockSays (m .registers))
   unfolding blockData lastLine
   block-reads-back =
       let g = m .registers in
       let good = formed m f .registers in
-      reads-back (blockData 24 g) (blockSays g) (blockSets 24 g) (length (linesOf (blockSets 24 g))) (block-shown 24 g good) (sets-read-back (blockSets 24 g) (block-good 24 g good))
+      reads-back (blockData editionTables g) (blockSays g) (blockSets editionTables g) (length (linesOf (blockSets editionTables g))) (block-shown editionTables g good) (sets-read-back (blockSets editionTables g) (block-good editionTables g good))
       (block-recites g good)
 
   -- and every answer to R1

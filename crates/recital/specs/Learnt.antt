@@ -4,14 +4,17 @@ use mathlib.Core.Bool.{true, false}
 use mathlib.Core.List.{List, [], _∷_}
 use Prim.Native.Nat.{ℕ}
 use lib.Dec.{eqb}
+use Rattle.line.specs.Quoted.{char}
+use Rattle.values.specs.Edition.{editionTables}
 use Rattle.values.specs.Registers.{goodTable, goodZone}
 use Rattle.frames.specs.Frames.{blockOf}
 use Rattle.state.specs.declared.Meter.{Meter}
 use Rattle.replies.specs.Shown.{total, rowOf}
 use Rattle.replies.specs.Shown as shown
 use Rattle.commands.specs.Building.{goodChoice}
-use Rattle.readback.specs.Said.{readClock, readSerial, readAccount, readTotal, readZone, readTable}
-use Rattle.dialogue.specs.Messages.{Message, confirm, command, outcomeOf}
+use Rattle.commands.specs.Spoken.{readClock, readSerial, readAccount, readTotal, readZone, readTable}
+use Rattle.commands.specs.Messages.{Message, confirm, command}
+use Rattle.dialogue.specs.Messages.{outcomeOf}
 use Rattle.recital.specs.Recital.{Register, serial, date, time, account, energy, row, blockSays, ReadsBack}
 
 -- the reply to a message is a block that reads back as these registers
@@ -22,10 +25,10 @@ pub record Learns (m : Meter) (x : Message) (xs : List Register) : Type 0 where
 
 -- a confirmation that asks for no programming is answered with the whole block, and each R1 with what it asks for
 pub record Answers (m : Meter) : Type 0 where
-  pub block : (y : ℕ) → goodChoice y ≡ true → eqb y 49 ≡ false → Learns m (confirm y) (blockSays (m .registers))
+  pub block : (y : ℕ) → goodChoice y ≡ true → eqb y (char "1") ≡ false → Learns m (confirm y) (blockSays (m .registers))
   pub clock : Learns m (command readClock) (time (m .registers .clock .time) ∷ date (m .registers .clock .date) ∷ [])
   pub own-serial : Learns m (command readSerial) (serial (m .registers .serial) ∷ [])
   pub own-account : Learns m (command readAccount) (account (m .registers .account) ∷ [])
   pub whole : Learns m (command readTotal) (energy 0 (total (m .registers .counters)) ∷ [])
   pub zone : (n : ℕ) → goodZone n ≡ true → Learns m (command (readZone n)) (energy n (shown.energy (m .registers .counters) n) ∷ [])
-  pub table : (n : ℕ) → goodTable 24 n ≡ true → Learns m (command (readTable n)) (row n (rowOf (m .registers .tables) n) ∷ [])
+  pub table : (n : ℕ) → goodTable editionTables n ≡ true → Learns m (command (readTable n)) (row n (rowOf (m .registers .tables) n) ∷ [])

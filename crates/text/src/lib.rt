@@ -110,10 +110,3 @@ pub fn has_form(p: &[u8], s: &[u8]) -> bool
     }
     ok
 }
-
-// What a digit stands for; a character below '0' stands for nothing.
-fn digit(c: u8) -> u8
-    ensures { λ r. ⌜ r ≡ c - 48 ⌝ }
-{
-    if c < 48 { 0 } else { c - 48 }
-}

@@ -12,6 +12,7 @@ use Rattle.text.specs.Layout.{Piece, pattern, fits, numbersFrom, agrees}
 use Rattle.text.proofs.Matching.{matched-length}
 use Rattle.text.proofs.Forms.{form-within}
 use Rattle.values.specs.Texts.{threeTwos, clockForm, counterForm, tableForm}
+use Rattle.values.specs.Edition.{counterDigits, counterDecimals}
 use Rattle.values.specs.Numbers.{ThreeAt, ClockAt, CounterAt, TableAt}
 
 -- a text of a form is as long as its pattern
@@ -40,11 +41,11 @@ clock-fields s h =
       time = record { room = omega arith; first = t .0; second = t .1 .0; third = t .1 .1 .0 };
     }
 
-pub counter-fields : (s : List ℕ) → fits (pattern (counterForm 9 3)) s ≡ true → CounterAt s
+pub counter-fields : (s : List ℕ) → fits (pattern (counterForm counterDigits counterDecimals)) s ≡ true → CounterAt s
 unfolding numbersFrom pattern
 counter-fields s h =
-    let f = form-within (counterForm 9 3) s h in
-    record { long = fits-long (pattern (counterForm 9 3)) s h; whole = f .0; decimals = f .1 .0 }
+    let f = form-within (counterForm counterDigits counterDecimals) s h in
+    record { long = fits-long (pattern (counterForm counterDigits counterDecimals)) s h; whole = f .0; decimals = f .1 .0 }
 
 pub table-fields : (s : List ℕ) → fits (pattern tableForm) s ≡ true → TableAt s
 unfolding numbersFrom pattern

@@ -14,6 +14,7 @@ use Rattle.text.specs.Classes.{between, isDigit}
 use Rattle.text.specs.Decimal.{decimal}
 use Rattle.text.specs.Layout.{layoutText}
 use Rattle.clock.specs.declared.Clock.{Clock}
+use Rattle.values.specs.Edition.{rowLength}
 use Rattle.values.specs.Registers.{goodDigits, isAccountCharacter, goodAccount, goodRow, goodZone}
 use Rattle.values.specs.Texts.{serialText, tableText, clockText}
 
@@ -25,9 +26,9 @@ pub account-long : (s : List ℕ) → goodAccount s ≡ true → length s ≡ 10
 unfolding goodAccount
 account-long s h = eqb-true (length s) 10 (and-left (eqb (length s) 10) (every isAccountCharacter s) h)
 
-pub row-long : (s : List ℕ) → goodRow s ≡ true → length s ≡ 24
+pub row-long : (s : List ℕ) → goodRow s ≡ true → length s ≡ rowLength
 unfolding goodRow
-row-long s h = eqb-true (length s) 24 (and-left (eqb (length s) 24) (every (between 49 52) s) h)
+row-long s h = eqb-true (length s) rowLength (and-left (eqb (length s) rowLength) (every (between 49 52) s) h)
 
 pub zone-most : (n : ℕ) → goodZone n ≡ true → n ≤ 4
 unfolding goodZone between

@@ -16,6 +16,7 @@ use Rattle.text.specs.Decimal.{decimal, valueOf, numberAt}
 use Rattle.text.specs.Layout.{layoutText, numbersFrom, pattern, fits, numbersFit, plain}
 use Rattle.text.proofs.Decimal.{decimal-value, value-lt, length-decimal}
 use Rattle.text.proofs.Forms.{text-fits, form-is-text}
+use Rattle.values.specs.Edition.{rowLength}
 use Rattle.values.specs.Registers.{goodDigits, goodSerial, goodAccount, goodRow}
 use Rattle.values.specs.Texts.{serialText}
 use Rattle.values.specs.Serials.{serialForm, noSerial, serialRead, accountRead, rowRead}
@@ -140,6 +141,6 @@ pub account-read-long : (s : List ℕ) → length (accountRead s .account) ≡ 1
 unfolding accountRead
 account-read-long s = of-either (λ (r : AccountRead). r .account) (goodAccount s) _ _ 10 (account-long s) refl
 
-pub row-read-long : (s : List ℕ) → length (rowRead s .row) ≡ 24
+pub row-read-long : (s : List ℕ) → length (rowRead s .row) ≡ rowLength
 unfolding rowRead
-row-read-long s = of-either (λ (r : RowRead). r .row) (goodRow s) _ _ 24 (row-long s) refl
+row-read-long s = of-either (λ (r : RowRead). r .row) (goodRow s) _ _ rowLength (row-long s) refl

@@ -1,10 +1,11 @@
 -- Where numbers stand in a text, and how large each can be.
 use mathlib.Core.Path.{_≡_}
 use mathlib.Core.List.{List}
-use Prim.Native.Nat.{ℕ, _+_, _≤_, _<_}
+use Prim.Native.Nat.{ℕ, _+_, _-_, _^_, _≤_, _<_}
 use lib.ListN.{length}
 use Rattle.text.specs.Decimal.{numberAt}
 use Rattle.values.specs.declared.number.Three.{Three}
+use Rattle.values.specs.Edition.{counterDigits, counterDecimals}
 
 -- there are three from a place on, each below 100
 pub record ThreeAt (s : List ℕ) (at : ℕ) : Type 0 where
@@ -27,8 +28,8 @@ pub record ClockAt (s : List ℕ) : Type 0 where
 -- as in eeeeee.eee*kWh
 pub record CounterAt (s : List ℕ) : Type 0 where
   pub long : length s ≡ 14
-  pub whole : numberAt s 0 6 < 1000000
-  pub decimals : numberAt s 7 3 < 1000
+  pub whole : numberAt s 0 (counterDigits - counterDecimals) < 10 ^ (counterDigits - counterDecimals)
+  pub decimals : numberAt s (counterDigits - counterDecimals + 1) counterDecimals < 10 ^ counterDecimals
 
 -- as in xx
 pub record TableAt (s : List ℕ) : Type 0 where

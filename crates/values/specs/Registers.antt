@@ -28,7 +28,7 @@ isAccountCharacter c = (isLetter c || isDigit c) || (eqb c (char " ") || eqb c (
 unfoldable pub goodAccount : List ℕ → Bool
 goodAccount s = eqb (length s) 10 && every isAccountCharacter s
 
--- a table's row: 24 characters '1' to '4'
+-- a table's row: so many characters '1' to '4'
 unfoldable pub goodRow : List ℕ → Bool
 goodRow s = eqb (length s) rowLength && every (between (char "1") (char "4")) s
 

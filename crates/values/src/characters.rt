@@ -17,7 +17,7 @@ pub struct AccountRead {
 
 pub struct RowRead {
     pub ok: bool,
-    pub row: [u8; crate::ROW],
+    pub row: [u8; crate::ROW_LENGTH],
 }
 
 // The ten digits around the space.
@@ -74,11 +74,11 @@ pub fn read_account(s: &[u8]) -> AccountRead
     }
 }
 
-fn row_of(s: &[u8]) -> [u8; crate::ROW]
+fn row_of(s: &[u8]) -> [u8; crate::ROW_LENGTH]
     requires { ⌜ length (now s) ≡ rowLength ⌝ }
     ensures { λ r. ⌜ r ≡ now (s .entry) ⌝ }
 {
-    let mut copy = [0u8; crate::ROW];
+    let mut copy = [0u8; crate::ROW_LENGTH];
     text::put(&mut copy, 0, s);
     copy
 }
@@ -93,6 +93,6 @@ pub fn read_row(s: &[u8]) -> RowRead
     }
     RowRead {
         ok: false,
-        row: [0u8; crate::ROW],
+        row: [0u8; crate::ROW_LENGTH],
     }
 }

@@ -20,7 +20,7 @@ pub struct ZoneNo(pub u8);
 pub const TABLES: u8 = 24;
 
 // How many characters a table's row has, one for each hour.
-pub const ROW: usize = 24;
+pub const ROW_LENGTH: usize = 24;
 
 // Whether a text is so many digits.
 pub fn is_digits(s: &[u8], n: usize) -> bool
@@ -51,7 +51,7 @@ pub fn is_account(s: &[u8]) -> bool
 pub fn is_row(s: &[u8]) -> bool
     ensures { λ r. ⌜ r ≡ goodRow (now (s .entry)) ⌝ }
 {
-    (s.len() == ROW) & text::all_between(s, b'1', b'4')
+    (s.len() == ROW_LENGTH) & text::all_between(s, b'1', b'4')
 }
 
 pub fn is_table(t: TableNo, tables: u8) -> bool

@@ -1,5 +1,5 @@
 -- `blocks::look` meets its contract: the flag and the sum, each with what is left, say it of the whole. Assumes nothing.
-use mathlib.Core.Path.{_≡_, refl, ap₂}
+use mathlib.Core.Path.{_≡_, refl, ap₂, _∙_}
 use mathlib.Core.Bool.{Bool, true, false, not, _&&_}
 use Prim.Native.Nat.{ℕ, _≤_, _-_, max}
 use native.Mathlib.Omega.{arith}
@@ -12,7 +12,7 @@ use Rattle.line.specs.Characters.{seven}
 use Rattle.line.specs.Checksum.{bccOf}
 use Rattle.line.specs.Runs.{every}
 use Rattle.line.proofs.Runs.{every-turn, every-end}
-use Rattle.line.proofs.Xor.{bcc-turn, bcc-end}
+use Rattle.line.proofs.Xor.{bcc-start, bcc-turn, bcc-end}
 use Rattle.blocks.specs.Parts.{isContent}
 use Rattle.blocks.proofs.look.Statement.{statement}
 use Rattle.blocks.proofs.look.Tie as tie
@@ -40,8 +40,7 @@ abbrev μ-loop : tie.MeasureT-loop
 μ-loop s most₀ clear₀ sum₀ i₀ most clear sum i = length s - i
 
 loop-holds : tie.Need-loop-holds Inv-loop μ-loop
-unfolding bccOf seven
-loop-holds c = (omega arith, refl, refl)
+loop-holds c = (omega arith, refl, bcc-start _)
 
 loop-again : tie.Need-loop-again Inv-loop μ-loop
 unfolding isContent
@@ -58,13 +57,17 @@ loop-again c =
     )
 
 returns : tie.Need-returns Inv-loop μ-loop
-unfolding seven
 returns c =
-    let s = c .before .before .before .args .s .now in
-    let at-loop = c .before .loop in
+    let after = c .before .before in
+    let s = after .before .before .args .s .now in
+    let at-loop = after .loop in
+    let left = c .before .loop-test .left in
     ap₂ (λ (plain : Bool) (sum : ℕ). record { plain = plain; sum = sum })
-    (every-end isContent s (at-loop .i) (leb (at-loop .most) 127 && at-loop .clear) _ (c .loop-test .left) (at-loop .inv .1))
-    (bcc-end s (at-loop .i) (at-loop .sum) _ (c .loop-test .left) (at-loop .inv .2))
+    (every-end isContent s (at-loop .i) (leb (at-loop .most) 127 && at-loop .clear) _ left (at-loop .inv .1))
+    (c .character .ensures ∙ bcc-end s (at-loop .i) (at-loop .sum) _ left (at-loop .inv .2))
 
 pub look-spec : {M : Type 1} → statement M
-look-spec = tie.close (tie.spec Inv-loop μ-loop loop-holds (λ c. omega arith) (λ c κs. search needs) (λ c. omega arith) (λ c. omega arith) (λ c. omega arith) (λ c. omega arith) loop-again returns)
+look-spec =
+    tie.close
+    (tie.spec Inv-loop μ-loop loop-holds (λ c. omega arith) (λ c κs. search needs) (λ c. omega arith) (λ c. omega arith) (λ c. omega arith) (λ c. omega arith) loop-again
+    (λ c κs. search needs) returns)

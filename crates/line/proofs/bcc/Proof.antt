@@ -8,7 +8,7 @@ use lib.ListN.{length, drop, getD, drop-of-length-le}
 use lib.Bits.{bitXor, xor-zero-r}
 use Rattle.line.specs.Characters.{seven}
 use Rattle.line.specs.Checksum.{bccOf}
-use Rattle.line.proofs.Xor.{bcc-turn, bcc-end}
+use Rattle.line.proofs.Xor.{bcc-start, bcc-turn, bcc-end}
 use Rattle.line.proofs.bcc.Statement.{statement}
 use Rattle.line.proofs.bcc.Tie as tie
 
@@ -19,8 +19,7 @@ abbrev μ-loop : tie.MeasureT-loop
 μ-loop s sum₀ i₀ sum i = length s - i
 
 loop-holds : tie.Need-loop-holds Inv-loop μ-loop
-unfolding seven
-loop-holds c = (omega arith, refl)
+loop-holds c = (omega arith, bcc-start _)
 
 loop-again : tie.Need-loop-again Inv-loop μ-loop
 loop-again c =

@@ -23,19 +23,19 @@ pub data Command : Type 0 where
   writeAccount : List ℕ → Command
   writeTable : ℕ → List ℕ → Command
 
--- the fields lie within their rules
-unfoldable pub goodFields : Command → Bool
-goodFields (password p) = goodPassword p
-goodFields (readZone n) = goodZone n
-goodFields (readTable n) = goodTable 24 n
-goodFields (writeClock c) = realClock c
-goodFields (writeAccount a) = goodAccount a
-goodFields (writeTable n row) = goodTable 24 n && goodRow row
-goodFields enter = true
-goodFields readClock = true
-goodFields readSerial = true
-goodFields readAccount = true
-goodFields readTotal = true
+-- the fields lie within their rules, for a meter of so many tables
+unfoldable pub goodFields : ℕ → Command → Bool
+goodFields tables (password p) = goodPassword p
+goodFields tables (readZone n) = goodZone n
+goodFields tables (readTable n) = goodTable tables n
+goodFields tables (writeClock c) = realClock c
+goodFields tables (writeAccount a) = goodAccount a
+goodFields tables (writeTable n row) = goodTable tables n && goodRow row
+goodFields tables enter = true
+goodFields tables readClock = true
+goodFields tables readSerial = true
+goodFields tables readAccount = true
+goodFields tables readTotal = true
 
 unfoldable pub lettersOf : Command → List ℕ
 lettersOf enter = P1

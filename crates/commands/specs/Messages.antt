@@ -1,0 +1,34 @@
+-- Document 01, "The head": everything that the head says.
+use mathlib.Core.Bool.{Bool, true}
+use mathlib.Core.List.{List}
+use Prim.Native.Nat.{ℕ}
+use Rattle.values.specs.Registers.{goodSerial}
+use Rattle.frames.specs.Frames.{bareFrame}
+use Rattle.frames.specs.Commands.{B0}
+use Rattle.frames.specs.Session.{signOn, signOnTo, confirmation}
+use Rattle.commands.specs.Building.{goodChoice}
+use Rattle.commands.specs.Spoken.{Command, goodFields, spoken}
+
+-- the sign-on to any meter or to one, the confirmation, a command with data, B0
+pub data Message : Type 0 where
+  call : Message
+  callTo : List ℕ → Message
+  confirm : ℕ → Message
+  command : Command → Message
+  leave : Message
+
+-- its characters
+unfoldable pub textOf : Message → List ℕ
+textOf call = signOn
+textOf (callTo serial) = signOnTo serial
+textOf (confirm y) = confirmation y
+textOf (command c) = spoken c
+textOf leave = bareFrame B0
+
+-- the head builds it: its fields lie within their rules, for a meter of so many tables
+unfoldable pub goodMessage : ℕ → Message → Bool
+goodMessage tables call = true
+goodMessage tables (callTo serial) = goodSerial serial
+goodMessage tables (confirm y) = goodChoice y
+goodMessage tables (command c) = goodFields tables c
+goodMessage tables leave = true
