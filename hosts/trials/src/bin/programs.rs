@@ -1,0 +1,457 @@
+//! The trial of the programs themselves: each is started, given a text on its standard input, and
+//! what it writes is compared with what the model says, byte by byte; so is its exit status.
+//!
+//!     programs
+//!
+//! It is run in the repository's root, with the programs built.
+
+use model::head;
+use model::post::{self, Row, Table, HOURS, LAST, LINE, LONGEST, TABLES};
+use std::collections::BTreeSet;
+use std::io::{Read, Write};
+use std::process::{Child, Command, ExitCode, Stdio};
+use std::sync::atomic::{AtomicUsize, Ordering};
+use std::sync::Mutex;
+use std::thread;
+
+/// Programs that run at once: more than there are processors, since each waits for its start.
+const AT_ONCE: usize = 4;
+
+/// The fewest texts that count as a trial.
+const TEXTS: usize = 3_000;
+
+/// The longest reply that the readout takes.
+const REPLY: usize = 4_096;
+
+/// A program, what it is given, in pieces of what size, and what it has to say.
+struct Case {
+    program: &'static str,
+    input: Vec<u8>,
+    pieces: usize,
+    said: Vec<u8>,
+    status: i32,
+    /// What this case is there to reach.
+    reaches: String,
+}
+
+/// A number and a number, as a program shows them.
+fn pair(number: impl ToString, other: usize) -> Vec<u8> {
+    format!("{} {other}\n", number.to_string()).into_bytes()
+}
+
+/// What the exporter has to write.
+fn exported(text: &[u8]) -> (Vec<u8>, i32) {
+    match post::read(text) {
+        Some(tables) => (tables.iter().flat_map(post::frame_of).collect(), 0),
+        None => (pair(post::NOT_A_POST, post::place(text)), 1),
+    }
+}
+
+/// What the readout has to write, and the number of its answer.
+fn read_out(reply: &[u8]) -> (Vec<u8>, u8) {
+    let mut plain = vec![0; REPLY];
+    let (number, length) = head::strip(reply, &mut plain);
+    if number != head::answer::DONE {
+        return (pair(number, 0), number);
+    }
+    let block = &plain[..length];
+    let part = match head::part(block) {
+        Ok(part) => part,
+        Err(number) => return (pair(number, 0), number),
+    };
+    let sets = &block[part];
+    let mut lines = Vec::new();
+    let mut at = 0;
+    loop {
+        let step = head::next(sets, at);
+        match step.answer {
+            head::answer::END => return (lines, head::answer::DONE),
+            head::answer::DONE => {
+                let open = at + step.address_length;
+                lines.extend(&sets[at..open]);
+                lines.push(b' ');
+                lines.extend(&sets[open + 1..open + 1 + step.value_length]);
+                lines.push(b'\n');
+                at = step.next;
+            }
+            number => {
+                lines.extend(pair(number, step.place));
+                return (lines, number);
+            }
+        }
+    }
+}
+
+/// What the delivery to a blank meter has to write.
+fn delivered(text: &[u8]) -> (Vec<u8>, i32) {
+    let mut rows = [[b'1'; HOURS]; TABLES as usize];
+    let (mut said, status) = match post::read(text) {
+        Some(tables) => {
+            for table in &tables {
+                rows[usize::from(table.number) - 1] = table.row;
+            }
+            (pair(post::DONE, tables.len()), 0)
+        }
+        None => (pair(post::NOT_A_POST, post::place(text)), 1),
+    };
+    for row in rows {
+        said.extend(row);
+        said.push(b'\n');
+    }
+    (said, status)
+}
+
+/// The exporter on a text, all at once.
+fn exporter(text: &[u8]) -> Case {
+    exporter_in(text, usize::MAX)
+}
+
+/// The exporter on a text that comes in pieces.
+fn exporter_in(text: &[u8], pieces: usize) -> Case {
+    let (said, status) = exported(text);
+    let reaches = match post::read(text) {
+        Some(tables) => format!("exporter: {} lines", tables.len()),
+        None => format!("exporter: place {}", post::place(text)),
+    };
+    Case {
+        program: "exporter",
+        input: text.to_vec(),
+        pieces,
+        said,
+        status,
+        reaches,
+    }
+}
+
+fn readout(reply: &[u8]) -> Case {
+    let (said, number) = read_out(reply);
+    Case {
+        program: "readout",
+        input: reply.to_vec(),
+        pieces: usize::MAX,
+        said,
+        status: i32::from(number != head::answer::DONE),
+        reaches: format!("readout: {number}"),
+    }
+}
+
+fn delivering(text: &[u8]) -> Case {
+    let (said, status) = delivered(text);
+    Case {
+        program: "delivering",
+        input: text.to_vec(),
+        pieces: usize::MAX,
+        said,
+        status,
+        reaches: format!("delivering: {}", if status == 0 { 1 } else { 20 }),
+    }
+}
+
+/// A table whose row is its own.
+fn table(number: u8) -> Table {
+    let row: Row = std::array::from_fn(|hour| b'1' + (hour as u8 * 7 + number) / 3 % 4);
+    Table { number, row }
+}
+
+fn post_of(numbers: impl IntoIterator<Item = u8>) -> Vec<u8> {
+    let tables: Vec<Table> = numbers.into_iter().map(table).collect();
+    post::text_of(&tables)
+}
+
+/// Texts for the exporter.
+fn for_the_exporter(cases: &mut Vec<Case>) {
+    let longest = post_of(1..=TABLES);
+    assert_eq!(longest.len(), LONGEST);
+    // Every length up to a line more than the longest post: every place where a text ends.
+    let more = [&longest[..], &longest[..LINE]].concat();
+    cases.extend((0..=more.len()).map(|length| exporter(&more[..length])));
+    // Every place that a wrong character gives.
+    for place in 0..LONGEST {
+        let mut wrong = longest.clone();
+        wrong[place] = b'x';
+        cases.push(exporter(&wrong));
+    }
+    // Every table alone, every two that follow each other, two that do not rise.
+    cases.extend((1..=TABLES).map(|number| exporter(&post_of([number]))));
+    cases.extend((1..TABLES).map(|number| exporter(&post_of([number, number + 1]))));
+    cases.extend((1..TABLES).map(|number| exporter(&post_of([number + 1, number]))));
+    cases.push(exporter(&post::text_of(&[Table {
+        number: 1,
+        row: [b'1'; HOURS],
+    }])));
+    cases.push(exporter(LAST));
+    // In small pieces, and longer than any post.
+    cases.extend([1, 7, 35, 36].map(|pieces| exporter_in(&longest, pieces)));
+    let long: Vec<u8> = longest.iter().copied().cycle().take(20_000).collect();
+    cases.extend([7, 4_095, 4_096, 4_097].map(|pieces| Case {
+        reaches: "exporter: a long input in pieces".to_string(),
+        ..exporter_in(&long, pieces)
+    }));
+    let longer: Vec<u8> = long.iter().copied().cycle().take(10_000_000).collect();
+    cases.push(Case {
+        reaches: "exporter: 10,000,000 bytes".to_string(),
+        ..exporter(&longer)
+    });
+}
+
+/// A reply with these data in its block.
+fn reply_of(data: &[u8]) -> Vec<u8> {
+    head::on_the_wire(&head::block(data))
+}
+
+/// Replies for the readout.
+fn for_the_readout(cases: &mut Vec<Case>) {
+    let sets = |count: usize| -> Vec<u8> {
+        (0..count)
+            .flat_map(|n| head::line(&format!("15.8.{n}"), &format!("{n:06}.000*kWh")))
+            .collect()
+    };
+    let data = [&sets(33)[..], LAST].concat();
+    let whole = reply_of(&data);
+    cases.push(readout(&whole));
+    cases.push(readout(&[]));
+    cases.extend((0..=40).map(|count| readout(&reply_of(&sets(count)))));
+    // Cut anywhere, a bit turned anywhere, a character changed with its BCC.
+    cases.extend(
+        (0..whole.len())
+            .step_by(2)
+            .map(|length| readout(&whole[..length])),
+    );
+    for place in 0..whole.len() {
+        let mut damaged = whole.clone();
+        damaged[place] ^= 0x10;
+        if place % 4 == 0 {
+            cases.push(readout(&damaged));
+        }
+        if place % 4 == 1 {
+            damaged[place] = head::with_parity(damaged[place] & 0x7F);
+            cases.push(readout(&damaged));
+        }
+    }
+    for place in 0..data.len() {
+        let mut malformed = data.clone();
+        malformed[place] = b'/';
+        if place % 2 == 0 {
+            cases.push(readout(&reply_of(&malformed)));
+        }
+    }
+    // As long as a reply may be, and longer; values of 32 characters and more.
+    for length in [REPLY - 1, REPLY, REPLY + 1, 2 * REPLY] {
+        let filling: Vec<u8> = b"A(1)\r\n"
+            .iter()
+            .copied()
+            .cycle()
+            .take(length - 3)
+            .collect();
+        cases.push(readout(&reply_of(&filling)));
+    }
+    for length in 30..=34 {
+        let value = "7".repeat(length);
+        cases.push(readout(&reply_of(&head::line("0.0.0", &value))));
+        let address = "A".repeat(length / 2);
+        cases.push(readout(&reply_of(&head::line(&address, ""))));
+    }
+}
+
+/// Texts for the delivery.
+fn for_the_delivery(cases: &mut Vec<Case>) {
+    cases.extend((1..=TABLES).map(|number| delivering(&post_of([number]))));
+    cases.extend(
+        (2..=TABLES)
+            .step_by(5)
+            .map(|last| delivering(&post_of(1..=last))),
+    );
+    cases.push(delivering(&post_of(1..=TABLES)));
+    let two = post_of([4, 6]);
+    cases.extend(
+        (0..two.len())
+            .step_by(8)
+            .map(|length| delivering(&two[..length])),
+    );
+}
+
+/// Gives a program its input in pieces, and takes what it writes. Whoever stops reading early breaks
+/// the pipe, which is found out.
+fn ran(child: &mut Child, case: &Case) -> Result<Vec<u8>, String> {
+    let mut input = child.stdin.take().expect("a pipe");
+    let mut output = child.stdout.take().expect("a pipe");
+    thread::scope(|scope| {
+        let giving = scope.spawn(move || {
+            for piece in case.input.chunks(case.pieces.min(case.input.len()).max(1)) {
+                input.write_all(piece)?;
+                input.flush()?;
+            }
+            Ok::<(), std::io::Error>(())
+        });
+        let mut said = Vec::new();
+        output.read_to_end(&mut said).map_err(|e| e.to_string())?;
+        let given = giving.join().expect("no panic");
+        given.map_err(|e| format!("the input was not read to its end: {e}"))?;
+        Ok(said)
+    })
+}
+
+/// Runs a case, and says what differs.
+fn held(case: &Case) -> Result<(), String> {
+    let mut child = Command::new("hosts/run")
+        .arg(case.program)
+        .stdin(Stdio::piped())
+        .stdout(Stdio::piped())
+        .stderr(Stdio::piped())
+        .spawn()
+        .map_err(|e| format!("hosts/run: {e}"))?;
+    let said = ran(&mut child, case)?;
+    let ended = child.wait_with_output().map_err(|e| e.to_string())?;
+    // The word that the wrapper turns into the exit status.
+    let word: &[u8] = if case.status == 0 { b"" } else { b"refused\n" };
+    if said != case.said {
+        return Err(format!("wrote {said:02x?}, not {:02x?}", case.said));
+    }
+    if ended.stderr != word {
+        let said = String::from_utf8_lossy(&ended.stderr);
+        return Err(format!("said {said:?} on standard error"));
+    }
+    Ok(())
+}
+
+/// The programs as a shell starts them: command, exit status, whether something stands on standard
+/// error, and what is reached.
+const STARTED: [(&str, i32, bool, &str); 17] = [
+    ("./export-post examples/winter.post", 0, false, "status 0"),
+    ("./export-post <examples/winter.post", 0, false, "status 0"),
+    ("./export-post examples/crafted.post", 1, false, "status 1"),
+    ("./export-post </dev/null", 1, false, "status 1"),
+    (
+        "./export-post examples/winter.post >/dev/full",
+        2,
+        true,
+        "full",
+    ),
+    (
+        "./export-post examples/crafted.post >/dev/full",
+        2,
+        true,
+        "full",
+    ),
+    ("./export-post /", 2, true, "a directory"),
+    ("./export-post </", 2, true, "a directory"),
+    ("./export-post examples/none.post", 2, true, "no file"),
+    ("./export-post <&-", 2, true, "closed input"),
+    (
+        "./export-post examples/winter.post >&-",
+        2,
+        true,
+        "closed output",
+    ),
+    (
+        "hosts/tool readout <crates/readout/stdin",
+        0,
+        false,
+        "status 0",
+    ),
+    ("hosts/tool readout </dev/null", 1, false, "status 1"),
+    (
+        "hosts/tool readout <crates/readout/stdin >/dev/full",
+        2,
+        true,
+        "full",
+    ),
+    ("hosts/tool readout </", 2, true, "a directory"),
+    ("hosts/tool readout <&-", 2, true, "closed input"),
+    (
+        "hosts/tool readout <crates/readout/stdin >&-",
+        2,
+        true,
+        "closed output",
+    ),
+];
+
+/// Starts a command as a shell does, and holds it to its status.
+fn started(command: &str, status: i32, words: bool) -> Result<(), String> {
+    let ended = Command::new("bash")
+        .args(["-c", command])
+        .stdin(Stdio::null())
+        .output()
+        .map_err(|e| format!("bash: {e}"))?;
+    if ended.status.code() != Some(status) {
+        return Err(format!("{command}: {}, not {status}", ended.status));
+    }
+    if ended.stderr.is_empty() == words {
+        let said = String::from_utf8_lossy(&ended.stderr);
+        return Err(format!("{command}: said {said:?} on standard error"));
+    }
+    Ok(())
+}
+
+/// What the trial has to reach.
+fn to_reach() -> BTreeSet<String> {
+    let mut all: BTreeSet<String> = (0..=LONGEST)
+        .map(|place| format!("exporter: place {place}"))
+        .chain([1, 2, 24].map(|lines| format!("exporter: {lines} lines")))
+        .chain([1, 22, 23, 24, 25, 26].map(|number| format!("readout: {number}")))
+        .chain([1, 20].map(|number| format!("delivering: {number}")))
+        .chain(STARTED.iter().map(|case| case.3.to_string()))
+        .collect();
+    all.insert("exporter: a long input in pieces".to_string());
+    all.insert("exporter: 10,000,000 bytes".to_string());
+    all
+}
+
+fn main() -> ExitCode {
+    if std::env::args().len() > 1 {
+        println!("programs: takes no words");
+        return ExitCode::FAILURE;
+    }
+    let mut cases = Vec::new();
+    for_the_exporter(&mut cases);
+    for_the_readout(&mut cases);
+    for_the_delivery(&mut cases);
+    let reached = Mutex::new(BTreeSet::new());
+    let wrong = Mutex::new(Vec::new());
+    let next = AtomicUsize::new(0);
+    thread::scope(|scope| {
+        for _ in 0..AT_ONCE {
+            scope.spawn(|| {
+                while let Some(case) = cases.get(next.fetch_add(1, Ordering::Relaxed)) {
+                    match held(case) {
+                        Ok(()) => drop(reached.lock().unwrap().insert(case.reaches.clone())),
+                        Err(words) => {
+                            let start = &case.input[..case.input.len().min(80)];
+                            let text = String::from_utf8_lossy(start).into_owned();
+                            let words = format!("{} on {text:?}..: {words}", case.program);
+                            wrong.lock().unwrap().push(words);
+                        }
+                    }
+                }
+            });
+        }
+    });
+    let (mut reached, mut wrong) = (reached.into_inner().unwrap(), wrong.into_inner().unwrap());
+    for (command, status, words, reaches) in STARTED {
+        match started(command, status, words) {
+            Ok(()) => drop(reached.insert(reaches.to_string())),
+            Err(words) => wrong.push(words),
+        }
+    }
+    let missed: Vec<String> = to_reach().difference(&reached).cloned().collect();
+    for words in wrong.iter().take(10) {
+        println!("programs: {words}");
+    }
+    for words in missed.iter().take(10) {
+        println!("programs: not reached: {words}");
+    }
+    if !wrong.is_empty() || !missed.is_empty() || cases.len() < TEXTS {
+        let (wrong, missed) = (wrong.len(), missed.len());
+        println!(
+            "programs: {} texts, {wrong} wrong, {missed} not reached",
+            cases.len()
+        );
+        return ExitCode::FAILURE;
+    }
+    println!(
+        "programs: {} texts to the programs themselves, {} started by a shell, all as the model says; every place up to {LONGEST}",
+        cases.len(),
+        STARTED.len()
+    );
+    ExitCode::SUCCESS
+}
