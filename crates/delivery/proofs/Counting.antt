@@ -13,7 +13,7 @@ use Rattle.state.specs.declared.Meter.{Meter}
 use Rattle.meter.specs.Character.{character}
 use Rattle.post.specs.Grammar.{Entry, IsPost}
 use Rattle.post.proofs.Reading.{good-rising, one-reading}
-use Rattle.post.proofs.Answers.{one-longest}
+use Rattle.text.proofs.Beginnings.{one-longest}
 use Rattle.export.specs.Frames.{framesOf, ExportedAs}
 use Rattle.export.proofs.Answers.{room-enough}
 use Rattle.dialogue.specs.Feeding.{Said, answered, left, full}

@@ -18,7 +18,7 @@ use Rattle.state.specs.WellFormed.{tablesGood}
 use Rattle.replies.specs.Shown.{rowOf}
 use Rattle.post.specs.Grammar.{Entry, rising}
 use Rattle.post.proofs.Lines.{row-length}
-use Rattle.post.proofs.Columns.{le-or-lt}
+use Rattle.text.proofs.Beginnings.{le-or-lt}
 use Rattle.post.proofs.Reading.{rising-number, rising-rest, rising-table, rising-row}
 use Rattle.delivery.specs.Acknowledged.{rowsAfter}
 

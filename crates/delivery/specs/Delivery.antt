@@ -5,13 +5,13 @@ use mathlib.Core.Bool.{true}
 use mathlib.Core.List.{List, List·Memᴰ}
 use Prim.Native.Nat.{ℕ}
 use lib.ListN.{length}
+use Rattle.text.specs.Beginnings.{Longest}
 use Rattle.values.specs.Registers.{goodTable}
 use Rattle.state.specs.declared.Meter.{Meter}
 use Rattle.state.specs.WellFormed.{wellFormed}
 use Rattle.changes.specs.Changes.{withRegisters, withTables}
 use Rattle.replies.specs.Shown.{rowOf}
 use Rattle.post.specs.Grammar.{Entry, IsPost}
-use Rattle.post.specs.Place.{Longest}
 use Rattle.export.specs.Frames.{framesOf}
 use Rattle.dialogue.specs.Feeding.{Said, answered, left, full}
 use Rattle.delivery.specs.Acknowledged.{acknowledgements, acknowledgedOnce}

@@ -9,11 +9,13 @@ use native.Mathlib.Omega.{arith}
 use lib.ListN.{length, take}
 use lib.Seq.{length-take-le}
 use Rattle.text.specs.Writing.{stored, holding}
+use Rattle.text.specs.Beginnings.{Longest}
+use Rattle.text.proofs.Beginnings.{one-longest}
 use Rattle.text.proofs.Writing.{stored-holding}
 use Rattle.post.specs.Grammar.{Entry, postText, rising, goodEntries, IsPost}
-use Rattle.post.specs.Place.{Longest, Accepted, Refused, CheckedAs}
+use Rattle.post.specs.Place.{Accepted, Refused, CheckedAs}
 use Rattle.post.proofs.Reading.{good-rising, one-reading, length-post, count-entries}
-use Rattle.post.proofs.Answers.{one-longest, longest-text, long-answer}
+use Rattle.post.proofs.Answers.{longest-text, long-answer}
 use Rattle.export.specs.Frames.{framesOf, Done, NoRoom, NoPost, ExportedAs}
 use Rattle.export.specs.Changed.{changedLines}
 use Rattle.export.proofs.Lines.{length-lines, lines-are}

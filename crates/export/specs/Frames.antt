@@ -4,11 +4,11 @@ use mathlib.Core.Logic.{_⊎_}
 use mathlib.Core.List.{List, [], _∷_, _++_}
 use Prim.Native.Nat.{ℕ, _*_, _<_, _≤_}
 use lib.ListN.{length}
+use Rattle.text.specs.Beginnings.{Longest}
 use Rattle.text.specs.Writing.{holding}
 use Rattle.frames.specs.Frames.{frameOf, onWire}
 use Rattle.frames.specs.Commands.{W1, setTable}
 use Rattle.post.specs.Grammar.{Entry, IsPost}
-use Rattle.post.specs.Place.{Longest}
 
 -- SOH W1 STX Z(xx;row) ETX BCC, with parity
 unfoldable pub entryFrame : Entry → List ℕ

@@ -13,19 +13,11 @@ use lib.ListN.{length, getD, take, drop, replicate, length-append, length-drop, 
 use lib.Seq.{take-at, length-take-le, getD-take, getD-drop, getD-append-add, take-append-le, take-all}
 use Rattle.line.specs.Runs.{every}
 use Rattle.text.specs.Classes.{between}
+use Rattle.text.proofs.Beginnings.{le-or-lt, same-at}
 use Rattle.values.specs.Registers.{goodRow}
 use Rattle.post.specs.Grammar.{lineText}
 use Rattle.post.specs.Columns.{lowest, highest, columnFits, tensOf, numberOf, rowOf, Column}
 use Rattle.post.proofs.Lines.{line-columns, length-line, number-line, line-fits, fits-line, fits-row, between-is, between-low, between-high, every-at}
-
-pub le-or-lt : (a b : ℕ) → (a ≤ b) ⊎ (b < a)
-le-or-lt zero b = inl (omega arith)
-le-or-lt (suc a) zero = inr (omega arith)
-le-or-lt (suc a) (suc b) = ⊎-elim (λ h. inl (omega arith)) (λ h. inr (omega arith)) (le-or-lt a b)
-
--- what is the same in the first k characters is the same at each of them
-pub same-at : (k : ℕ) (s t : List ℕ) → take k s ≡ take k t → (j : ℕ) → j < k → getD s j 0 ≡ getD t j 0
-same-at k s t e j h = sym (getD-take k s j 0 h) ∙ ap (λ (l : List ℕ). getD l j 0) e ∙ getD-take k t j 0 h
 
 pub same-fits : (s t : List ℕ) (j : ℕ) → getD s j 0 ≡ getD t j 0 → columnFits s j ≡ columnFits t j
 unfolding columnFits

@@ -13,25 +13,15 @@ use lib.Dec.{ltb, leb}
 use lib.ListN.{length, getD, take, drop, length-append, length-drop, take-append-drop}
 use lib.Seq.{take-at, drop-at, length-take-le, getD-take, take-take, take-add, take-append-add, take-append-le, take-all, drop-drop}
 use Rattle.line.proofs.Runs.{and-left, and-right, and-both}
+use Rattle.text.specs.Beginnings.{Shares, Longest}
+use Rattle.text.proofs.Beginnings.{le-or-lt, same-at, same-front, longest-below}
 use Rattle.values.specs.Registers.{goodRow}
 use Rattle.post.specs.Grammar.{Entry, lineText, linesText, lastLine, postText, rising, IsPost}
-use Rattle.post.specs.Place.{Shares, Longest}
 use Rattle.post.specs.Columns.{columnFits, columnsFit, numberOf, rowOf, mayFollow, pick, nextNumber, Column, LinePlace, LastPlace}
 use Rattle.post.specs.Rest.{Rest, Passed}
 use Rattle.post.proofs.Lines.{length-line, fits-line, fits-row}
 use Rattle.post.proofs.Reading.{post-cons, rising-number, rising-rest, rising-table, rising-row, rising-cons, line-first, last-first, same-number, same-row, take-line, drop-line, length-last, length-post-none, length-post-cons}
-use Rattle.post.proofs.Columns.{le-or-lt, same-at, shared-column, line-column, Completed, complete, same-fits, same-number-of}
-
--- two texts with the same first n + m characters, seen behind the first n
-same-behind : (n m : ℕ) (s t : List ℕ) → n ≤ length s → n ≤ length t → take (n + m) s ≡ take (n + m) t → take m (drop n s) ≡ take m (drop n t)
-same-behind n m s t h k e =
-    sym (drop-at (take n s) (take m (drop n s)) n (length-take-le n s h))
-    ∙ ap (drop n) (sym (take-add n m s) ∙ e ∙ take-add n m t)
-    ∙ drop-at (take n t) (take m (drop n t)) n (length-take-le n t k)
-
--- fewer characters are shared as well
-pub same-front : (j k : ℕ) (s t : List ℕ) → j ≤ k → take k s ≡ take k t → take j s ≡ take j t
-same-front j k s t h e = sym (take-take j k s h) ∙ ap (take j) e ∙ take-take j k t h
+use Rattle.post.proofs.Columns.{shared-column, line-column, Completed, complete, same-fits, same-number-of}
 
 -- a line, with what may stand below it
 module _ (tables above n : ℕ) (row : List ℕ) (few : tables < 100) (low : above < n) (high : n ≤ tables) (good : goodRow row ≡ true) where
@@ -66,48 +56,10 @@ module _ (tables above n : ℕ) (row : List ℕ) (few : tables < 100) (low : abo
   take-off t r =
       rw (drop-at (lineText n row) t 36 line-long) at (below (lineText n row ++ t) (r .entries) (r .good) (r .spelt) (take-at (lineText n row) t 36 line-long))
 
-  below-shared : (t : List ℕ) (m : ℕ) → Shares (Rest tables above) (lineText n row ++ t) (36 + m) → Shares (Rest tables n) t m
-  below-shared t m sh =
-      let l = lineText n row in
-      let o = sh .other in
-      let long : length (l ++ t) ≡ 36 + length t = length-append l t ∙ ap (λ (k : ℕ). k + length t) line-long in
-      let front : take 36 o ≡ l = same-front 36 (36 + m) o (l ++ t) (omega arith) (sh .same) ∙ take-at l t 36 line-long in
-      let in-text : 36 + m ≤ length (l ++ t) = sh .within in
-      let in-other : 36 + m ≤ length o = sh .within-other in
-      record {
-        other = drop 36 o;
-        is-good = below o (sh .is-good .entries) (sh .is-good .good) (sh .is-good .spelt) front;
-        within = omega arith;
-        within-other = rw (length-drop 36 o) (omega arith);
-        same = same-behind 36 m o (l ++ t) (omega arith) (omega arith) (sh .same) ∙ ap (take m) (drop-at l t 36 line-long);
-      }
-
   -- the place below a line counts from its end
-  pub longest-below : (t : List ℕ) (k : ℕ) → Longest (Rest tables n) t k → Longest (Rest tables above) (lineText n row ++ t) (36 + k)
-  longest-below t k g =
-      let l = lineText n row in
-      let sh = g .shared in
-      let long : length (l ++ t) ≡ 36 + length t = length-append l t ∙ ap (λ (i : ℕ). i + length t) line-long in
-      let long-other : length (l ++ sh .other) ≡ 36 + length (sh .other) = length-append l (sh .other) ∙ ap (λ (i : ℕ). i + length (sh .other)) line-long in
-      record {
-        shared =
-            record {
-              other = l ++ sh .other;
-              is-good = put-line (sh .other) (sh .is-good);
-              within = omega (arith, sh .within);
-              within-other = omega (arith, sh .within-other);
-              same = front (sh .other) ∙ ap (λ (x : List ℕ). l ++ x) (sh .same) ∙ sym (front t);
-            };
-        most =
-            λ j sj.
-            ⊎-elim (λ h. omega arith)
-            (λ h.
-            let e : 36 + (j - 36) ≡ j = omega arith in
-            omega (arith, g .most (j - 36) (below-shared t (j - 36) (rw e sj)))) (le-or-lt j 36);
-      }
-    where
-      front : (x : List ℕ) → take (36 + k) (lineText n row ++ x) ≡ lineText n row ++ take k x
-      front x = ap (λ (i : ℕ). take (i + k) (lineText n row ++ x)) (sym line-long) ∙ take-append-add (lineText n row) x k
+  pub longest-below-line : (t : List ℕ) (k : ℕ) → Longest (Rest tables n) t k → Longest (Rest tables above) (lineText n row ++ t) (36 + k)
+  longest-below-line t k g =
+      longest-below (Rest tables above) (Rest tables n) (lineText n row) 36 line-long put-line (λ v r b. below v (r .entries) (r .good) (r .spelt) b) t k g
 
 -- all of the first n columns, each by itself
 pub columns-each : (s : List ℕ) (n : ℕ) → columnsFit s n ≡ true → (j : ℕ) → j < n → columnFits s j ≡ true
@@ -207,7 +159,7 @@ module _ (tables above : ℕ) (s : List ℕ) (few : tables < 100) where
         let z : place ≡ 0 = ⊎-elim (λ q. omega arith) (λ q. absurd (omega (arith, p .before 0 q .first refl))) (le-or-lt place 0) in
         record {
           other = lastLine;
-          is-good = last-rest tables above (omega arith);
+          is-whole = last-rest tables above (omega arith);
           within = p .in-text;
           within-other = omega (arith, length-last);
           same = rw z;
@@ -218,7 +170,7 @@ module _ (tables above : ℕ) (s : List ℕ) (few : tables < 100) where
         let long : length l ≡ 36 = length-line (c .number) (c .row) (c .good-row) in
         record {
           other = l ++ lastLine;
-          is-good = put-line tables above (c .number) (c .row) few (c .low) (c .high) (c .good-row) lastLine (last-rest tables (c .number) (omega (arith, c .low)));
+          is-whole = put-line tables above (c .number) (c .row) few (c .low) (c .high) (c .good-row) lastLine (last-rest tables (c .number) (omega (arith, c .low)));
           within = p .in-text;
           within-other = omega (arith, length-append l lastLine, p .in-line);
           same = take-append-le place l lastLine (omega (arith, p .in-line)) ∙ c .same;
@@ -226,7 +178,7 @@ module _ (tables above : ℕ) (s : List ℕ) (few : tables < 100) where
 
     pub longest-line : 0 < tables → above ≤ tables → Longest (Rest tables above) s place
     longest-line some h =
-        record { shared = shared-line some h; most = λ k sh. most-line k (sh .is-good .entries) (sh .is-good .good) (sh .is-good .some) (sh .within) (ap (take k) (sh .is-good .spelt) ∙ sh .same) }
+        record { shared = shared-line some h; most = λ k sh. most-line k (sh .is-whole .entries) (sh .is-whole .good) (sh .is-whole .some) (sh .within) (ap (take k) (sh .is-whole .spelt) ∙ sh .same) }
 
   -- where no line stands, nothing but the last line ends a post
   no-rest : (36 ≤ length s → nextNumber tables above s ≡ 0) → (0 < above → s ≡ lastLine → ⊥) → (es : List Entry) → rising tables above es ≡ true → (above ≡ 0 → es ≡ [] → ⊥) → postText es ≡ s → ⊥
@@ -255,14 +207,14 @@ module _ (tables above : ℕ) (s : List ℕ) (place : ℕ) (h : 0 < above) (begi
         shared =
             record {
               other = lastLine;
-              is-good = last-rest tables above h;
+              is-whole = last-rest tables above h;
               within = p .in-text;
               within-other = omega (arith, length-last, p .in-line);
               same = p .same;
             };
         most =
             λ k sh.
-            most-last k (sh .is-good .entries) (sh .within) (rw (sh .is-good .spelt) (sh .within-other)) (ap (take k) (sh .is-good .spelt) ∙ sh .same);
+            most-last k (sh .is-whole .entries) (sh .within) (rw (sh .is-whole .spelt) (sh .within-other)) (ap (take k) (sh .is-whole .spelt) ∙ sh .same);
       }
 
 -- the last line ends a post wherever a line stands above it
@@ -294,5 +246,5 @@ passed-more tables above at n text few long p st =
       longest =
           λ k g.
           let w : at + (36 + k) ≡ (at + 36) + k = omega arith in
-          (rw w at (p .longest (36 + k) (rw f (longest-below tables above n (st .row) few (st .low) (st .high) (st .good-row) (drop (at + 36) text) k g))));
+          (rw w at (p .longest (36 + k) (rw f (longest-below-line tables above n (st .row) few (st .low) (st .high) (st .good-row) (drop (at + 36) text) k g))));
     }

@@ -10,7 +10,7 @@ use borrow.Author.Tests.{lt-ltb, le-ltb}
 use lib.Dec.{ltb}
 use lib.ListN.{length}
 use Rattle.post.specs.Columns.{columnFits, columnsFit, straying, smaller, StraysFirst, FirstStray}
-use Rattle.post.proofs.Columns.{le-or-lt}
+use Rattle.text.proofs.Beginnings.{le-or-lt}
 use Rattle.post.proofs.Places.{columns-each, columns-all}
 
 never : (b : Bool) → (b ≡ true → ⊥) → b ≡ false

@@ -9,7 +9,7 @@ use lib.ListN.{length, getD, set, length-set}
 use lib.Seq.{getD-set-same, getD-set-other}
 use Rattle.line.proofs.Runs.{and-left, and-right, and-both}
 use Rattle.post.specs.Columns.{columnFits, three, TookLine}
-use Rattle.post.proofs.Columns.{le-or-lt}
+use Rattle.text.proofs.Beginnings.{le-or-lt}
 
 -- no flag yet, and one more
 pub took-none : (s : List ℕ) (before : List Bool) → TookLine s before before 0

@@ -2,22 +2,9 @@
 use mathlib.Core.Path.{_≡_}
 use mathlib.Core.Logic.{_⊎_}
 use mathlib.Core.List.{List}
-use Prim.Native.Nat.{ℕ, _≤_}
-use lib.ListN.{length, take}
+use Prim.Native.Nat.{ℕ}
+use Rattle.text.specs.Beginnings.{Longest}
 use Rattle.post.specs.Grammar.{IsPost}
-
--- some good text has the same first k characters
-pub record Shares (Good : List ℕ → Type 0) (text : List ℕ) (k : ℕ) : Type 0 where
-  pub other : List ℕ
-  pub is-good : Good other
-  pub within : k ≤ length text
-  pub within-other : k ≤ length other
-  pub same : take k other ≡ take k text
-
--- the longest beginning shared with some good text
-pub record Longest (Good : List ℕ → Type 0) (text : List ℕ) (place : ℕ) : Type 0 where
-  pub shared : Shares Good text place
-  pub most : (k : ℕ) → Shares Good text k → k ≤ place
 
 -- number 1: a post; there is no place
 pub record Accepted (tables : ℕ) (text : List ℕ) (number place : ℕ) : Type 0 where

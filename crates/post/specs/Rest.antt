@@ -4,8 +4,8 @@ use mathlib.Core.Bool.{true}
 use mathlib.Core.List.{List, []}
 use Prim.Native.Nat.{ℕ, _+_, _≤_}
 use lib.ListN.{length, drop}
+use Rattle.text.specs.Beginnings.{Longest}
 use Rattle.post.specs.Grammar.{Entry, postText, rising}
-use Rattle.post.specs.Place.{Longest}
 use Rattle.post.specs.Columns.{nextNumber, FirstStray}
 
 -- the end of a post below the table number above; at the very top, 0, there is a line at least

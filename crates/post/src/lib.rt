@@ -4,8 +4,9 @@ ghost use mathlib.Core.Path.{_≡_};
 ghost use mathlib.Core.Bool.{true, false};
 ghost use Prim.Native.Nat.{ℕ, _+_, _*_, _<_, _≤_};
 ghost use lib.ListN.{length, getD, drop};
+ghost use Rattle.text.specs.Beginnings.{Longest};
 ghost use Rattle.post.specs.Grammar.{lastLine, IsPost};
-ghost use Rattle.post.specs.Place.{Longest, CheckedAs};
+ghost use Rattle.post.specs.Place.{CheckedAs};
 ghost use Rattle.post.specs.Columns.{lowest, highest, columnFits, nextNumber, straying, smaller, StraysFirst, FirstStray, LinePlace, LastPlace, beginsLast, isLast, TookLine, LineRises};
 ghost use Rattle.post.specs.Rest.{Rest, Scanned};
 

@@ -2,3 +2,5 @@ pub mod Writing
 pub mod Classes
 pub mod Decimal
 pub mod Layout
+pub mod Beginnings
+pub mod DataSet

@@ -1,6 +1,6 @@
 // Text: characters put into a lent buffer, texts compared, and the form of a line with numbers in it.
 ghost use mathlib.Core.Path.{_≡_};
-ghost use Prim.Native.Nat.{_+_, _-_, _≤_};
+ghost use Prim.Native.Nat.{_+_, _-_, _≤_, min};
 ghost use lib.ListN.{length, take, drop, getD};
 ghost use Rattle.line.specs.Runs.{every};
 ghost use Rattle.text.specs.Writing.{stored};
@@ -22,8 +22,9 @@ pub fn put(buf: &mut [u8], at: usize, s: &[u8]) -> usize
     at + s.len()
 }
 
-// The characters from the n-th on; none where there are no more.
+// The characters from the n-th on; where there are no more, the empty part at the end.
 pub fn rest(s: &[u8], n: usize) -> &[u8]
+    ensures lies { λ r. ⌜ r .ptr ≡ (s .entry .ptr .0, min n (length (now (s .entry))) + s .entry .ptr .1) ⌝ }
     ensures { λ r. ⌜ now r ≡ drop n (now (s .entry)) ⌝ }
 {
     if n <= s.len() {
@@ -35,6 +36,7 @@ pub fn rest(s: &[u8], n: usize) -> &[u8]
 
 // The first n characters; all where there are no more.
 pub fn first(s: &[u8], n: usize) -> &[u8]
+    ensures lies { λ r. ⌜ r .ptr ≡ s .entry .ptr ⌝ }
     ensures { λ r. ⌜ now r ≡ take n (now (s .entry)) ⌝ }
 {
     if n <= s.len() {

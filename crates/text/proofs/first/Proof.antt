@@ -1,5 +1,5 @@
 -- `text::first` meets its contract. Assumes nothing.
-use mathlib.Core.Path.{sym}
+use mathlib.Core.Path.{refl, sym}
 use native.Mathlib.Omega.{arith}
 use lib.Seq.{take-all, length-take-le}
 use borrow.Author.Needs.{needs}
@@ -10,7 +10,7 @@ slice-aggregate-result : tie.Need-slice-aggregate-result
 slice-aggregate-result c = sym (length-take-le (c .before .before .args .n) (c .before .before .args .s .now) (c .before .if1 .taken))
 
 returns-2 : tie.Need-returns-2
-returns-2 c = sym (take-all (c .before .args .n) (c .before .args .s .now) (omega arith))
+returns-2 c = (refl, sym (take-all (c .before .args .n) (c .before .args .s .now) (omega arith)))
 
 pub first-spec : {M : Type 1} → statement M
 first-spec = tie.close (tie.spec slice-aggregate-result (λ c. search needs) returns-2)

@@ -6,7 +6,7 @@ use Rattle.deciding.proofs.shape.content_of.Tie as tie
 
 returns : tie.Need-returns
 unfolding content
-returns c = rw (c .first .ensures, c .before .rest .ensures, c .before .before .less .ensures)
+returns c = rw (c .first .ensures .1, c .before .rest .ensures .1, c .before .before .less .ensures)
 
 pub content-of-spec : {M : Type 1} → statement M
 content-of-spec = tie.close (tie.spec (λ c κs. search needs) (λ c κs. search needs) (λ c κs. search needs) returns)

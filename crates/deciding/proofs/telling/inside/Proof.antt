@@ -6,7 +6,7 @@ use Rattle.deciding.proofs.telling.inside.Tie as tie
 
 returns : tie.Need-returns
 unfolding inner
-returns c = rw (c .first .ensures, c .before .rest .ensures, c .before .before .less .ensures)
+returns c = rw (c .first .ensures .1, c .before .rest .ensures .1, c .before .before .less .ensures)
 
 pub inside-spec : {M : Type 1} → statement M
 inside-spec = tie.close (tie.spec (λ c κs. search needs) (λ c κs. search needs) (λ c κs. search needs) returns)

@@ -6,15 +6,15 @@ use Rattle.deciding.proofs.telling.table.Tie as tie
 
 returns : tie.Need-returns
 unfolding tableTold
-returns c = rw (← c .before .before .before .before .before .before .before .at .ensures, ← c .before .before .before .before .before .before .rest .ensures, ← c .before .before .before .before .before .is-row .ensures, c .before .before .before .before .if1 .taken, ← c .before .before .before .first .ensures, ← c .before .before .read-table .ensures, c .before .if2 .taken)
+returns c = rw (← c .before .before .before .before .before .before .before .at .ensures, ← c .before .before .before .before .before .before .rest .ensures .1, ← c .before .before .before .before .before .is-row .ensures, c .before .before .before .before .if1 .taken, ← c .before .before .before .first .ensures .1, ← c .before .before .read-table .ensures, c .before .if2 .taken)
 
 returns-2 : tie.Need-returns-2
 unfolding tableTold
-returns-2 c = rw (← c .before .before .before .before .before .before .at .ensures, ← c .before .before .before .before .before .rest .ensures, ← c .before .before .before .before .is-row .ensures, c .before .before .before .if1 .taken, ← c .before .before .first .ensures, ← c .before .read-table .ensures, c .if2 .left)
+returns-2 c = rw (← c .before .before .before .before .before .before .at .ensures, ← c .before .before .before .before .before .rest .ensures .1, ← c .before .before .before .before .is-row .ensures, c .before .before .before .if1 .taken, ← c .before .before .first .ensures .1, ← c .before .read-table .ensures, c .if2 .left)
 
 returns-3 : tie.Need-returns-3
 unfolding tableTold
-returns-3 c = rw (← c .before .before .before .at .ensures, ← c .before .before .rest .ensures, ← c .before .is-row .ensures, c .if1 .left)
+returns-3 c = rw (← c .before .before .before .at .ensures, ← c .before .before .rest .ensures .1, ← c .before .is-row .ensures, c .if1 .left)
 
 pub table-spec : {M : Type 1} → statement M
 table-spec = tie.close (tie.spec (λ c κs. search needs) (λ c κs. search needs) (λ c κs. search needs) (λ c κs. search needs) (λ c κs. search needs) returns returns-2 returns-3)

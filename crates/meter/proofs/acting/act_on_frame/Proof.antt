@@ -8,7 +8,7 @@ returns : tie.Need-returns
 unfolding holding
 returns c =
     let chosen = c .before .before .before .before .decide .ensures in
-    let shown = c .before .before .before .before .before .before .first .ensures in
+    let shown = c .before .before .before .before .before .before .first .ensures .1 in
     (rw (c .before .before .act .ensures .0, chosen, shown), (rw (chosen, shown) at (c .before .before .act .ensures .1)))
 
 pub act-on-frame-spec : {M : Type 1} → statement M

@@ -17,7 +17,7 @@ accept-requires c κs = omega (arith, c .before .before .before .before .before 
 
 returns-2 : tie.Need-returns-2
 unfolding tried holding
-returns-2 c = (rw (ne-eqb _ _ (c .before .before .before .before .before .before .before .before .before .before .before .before .if1 .left), ← c .before .before .before .before .before .before .before .before .before .before .rest .ensures, ← c .before .before .before .before .before .before .before .before .before .first .ensures, ← c .before .before .before .before .before .before .before .same .ensures, c .before .before .before .before .before .before .if2 .taken, c .before .before .accept .ensures .0, c .before .before .before .before .in-mode .ensures, c .before .before .before .before .before .with-attempts .ensures), rw (ne-eqb _ _ (c .before .before .before .before .before .before .before .before .before .before .before .before .if1 .left), ← c .before .before .before .before .before .before .before .before .before .before .rest .ensures, ← c .before .before .before .before .before .before .before .before .before .first .ensures, ← c .before .before .before .before .before .before .before .same .ensures, c .before .before .before .before .before .before .if2 .taken) (c .before .before .accept .ensures .1))
+returns-2 c = (rw (ne-eqb _ _ (c .before .before .before .before .before .before .before .before .before .before .before .before .if1 .left), ← c .before .before .before .before .before .before .before .before .before .before .rest .ensures .1, ← c .before .before .before .before .before .before .before .before .before .first .ensures .1, ← c .before .before .before .before .before .before .before .same .ensures, c .before .before .before .before .before .before .if2 .taken, c .before .before .accept .ensures .0, c .before .before .before .before .in-mode .ensures, c .before .before .before .before .before .with-attempts .ensures), rw (ne-eqb _ _ (c .before .before .before .before .before .before .before .before .before .before .before .before .if1 .left), ← c .before .before .before .before .before .before .before .before .before .before .rest .ensures .1, ← c .before .before .before .before .before .before .before .before .before .first .ensures .1, ← c .before .before .before .before .before .before .before .same .ensures, c .before .before .before .before .before .before .if2 .taken) (c .before .before .accept .ensures .1))
 
 add-with-attempts : tie.Need-add-with-attempts
 add-with-attempts c =
@@ -26,7 +26,7 @@ add-with-attempts c =
 
 returns-3 : tie.Need-returns-3
 unfolding tried holding
-returns-3 c = (rw (ne-eqb _ _ (c .before .before .before .before .before .before .before .before .before .before .before .if1 .left), ← c .before .before .before .before .before .before .before .before .before .rest .ensures, ← c .before .before .before .before .before .before .before .before .first .ensures, ← c .before .before .before .before .before .before .same .ensures, c .before .before .before .before .before .if2 .left, c .before .before .refuse2 .ensures .0, c .before .before .before .before .with-attempts2 .ensures), rw (ne-eqb _ _ (c .before .before .before .before .before .before .before .before .before .before .before .if1 .left), ← c .before .before .before .before .before .before .before .before .before .rest .ensures, ← c .before .before .before .before .before .before .before .before .first .ensures, ← c .before .before .before .before .before .before .same .ensures, c .before .before .before .before .before .if2 .left) (c .before .before .refuse2 .ensures .1))
+returns-3 c = (rw (ne-eqb _ _ (c .before .before .before .before .before .before .before .before .before .before .before .if1 .left), ← c .before .before .before .before .before .before .before .before .before .rest .ensures .1, ← c .before .before .before .before .before .before .before .before .first .ensures .1, ← c .before .before .before .before .before .before .same .ensures, c .before .before .before .before .before .if2 .left, c .before .before .refuse2 .ensures .0, c .before .before .before .before .with-attempts2 .ensures), rw (ne-eqb _ _ (c .before .before .before .before .before .before .before .before .before .before .before .if1 .left), ← c .before .before .before .before .before .before .before .before .before .rest .ensures .1, ← c .before .before .before .before .before .before .before .before .first .ensures .1, ← c .before .before .before .before .before .before .same .ensures, c .before .before .before .before .before .if2 .left) (c .before .before .refuse2 .ensures .1))
 
 pub try-password-spec : {M : Type 1} → statement M
 try-password-spec = tie.close (tie.spec (λ c κs. search needs) (λ c. search needs) returns (λ c. search needs) (λ c κs. search needs) (λ c κs. search needs) (λ c. search needs) (λ c κs. search needs) (λ c κs. search needs) (λ c κs. search needs) accept-requires (λ c. search needs) returns-2 add-with-attempts (λ c κs. search needs) (λ c κs. search needs) (λ c. search needs) returns-3)

@@ -24,15 +24,15 @@ unfolding confirmed holding
 returns-2 c =
     let start = c .before .before .before .before .before .before .before .before .before .before .before .before .before .before .before .before in
     let long = block-long (start .args .m .registers) (lengths (start .args .m) (start .pre .0)) in
-    (rw (c .before .before .before .before .before .before .before .before .before .before .before .if1 .left, ← c .before .before .before .before .before .before .before .before .first .ensures, ← c .before .before .before .before .before .before .before .wants-block .ensures, c .before .before .before .before .before .before .if2 .taken, c .in-mode2 .ensures, c .before .before .before .data-block .ensures .0, long), rw (c .before .before .before .before .before .before .before .before .before .before .before .if1 .left, ← c .before .before .before .before .before .before .before .before .first .ensures, ← c .before .before .before .before .before .before .before .wants-block .ensures, c .before .before .before .before .before .before .if2 .taken) (c .before .before .before .data-block .ensures .1))
+    (rw (c .before .before .before .before .before .before .before .before .before .before .before .if1 .left, ← c .before .before .before .before .before .before .before .before .first .ensures .1, ← c .before .before .before .before .before .before .before .wants-block .ensures, c .before .before .before .before .before .before .if2 .taken, c .in-mode2 .ensures, c .before .before .before .data-block .ensures .0, long), rw (c .before .before .before .before .before .before .before .before .before .before .before .if1 .left, ← c .before .before .before .before .before .before .before .before .first .ensures .1, ← c .before .before .before .before .before .before .before .wants-block .ensures, c .before .before .before .before .before .before .if2 .taken) (c .before .before .before .data-block .ensures .1))
 
 returns-3 : tie.Need-returns-3
 unfolding confirmed holding passwordAsk frameOf closed bracketed
-returns-3 c = (rw (c .before .before .before .before .before .before .before .before .before .before .before .before .if1 .left, ← c .before .before .before .before .before .before .before .before .before .first .ensures, ← c .before .before .before .before .before .before .before .before .wants-block .ensures, c .before .before .before .before .before .before .before .if2 .left, ← c .before .before .before .before .before .before .wants-program .ensures, c .before .before .before .before .before .if3 .taken, c .in-mode3 .ensures, c .before .before .before .ask-password .ensures .0), rw (c .before .before .before .before .before .before .before .before .before .before .before .before .if1 .left, ← c .before .before .before .before .before .before .before .before .before .first .ensures, ← c .before .before .before .before .before .before .before .before .wants-block .ensures, c .before .before .before .before .before .before .before .if2 .left, ← c .before .before .before .before .before .before .wants-program .ensures, c .before .before .before .before .before .if3 .taken) (c .before .before .before .ask-password .ensures .1))
+returns-3 c = (rw (c .before .before .before .before .before .before .before .before .before .before .before .before .if1 .left, ← c .before .before .before .before .before .before .before .before .before .first .ensures .1, ← c .before .before .before .before .before .before .before .before .wants-block .ensures, c .before .before .before .before .before .before .before .if2 .left, ← c .before .before .before .before .before .before .wants-program .ensures, c .before .before .before .before .before .if3 .taken, c .in-mode3 .ensures, c .before .before .before .ask-password .ensures .0), rw (c .before .before .before .before .before .before .before .before .before .before .before .before .if1 .left, ← c .before .before .before .before .before .before .before .before .before .first .ensures .1, ← c .before .before .before .before .before .before .before .before .wants-block .ensures, c .before .before .before .before .before .before .before .if2 .left, ← c .before .before .before .before .before .before .wants-program .ensures, c .before .before .before .before .before .if3 .taken) (c .before .before .before .ask-password .ensures .1))
 
 returns-4 : tie.Need-returns-4
 unfolding confirmed holding
-returns-4 c = (rw (c .before .before .before .before .before .before .before .before .before .if1 .left, ← c .before .before .before .before .before .before .first .ensures, ← c .before .before .before .before .before .wants-block .ensures, c .before .before .before .before .if2 .left, ← c .before .before .before .wants-program .ensures, c .before .before .if3 .left, c .quiet2 .ensures, c .before .in-mode4 .ensures), rw (c .before .before .before .before .before .before .before .before .before .if1 .left, ← c .before .before .before .before .before .before .first .ensures, ← c .before .before .before .before .before .wants-block .ensures, c .before .before .before .before .if2 .left, ← c .before .before .before .wants-program .ensures, c .before .before .if3 .left))
+returns-4 c = (rw (c .before .before .before .before .before .before .before .before .before .if1 .left, ← c .before .before .before .before .before .before .first .ensures .1, ← c .before .before .before .before .before .wants-block .ensures, c .before .before .before .before .if2 .left, ← c .before .before .before .wants-program .ensures, c .before .before .if3 .left, c .quiet2 .ensures, c .before .in-mode4 .ensures), rw (c .before .before .before .before .before .before .before .before .before .if1 .left, ← c .before .before .before .before .before .before .first .ensures .1, ← c .before .before .before .before .before .wants-block .ensures, c .before .before .before .before .if2 .left, ← c .before .before .before .wants-program .ensures, c .before .before .if3 .left))
 
 pub confirm-spec : {M : Type 1} → statement M
 confirm-spec = tie.close (tie.spec (λ c κs. search needs) (λ c κs. search needs) returns (λ c. search needs) (λ c. search needs) (λ c κs. search needs) (λ c κs. search needs) data-block-requires (λ c κs. search needs) (λ c. search needs) returns-2 (λ c κs. search needs) (λ c κs. search needs) (λ c κs. search needs) (λ c. search needs) returns-3 (λ c κs. search needs) (λ c κs. search needs) returns-4)

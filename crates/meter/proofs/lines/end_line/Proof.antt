@@ -11,11 +11,11 @@ returns c = (rw (c .before .before .if1 .taken, c .quiet .ensures, c .before .in
 
 returns-2 : tie.Need-returns-2
 unfolding lineEnded holding
-returns-2 c = (rw (c .before .before .before .before .before .before .before .before .before .before .before .if1 .left, ← c .before .before .before .before .before .before .before .before .first .ensures, ← c .before .before .before .before .before .before .signs-on .ensures, c .before .before .before .before .before .if2 .taken, c .in-mode2 .ensures, c .before .before .before .identify .ensures .0), rw (c .before .before .before .before .before .before .before .before .before .before .before .if1 .left, ← c .before .before .before .before .before .before .before .before .first .ensures, ← c .before .before .before .before .before .before .signs-on .ensures, c .before .before .before .before .before .if2 .taken) (c .before .before .before .identify .ensures .1))
+returns-2 c = (rw (c .before .before .before .before .before .before .before .before .before .before .before .if1 .left, ← c .before .before .before .before .before .before .before .before .first .ensures .1, ← c .before .before .before .before .before .before .signs-on .ensures, c .before .before .before .before .before .if2 .taken, c .in-mode2 .ensures, c .before .before .before .identify .ensures .0), rw (c .before .before .before .before .before .before .before .before .before .before .before .if1 .left, ← c .before .before .before .before .before .before .before .before .first .ensures .1, ← c .before .before .before .before .before .before .signs-on .ensures, c .before .before .before .before .before .if2 .taken) (c .before .before .before .identify .ensures .1))
 
 returns-3 : tie.Need-returns-3
 unfolding lineEnded holding
-returns-3 c = (rw (c .before .before .before .before .before .before .before .before .if1 .left, ← c .before .before .before .before .before .first .ensures, ← c .before .before .before .signs-on .ensures, c .before .before .if2 .left, c .quiet2 .ensures, c .before .in-mode3 .ensures), rw (c .before .before .before .before .before .before .before .before .if1 .left, ← c .before .before .before .before .before .first .ensures, ← c .before .before .before .signs-on .ensures, c .before .before .if2 .left))
+returns-3 c = (rw (c .before .before .before .before .before .before .before .before .if1 .left, ← c .before .before .before .before .before .first .ensures .1, ← c .before .before .before .signs-on .ensures, c .before .before .if2 .left, c .quiet2 .ensures, c .before .in-mode3 .ensures), rw (c .before .before .before .before .before .before .before .before .if1 .left, ← c .before .before .before .before .before .first .ensures .1, ← c .before .before .before .signs-on .ensures, c .before .before .if2 .left))
 
 pub end-line-spec : {M : Type 1} → statement M
 end-line-spec = tie.close (tie.spec (λ c κs. search needs) (λ c κs. search needs) returns (λ c. search needs) (λ c. search needs) (λ c κs. search needs) (λ c. search needs) (λ c κs. search needs) (λ c κs. search needs) (λ c κs. search needs) (λ c. search needs) returns-2 (λ c κs. search needs) (λ c κs. search needs) returns-3)

@@ -7,7 +7,7 @@ use Rattle.replies.proofs.answers.row_of.Tie as tie
 
 returns : tie.Need-returns
 unfolding rowOf
-returns c = rw (c .first .ensures, c .before .rest .ensures, c .before .before .row-start .ensures)
+returns c = rw (c .first .ensures .1, c .before .rest .ensures .1, c .before .before .row-start .ensures)
 
 pub row-of-spec : {M : Type 1} → statement M
 row-of-spec = tie.close (tie.spec (λ c κs. search needs) (λ c κs. search needs) (λ c κs. search needs) returns)
