@@ -62,6 +62,6 @@ events = (
   record { settle = (seen (λ (h : Heard). cond (h .settled) 1 0) refl, seen (λ (h : Heard). h .number) refl) },
   record {
     «receive_in_place» = (seen (λ (r : Reply). r .length) refl, seen (λ (m : Meter). m .receiver .count) refl);
-    «dirgemist_meter_receive» = (number refl, number refl);
+    «dirgemist_meter_receive» = (seen (λ (m : Meter). getD (m .registers .tables) 144 0) refl, byte 0 refl);
   },
 )

@@ -2,7 +2,6 @@
 use mathlib.Core.Path.{refl}
 use mathlib.Core.Bool.{cond}
 use Prim.Native.Nat.{ℕ}
-use lib.ListN.{getD}
 use Rattle.line.specs.Characters.{seven}
 use Rattle.line.specs.Checksum.{bccOf}
 use Rattle.line.specs.Runs.{every}
@@ -17,8 +16,6 @@ use Rattle.frames.specs.Frames.{closed, frameOf}
 use Rattle.frames.specs.Commands.{bracketed, setTable}
 use Rattle.state.specs.declared.Receiver.{Receiver}
 use Rattle.state.specs.declared.Counters.{Counters}
-use Rattle.state.specs.declared.Registers.{Registers}
-use Rattle.state.specs.declared.Meter.{Meter}
 use Rattle.receiving.specs.declared.Hearing.{Hearing}
 use Rattle.receiving.specs.declared.Hearing.the-variants.{Drop, Hold, Restart, Empty, Line, Confirm, Frame, TooLong}
 use Rattle.receiving.specs.Hearing.{hearing, listening, confirming, framing}
@@ -60,7 +57,6 @@ hearings =
       «last_held» = (number refl, number refl);
       keep = (seen (λ (r : Receiver). cond (r .mark) 1 0) refl, seen (λ (r : Receiver). r .count) refl);
       restart = (seen (λ (r : Receiver). cond (r .mark) 1 0) refl, seen (λ (r : Receiver). r .count) refl);
-      empty = (seen (λ (r : Receiver). cond (r .mark) 1 0) refl, seen (λ (r : Receiver). r .count) refl);
     }
 
 pub decisions : Decisions
@@ -71,14 +67,6 @@ pub changes : Changes
 unfolding stored decimal leap daysBefore dayNumber weekday tableFor zoneIn counted serial account twos newMeter used heldIn
 changes =
     record {
-      «with_receiver» = (seen (λ (m : Meter). m .receiver .count) refl, seen (λ (m : Meter). m .mode) refl);
-      «in_mode» = (seen (λ (m : Meter). m .receiver .count) refl, seen (λ (m : Meter). m .attempts) refl);
-      «with_attempts» = (seen (λ (m : Meter). m .attempts) refl, seen (λ (m : Meter). m .attempts) refl);
-      «with_registers» = (seen (λ (m : Meter). m .registers .counters .t1) refl, seen (λ (m : Meter). m .mode) refl);
-      «with_clock» = (seen (λ (g : Registers). g .clock .date .year) refl, seen (λ (g : Registers). g .clock .date .year) refl);
-      «with_account» = (seen (λ (g : Registers). getD (g .account) 0 0) refl, seen (λ (g : Registers). getD (g .account) 9 0) refl);
-      «with_tables» = (seen (λ (g : Registers). getD (g .tables) 0 0) refl, seen (λ (g : Registers). getD (g .tables) 575 0) refl);
-      «with_counters» = (seen (λ (g : Registers). g .counters .t1) refl, seen (λ (g : Registers). g .counters .t4) refl);
       ten = (byte 0 refl, byte 0 refl);
       «with_row» = (byte 144 refl, byte 145 refl);
       «table_for» = (number refl, number refl);

@@ -8,6 +8,7 @@ use Rattle.text.specs.Writing.{holding}
 use Rattle.text.specs.Classes.{between, isDigit, isLetter, isPrintable, isAddress, isValue, matching}
 use Rattle.text.specs.Decimal.{decimal, valueFrom, valueOf, numberAt}
 use Rattle.text.specs.Layout.{layoutText, pattern, agrees, fits}
+use Rattle.clock.specs.declared.Date.{Date}
 use Rattle.clock.specs.declared.Time.{Time}
 use Rattle.clock.specs.Dates.{leap, thirty, daysIn, realDate, realTime}
 use Rattle.values.specs.Registers.{isAccountCharacter, goodAccount, goodRow}
@@ -47,7 +48,6 @@ sets = (
     «next_set» = (seen (λ (r : SetRead). r .next) refl, seen (λ (r : SetRead). r .next) refl);
   },
   record {
-    new = (number refl, number refl);
     next = (λ r d a e. seen (λ (x : SetRead). x .next) refl (e ∙ (λ i. setRead (d i) (a i))), λ r d a e. number refl (ap (λ (x : Reader). x .at) e ∙ (λ i. setRead (d i) (a i) .next)));
   },
   record {
@@ -63,7 +63,7 @@ fields =
       «dirgemist_head_value_serial» = (λ after t. number refl (t .number), λ after t. number refl (t .number));
       «dirgemist_head_value_account» = (λ after t. number refl (t .number), λ r t. byte 0 refl (t .held));
       «dirgemist_head_value_row» = (λ r t. byte 0 refl (t .held), λ r t. byte 24 refl (t .held));
-      «dirgemist_head_value_date» = (number refl, number refl);
+      «dirgemist_head_value_date» = (number refl, seen (λ (d : Date). d .day) refl);
       «dirgemist_head_value_time» = (number refl, seen (λ (t : Time). t .hour) refl);
       «dirgemist_head_value_counter» = (number refl, number refl);
     }

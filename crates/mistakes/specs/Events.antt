@@ -98,5 +98,6 @@ pub record Settling : Type 0 where
 pub record Lent : Type 0 where
   -- no reply to a good write; the lent state as it was
   pub «receive_in_place» : RuledOut (replyOf toldAll) (record { number = 1; length = 0; speed = 5 }) × RuledOut (toldAll .next) told
-  -- NAK's number; the speed of the mode before the session
-  pub «dirgemist_meter_receive» : RuledOut (toldAll .number) 9 × RuledOut (toldAll .speed) 0
+  -- the old tables in the record; NAK in the buffer
+  pub «dirgemist_meter_receive» : RuledOut (toldAll .next) (inMode newMeter 4)
+      × RuledOut (holding (replicate 2048 9) (onWire (toldAll .reply))) (holding (replicate 2048 9) (onWire refused))

@@ -1,4 +1,4 @@
--- Two wrong answers for each call of `receiving`, `deciding` and `changes`.
+-- Two wrong answers for each call of `receiving`, `deciding` and `changes`; but none where the promise is one record literal.
 use mathlib.Core.Bool.{true, false}
 use mathlib.Core.List.{[], _∷_, _++_}
 use lib.ListN.{getD, take, drop, set, replicate}
@@ -12,10 +12,10 @@ use Rattle.receiving.specs.Hearing.{hearing}
 use Rattle.receiving.specs.Receivers.{lastHeld, keptReceiver, restartedReceiver}
 use Rattle.deciding.specs.declared.Verdict.the-variants.{Password, WriteTable}
 use Rattle.deciding.specs.Verdict.{verdict}
-use Rattle.changes.specs.Changes.{withReceiver, inMode, withAttempts, withRegisters, withClock, withAccount, withTables, withCounters}
+use Rattle.changes.specs.Changes.{withTables}
 use Rattle.changes.specs.Zones.{tableFor, zoneIn, counted}
 use Rattle.mistakes.specs.RuledOut.{RuledOut}
-use Rattle.mistakes.specs.Samples.{clockAt, serial, twos, newMeter, used, heldIn}
+use Rattle.mistakes.specs.Samples.{serial, twos, used, heldIn}
 
 -- of `receiving`
 pub record Hearings : Type 0 where
@@ -28,8 +28,6 @@ pub record Hearings : Type 0 where
       × RuledOut (keptReceiver (restartedReceiver 1) 66 false) (record { held = set (restartedReceiver 1 .held) 1 66; count = 1; mark = false })
   -- the mark kept at a restart; the start not held
   pub restart : RuledOut (restartedReceiver 1) (record { held = restartedReceiver 1 .held; count = 1; mark = true }) × RuledOut (restartedReceiver 1) emptyReceiver
-  -- a mark on an empty receiver; a SOH already held
-  pub empty : RuledOut emptyReceiver (record { held = replicate 63 0; count = 0; mark = true }) × RuledOut emptyReceiver (restartedReceiver 1)
 
 -- of `deciding`
 pub record Decisions : Type 0 where
@@ -39,24 +37,6 @@ pub record Decisions : Type 0 where
 
 -- of `changes`
 pub record Changes : Type 0 where
-  -- the old receiver; the mode given up with it
-  pub «with_receiver» : RuledOut (withReceiver (inMode newMeter 4) (restartedReceiver 1)) (inMode newMeter 4)
-      × RuledOut (withReceiver (inMode newMeter 4) (restartedReceiver 1)) (withReceiver newMeter (restartedReceiver 1))
-  -- the receiver kept; the attempts forgiven
-  pub «in_mode» : RuledOut (inMode (heldIn 2 (1 ∷ [])) 4) (heldIn 4 (1 ∷ [])) × RuledOut (inMode (withAttempts newMeter 2) 4) (inMode newMeter 4)
-  -- the old number; one more than told
-  pub «with_attempts» : RuledOut (withAttempts newMeter 2) newMeter × RuledOut (withAttempts newMeter 2) (withAttempts newMeter 3)
-  -- the old registers; the mode given up with them
-  pub «with_registers» : RuledOut (withRegisters (inMode newMeter 4) used) (inMode newMeter 4) × RuledOut (withRegisters (inMode newMeter 4) used) (withRegisters newMeter used)
-  -- the old clock; the time set, and not the date
-  pub «with_clock» : RuledOut (withClock used (clockAt 2001 2 3 4 5 6)) used × RuledOut (withClock used (clockAt 2001 2 3 4 5 6)) (withClock used (clockAt 2000 1 1 4 5 6))
-  -- the old account; one character of it alone
-  pub «with_account» : RuledOut (withAccount used (replicate 10 66)) used × RuledOut (withAccount used (replicate 10 66)) (withAccount used (66 ∷ replicate 9 65))
-  -- the old tables; the first of them alone
-  pub «with_tables» : RuledOut (withTables used (replicate 576 51)) used
-      × RuledOut (withTables used (replicate 576 51)) (withTables used (stored (used .tables) 0 (replicate 24 51)))
-  -- the old counters; the first of them alone
-  pub «with_counters» : RuledOut (withCounters used noCounters) used × RuledOut (withCounters used noCounters) (withCounters used (record { t1 = 0; t2 = 2; t3 = 4; t4 = 8 }))
   -- zeros; one character too far on
   pub ten : RuledOut serial (replicate 10 48) × RuledOut serial (drop 1 serial ++ (0 ∷ []))
   -- the row of table 7 in table 8; its first character alone

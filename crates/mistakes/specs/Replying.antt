@@ -3,7 +3,7 @@ use mathlib.Core.Path.{_≡_}
 use mathlib.Core.List.{List, [], _∷_, _++_}
 use Prim.Native.Nat.{ℕ}
 use denote.Ref.{now}
-use lib.ListN.{length, take, drop, replicate}
+use lib.ListN.{take, drop, replicate}
 use Rattle.clock.specs.Seconds.{dateOf, timeOf}
 use Rattle.values.specs.Texts.{serialText, dateText, timeText, counterText}
 use Rattle.values.specs.Reading.{dateRead, timeRead, counterRead}
@@ -55,8 +55,6 @@ pub record Sets : Type 0 where
 
 -- of `reader::Reader`
 pub record Readers : Type 0 where
-  -- of the place, which is to be 0: the middle of a line; the end of the data
-  pub new : RuledOut {A = ℕ} 0 1 × RuledOut 0 (length twoSets)
   -- the first set again; a place further at the end
   pub next : ((r : Reader) → now (r .«data») ≡ twoSets → r .at ≡ 6 → RuledOut (yields r) (setAt 0 1 1))
       × ((r : Reader) → now (r .«data») ≡ twoSets → r .at ≡ 13 → RuledOut (moved r) (record { «data» = r .«data»; at = 16 }))
@@ -80,8 +78,8 @@ pub record Fields : Type 0 where
   -- zeros in a buffer that is too short; the bytes past the row cleared
   pub «dirgemist_head_value_row» : ((r : ℕ) → Tells (replicate 23 9) 24 (rowRead twos .ok) (rowRead twos .row) r (replicate 23 0) → ⊥)
       × ((r : ℕ) → Tells (replicate 25 9) 24 (rowRead twos .ok) (rowRead twos .row) r (twos ++ (0 ∷ [])) → ⊥)
-  -- 01-02-29 taken; 9, the meter's number, where 25 is the head's
-  pub «dirgemist_head_value_date» : RuledOut (valueNumber (dateRead (dateText (dateOf 2001 2 29)) .ok)) 1 × RuledOut (valueNumber (dateRead (dateText (dateOf 2001 2 29)) .ok)) 9
+  -- 01-02-29 taken; its numbers handed out all the same
+  pub «dirgemist_head_value_date» : RuledOut (valueNumber (dateRead (dateText (dateOf 2001 2 29)) .ok)) 1 × RuledOut (dateRead (dateText (dateOf 2001 2 29)) .date) (dateOf 2001 2 29)
   -- 24:00:00 taken; its numbers handed out all the same
   pub «dirgemist_head_value_time» : RuledOut (valueNumber (timeRead (timeText (timeOf 24 0 0)) .ok)) 1 × RuledOut (timeRead (timeText (timeOf 24 0 0)) .time) (timeOf 24 0 0)
   -- 25 for a good counter; its kWh and no decimals

@@ -1,12 +1,16 @@
 -- Document 01, "The head": a reader keeps its place in the lent data and yields the data sets one by one.
 use mathlib.Core.List.{List}
 use Prim.Native.Nat.{ℕ}
-use denote.Ref.{now}
+use denote.Ref.{RefT, now}
 use Rattle.reading.specs.declared.SetRead.{SetRead}
 use Rattle.reading.specs.Sets.{setRead}
 use Rattle.reading.specs.Whole.{placeAfter}
 use Rattle.reader.specs.declared.Reader.{Reader}
 use Rattle.reader.specs.declared.Placed.{Placed}
+
+-- a reader that has read nothing yet
+abbrev pub atStart : RefT (List ℕ) → Reader
+atStart lent = record { «data» = lent; at = 0 }
 
 -- what a reader answers: the set at its place, the end, or 25
 abbrev pub yields : Reader → SetRead

@@ -2,7 +2,7 @@
 // A struct that holds a slice is walked by hand, so the functions over it only pass values on.
 ghost use mathlib.Core.Path.{_≡_};
 ghost use Rattle.reading.specs.Sets.{setRead};
-ghost use Rattle.reader.specs.Walking.{yields, moved, setAfter};
+ghost use Rattle.reader.specs.Walking.{atStart, yields, moved, setAfter};
 use reading::SetRead;
 
 pub struct Reader<'a> {
@@ -13,7 +13,7 @@ pub struct Reader<'a> {
 impl<'a> Reader<'a> {
     // At the start of the data.
     pub fn new(data: &'a [u8]) -> Reader<'a>
-        ensures { λ r. ⌜ (r .«data» ≡ «data» .entry) × (r .at ≡ 0) ⌝ }
+        ensures { λ r. ⌜ r ≡ atStart («data» .entry) ⌝ }
     {
         Reader { data, at: 0 }
     }
