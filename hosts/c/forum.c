@@ -1,5 +1,5 @@
 /* forum.c: uses the post check and the export as the forum server does, and tries the fixed cases of document 01.
- * Buffers are memory of their exact size. Prints one line, and exits with 1 on any difference. */
+ * Buffers are memory of their exact size, and all 24 frames are compared. Prints one line, and exits with 1 on any difference. */
 #include "exactly.h"
 
 #include "dirgemist.h"
@@ -9,6 +9,7 @@
 #define TABLES 24
 
 static int wrong = 0;
+static int texts = 0;
 
 static void expect(int right, const char *what) {
     if (!right) {
@@ -27,12 +28,29 @@ static size_t post_of(uint8_t *text, int lines) {
     return at + 3;
 }
 
+/* The frames of that post: SOH W1 STX Z(xx;row) ETX BCC with even parity. */
+static void frames_of(uint8_t *frames, int lines) {
+    for (int number = 1; number <= lines; number++) {
+        char frame[2 * DIRGEMIST_FRAME];
+        sprintf(frame, "\001W1\002Z(%02d;111111111111111111111111)\003", number);
+        uint8_t bcc = 0;
+        for (size_t at = 1; at < DIRGEMIST_FRAME - 1; at++) {
+            bcc ^= (uint8_t)frame[at];
+        }
+        frame[DIRGEMIST_FRAME - 1] = (char)bcc;
+        for (size_t at = 0; at < DIRGEMIST_FRAME; at++) {
+            *frames++ = (uint8_t)(frame[at] | __builtin_parity((uint8_t)frame[at]) << 7);
+        }
+    }
+}
+
 /* One text through both functions, in a buffer of `room` bytes of 0x5A; what the export wrote is compared with `frames`. */
 static void try_text(const char *what, const void *text, size_t text_length, size_t room, uint8_t number, size_t length, size_t place,
                      const uint8_t *frames) {
     const uint8_t *own = lent(text, text_length);
     uint8_t *out = exactly(room);
     memset(out, 0x5A, room);
+    texts++;
 
     size_t got_place = 99, got_length = 99;
     uint8_t got = dirgemist_post_check(own, text_length, &got_place);
@@ -57,8 +75,10 @@ int main(void) {
         0x81, 0xD7, 0xB1, 0x82, 0x5A, 0x28, 0x30, 0xB1, 0xBB, 0xB1, 0xB1, 0xB1, 0xB1, 0xB1, 0xB1, 0xB1, 0xB1, 0xB1,
         0xB1, 0xB1, 0xB1, 0xB1, 0xB1, 0xB1, 0xB1, 0xB1, 0xB1, 0xB1, 0xB1, 0xB1, 0xB1, 0xB1, 0xB1, 0xA9, 0x03, 0x06,
     };
-    uint8_t text[DIRGEMIST_LONGEST_POST + 64];
+    static uint8_t text[DIRGEMIST_LONGEST_POST + 64], all_frames[TABLES * DIRGEMIST_FRAME];
 
+    frames_of(all_frames, TABLES);
+    expect(memcmp(all_frames, one_frame, DIRGEMIST_FRAME) == 0, "the first frame, written down here");
     size_t one = post_of(text, 1);
     expect(one == DIRGEMIST_LINE + 3, "length of a line");
     try_text("one line, exact room", text, one, DIRGEMIST_FRAME, DIRGEMIST_DONE, DIRGEMIST_FRAME, 0, one_frame);
@@ -73,8 +93,14 @@ int main(void) {
     size_t longest = post_of(text, TABLES);
     size_t all = (size_t)TABLES * DIRGEMIST_FRAME;
     expect(longest == DIRGEMIST_LONGEST_POST, "length of the longest post");
-    try_text("longest post, exact room", text, longest, all, DIRGEMIST_DONE, all, 0, NULL);
+    try_text("longest post, exact room", text, longest, all, DIRGEMIST_DONE, all, 0, all_frames);
+    try_text("longest post, more room", text, longest, all + 100, DIRGEMIST_DONE, all, 0, all_frames);
     try_text("longest post, room one too small", text, longest, all - 1, DIRGEMIST_NO_ROOM, 0, 0, NULL);
+    for (int lines = 1; lines <= TABLES; lines++) {
+        size_t length = post_of(text, lines), frames = (size_t)lines * DIRGEMIST_FRAME;
+        try_text("a post of some lines", text, length, frames, DIRGEMIST_DONE, frames, 0, all_frames);
+        try_text("a post of some lines, room one too small", text, length, frames - 1, DIRGEMIST_NO_ROOM, 0, 0, NULL);
+    }
     for (size_t at = 0; at < longest; at++) {
         uint8_t kept = text[at];
         text[at] = 0x7F;
@@ -98,6 +124,6 @@ int main(void) {
     if (wrong) {
         return 1;
     }
-    printf("forum: every case as document 01 says\n");
+    printf("forum in C: %d texts, as document 01 has them\n", texts);
     return 0;
 }
