@@ -10,7 +10,7 @@ use lib.Count.{ones}
 use lib.Bits.{bitOr, bitAnd, bitXor, xor-lt, or-shr, or-zero-l, or-add-and, and-le-r}
 use lib.Dec.{eqb, lit<}
 use Rattle.line.specs.Characters.{damagedAt, undamagedAt, seven}
-use Rattle.line.specs.Balance.{balanceOf}
+use Rattle.line.specs.Balance.{balanceOf, turned}
 use Rattle.line.proofs.Runs.{and-left, and-right, allBelow, below-all}
 
 -- the top bit evens the seven data bits; with the byte's own it says whether the ones of the byte are even
@@ -35,14 +35,14 @@ pub stray-counts : (b : ℕ) → b < 256 → bitXor (balanceOf b) b / 128 ≡ on
 unfolding balances strays
 stray-counts b h = eqb-true _ _ (and-right (evens b) (strays b) (balanced b h))
 
--- the product is no more than sixteen bits
-pub factor-lt : (b : ℕ) → b < 256 → bitXor b 0x66 < 256
-factor-lt b h = xor-lt 8 b 0x66 h (lit< tt)
+-- the product is that of two bytes
+pub turned-lt : (b : ℕ) → b < 256 → turned b < 256
+turned-lt b h = xor-lt 8 b _ h (lit< tt)
 
-pub product-lt : (b : ℕ) → b < 256 → b * bitXor b 0x66 + 0x30 < 65536
-product-lt b h =
-    let f : bitXor b 0x66 < 256 = factor-lt b h in
-    let p : b * bitXor b 0x66 ≤ b * 255 = mul-le-mul-left b (omega arith) in
+pub product-le : (b : ℕ) → b < 256 → b * turned b ≤ 255 * 255
+product-le b h =
+    let t : turned b < 256 = turned-lt b h in
+    let p : b * turned b ≤ b * 255 = mul-le-mul-left b (omega arith) in
     omega arith
 
 -- what is gathered by its bits is nothing just where each part is
