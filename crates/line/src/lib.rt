@@ -67,11 +67,11 @@ pub fn undamaged(s: &[u8]) -> bool
     ensures { λ r. ⌜ r ≡ undamagedAll (now (s .entry)) ⌝ }
 {
     let mut strays: u8 = 0;
-    let mut i = 0;
-    while i < s.len() {
-        let b = s[i];
+    let mut at = 0;
+    while at < s.len() {
+        let b = s[at];
         strays = strays | (balance(b) ^ b);
-        i += 1;
+        at += 1;
     }
     strays / 128 == 0
 }

@@ -16,10 +16,10 @@ use Rattle.line.proofs.undamaged.Reads as reads
 use Rattle.line.proofs.undamaged.Lts as lts
 
 abbrev Inv-loop : tie.InvT-loop
-Inv-loop s strays₀ i₀ strays i = (i ≤ length s) × ((eqb (strays / 128) 0 && every undamagedAt (drop i s)) ≡ every undamagedAt s)
+Inv-loop s strays₀ at₀ strays at = (at ≤ length s) × ((eqb (strays / 128) 0 && every undamagedAt (drop at s)) ≡ every undamagedAt s)
 
 abbrev μ-loop : tie.MeasureT-loop
-μ-loop s strays₀ i₀ strays i = length s - i
+μ-loop s strays₀ at₀ strays at = length s - at
 
 loop-holds : tie.Need-loop-holds Inv-loop μ-loop
 loop-holds c = (omega arith, refl)
@@ -28,20 +28,20 @@ loop-again : tie.Need-loop-again Inv-loop μ-loop
 loop-again c =
     let at-loop = c .before .before .before in
     let s = at-loop .before .before .args .s .now in
-    let i = at-loop .loop .i in
+    let at = at-loop .loop .at in
     let strays = at-loop .loop .strays in
-    let byte = getD s i 0 in
-    let small : byte < 256 = omega (arith, c .before .shared-slice-known2 .given i) in (
+    let byte = getD s at 0 in
+    let small : byte < 256 = omega (arith, c .before .shared-slice-known2 .given at) in (
       omega arith,
       rw (c .balance .ensures, none-stray strays byte small)
-          (every-turn undamagedAt s i (eqb (strays / 128) 0) _ (c .before .before .loop-test .taken) (at-loop .loop .inv .1)),
+          (every-turn undamagedAt s at (eqb (strays / 128) 0) _ (omega arith) (at-loop .loop .inv .1)),
     )
 
 returns : tie.Need-returns Inv-loop μ-loop
 unfolding undamagedAll
 returns c =
     let s = c .before .before .before .args .s .now in
-    every-end undamagedAt s (c .before .loop .i) (eqb (c .before .loop .strays / 128) 0) _ (c .loop-test .left) (c .before .loop .inv .1)
+    every-end undamagedAt s (c .before .loop .at) (eqb (c .before .loop .strays / 128) 0) _ (omega arith) (c .before .loop .inv .1)
 
 pub undamaged-spec : {M : Type 1} → statement M
 undamaged-spec =
