@@ -1,3 +1,4 @@
 pub mod Parity
 pub mod Xor
 pub mod Runs
+pub mod Evening

@@ -2,15 +2,14 @@
 -- The parity bit is the eighth binary digit, and the ones of a number are counted apart above and below it (`ones-cat`).
 -- Assumes nothing.
 use mathlib.Core.Path.{_≡_, refl, sym, ap, _∙_}
-use mathlib.Core.Bool.{Bool, true, false, not, _&&_}
+use mathlib.Core.Bool.{false, not}
 use Prim.Native.Nat.{ℕ, zero, suc, _+_, _*_, _/_, _%_, _^_, _<_}
 use native.Mathlib.Nat.{mod-lt, zero-lt-suc, div-add-mod'}
 use native.Mathlib.Omega.{arith}
 use borrow.Author.Tests.{eqb-true, eq-eqb, not-false}
 use lib.Count.{ones, ones-cat}
-use lib.Bits.{bitOr, or-mod}
 use lib.Dec.{eqb}
-use Rattle.line.specs.Characters.{damagedAt, undamagedAt, seven, sent}
+use Rattle.line.specs.Characters.{damagedAt, seven, sent}
 
 ones-digit : (q : ℕ) → q < 2 → ones q ≡ q
 unfolding ones
@@ -71,25 +70,3 @@ undamaged-is-sent b h d =
 -- an undamaged byte is determined by its seven bits
 pub undamaged-determined : (a b : ℕ) → a < 256 → b < 256 → damagedAt a ≡ false → damagedAt b ≡ false → seven a ≡ seven b → a ≡ b
 undamaged-determined a b ha hb da db e = sym (undamaged-is-sent a ha da) ∙ ap sent e ∙ undamaged-is-sent b hb db
-
--- counts gathered by their bits are all even just where what they are gathered into is
-both-even : (x y : ℕ) → x < 2 → y < 2 → eqb (bitOr x y) 0 ≡ (eqb x 0 && eqb y 0)
-both-even zero zero hx hy = refl
-both-even zero (suc zero) hx hy = refl
-both-even zero (suc (suc y)) hx hy = absurd (omega arith)
-both-even (suc zero) zero hx hy = refl
-both-even (suc zero) (suc zero) hx hy = refl
-both-even (suc zero) (suc (suc y)) hx hy = absurd (omega arith)
-both-even (suc (suc x)) y hx hy = absurd (omega arith)
-
-pub gathered-even : (a b : ℕ) → eqb (bitOr a b % 2) 0 ≡ (eqb (a % 2) 0 && eqb (b % 2) 0)
-gathered-even a b =
-    ap (λ (n : ℕ). eqb n 0) (or-mod a b 1) ∙ both-even (a % 2) (b % 2) (mod-lt a (zero-lt-suc 1)) (mod-lt b (zero-lt-suc 1))
-
-pub undamaged-even : (b : ℕ) → undamagedAt b ≡ eqb (ones b % 2) 0
-unfolding damagedAt
-undamaged-even b = twice (eqb (ones b % 2) 0)
-  where
-    twice : (t : Bool) → not (not t) ≡ t
-    twice true = refl
-    twice false = refl

@@ -2,4 +2,5 @@ pub mod Quoted
 pub mod Controls
 pub mod Runs
 pub mod Characters
+pub mod Balance
 pub mod Checksum

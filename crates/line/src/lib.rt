@@ -4,6 +4,7 @@ ghost use mathlib.Core.Path.{_≡_};
 ghost use mathlib.Core.List.{map};
 ghost use lib.ListN.{length, take, drop};
 ghost use Rattle.line.specs.Characters.{damagedAt, seven, sent, undamagedAll};
+ghost use Rattle.line.specs.Balance.{balanceOf};
 ghost use Rattle.line.specs.Checksum.{bccOf};
 
 pub const SOH: u8 = 0x01;
@@ -20,11 +21,18 @@ pub const CR: u8 = 0x0D;
 
 pub const NAK: u8 = 0x15;
 
-// Whether a wire byte is damaged: its count of ones is not even.
+// A byte whose top bit evens the seven data bits of `b`. No ones are counted: a product has that bit, which the proof tries of all 256.
+fn balance(b: u8) -> u8
+    ensures { λ r. ⌜ r ≡ balanceOf b ⌝ }
+{
+    ((b as u16 * (b ^ 0x66) as u16 + 0x30) % 256) as u8
+}
+
+// Whether a wire byte is damaged: its top bit is not the one that evens the others.
 pub fn damaged(b: u8) -> bool
     ensures { λ r. ⌜ r ≡ damagedAt b ⌝ }
 {
-    u8::count_ones(b) % 2 != 0
+    (balance(b) ^ b) / 128 != 0
 }
 
 // The seven data bits of a wire byte.
@@ -38,8 +46,7 @@ pub fn character(b: u8) -> u8
 pub fn wire(c: u8) -> u8
     ensures { λ r. ⌜ r ≡ sent c ⌝ }
 {
-    let s = c % 128;
-    s + (u8::count_ones(s) % 2) as u8 * 128
+    c % 128 + balance(c) / 128 * 128
 }
 
 // The BCC of a run of bytes: the exclusive-or of their seven bits.
@@ -55,17 +62,18 @@ pub fn bcc(s: &[u8]) -> u8
     sum % 128
 }
 
-// Whether no byte of a run is damaged. The counts of ones are gathered by their bits, of which the lowest tells; the loop has one way out.
+// Whether no byte of a run is damaged. Differences are gathered by their bits, of which the top one tells; the loop has one way out.
 pub fn undamaged(s: &[u8]) -> bool
     ensures { λ r. ⌜ r ≡ undamagedAll (now (s .entry)) ⌝ }
 {
-    let mut counts: u8 = 0;
-    let mut i = 0;
-    while i < s.len() {
-        counts = counts | (u8::count_ones(s[i]) as u8);
-        i += 1;
+    let mut strays: u8 = 0;
+    let mut at = 0;
+    while at < s.len() {
+        let b = s[at];
+        strays = strays | (balance(b) ^ b);
+        at += 1;
     }
-    counts % 2 == 0
+    strays / 128 == 0
 }
 
 // Puts the parity bit on every byte of a run.

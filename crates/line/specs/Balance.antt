@@ -1,0 +1,11 @@
+-- How the parity bit is worked out without counting ones. No promise outside this crate speaks of it.
+use Prim.Native.Nat.{ℕ, _+_, _*_, _%_}
+use lib.Bits.{bitXor}
+
+-- a byte with four of its bits turned round: the product's other factor
+abbrev pub turned : ℕ → ℕ
+turned b = bitXor b 0x66
+
+-- a byte whose top bit is the one that evens the seven data bits of b
+unfoldable pub balanceOf : ℕ → ℕ
+balanceOf b = (b * turned b + 0x30) % 256
