@@ -2,13 +2,10 @@
 use mathlib.Core.List.{List, [], _∷_, _++_}
 use Prim.Native.Nat.{ℕ}
 use Rattle.text.specs.Decimal.{decimal}
+pub use Rattle.text.specs.DataSet.{DataSet}
 use Rattle.clock.specs.declared.Date.{Date}
 use Rattle.clock.specs.declared.Time.{Time}
 use Rattle.values.specs.Texts.{serialText, tableText, dateText, timeText, counterText}
-
-pub record DataSet : Type 0 where
-  pub address : List ℕ
-  pub value : List ℕ
 
 -- address(value) CR LF
 unfoldable pub dataSet : List ℕ → List ℕ → List ℕ

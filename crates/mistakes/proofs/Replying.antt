@@ -24,7 +24,7 @@ use Rattle.reading.specs.declared.SetRead.{SetRead}
 use Rattle.reading.specs.Sets.{ofKind, leading, startsWith3, isSet, addressLength, valueLength, setHere, setRead}
 use Rattle.reader.specs.declared.Reader.{Reader}
 use Rattle.reader.specs.declared.Placed.{Placed}
-use Rattle.reader.specs.Walking.{placeAfter}
+use Rattle.reading.specs.Whole.{placeAfter}
 use Rattle.headlink.specs.Telling.{valueNumber}
 use Rattle.mistakes.specs.Samples.{serial, twos}
 use Rattle.mistakes.specs.Replying.{block, misSummed, twoSets, Blocks, Sets, Readers, Walks, Fields}

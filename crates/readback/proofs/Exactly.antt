@@ -16,7 +16,7 @@ use Rattle.datasets.specs.Good.{goodSet}
 use Rattle.reading.specs.Sets.{ofKind, leading, startsWith3, setAt, isSet, addressLength, valueLength, setRead}
 use Rattle.reading.specs.declared.SetRead.{SetRead}
 use Rattle.reading.proofs.Inside.{shown, set-closed}
-use Rattle.readback.specs.Sets.{setOf}
+use Rattle.reading.specs.Whole.{setOf}
 use Rattle.readback.proofs.Lines.{line-opened}
 
 led-on : (p : ℕ → Bool) (c k : ℕ) (s : List ℕ) (b : Bool) → p c ≡ b → every p (take k s) ≡ true → every p (take (cond b (suc k) 0) (c ∷ s)) ≡ true

@@ -15,7 +15,7 @@ use Rattle.datasets.specs.Sets.{DataSet, dataSet, lineOf, linesOf}
 use Rattle.datasets.specs.Good.{goodSet, goodSets}
 use Rattle.reading.specs.Sets.{ofKind, leading, startsWith3, endAt, setAt, setRead}
 use Rattle.reading.proofs.Deciding.{no-end, past-end, line-end, by-value}
-use Rattle.readback.specs.Sets.{lastLine, setOf, also, readFrom, readAll}
+use Rattle.reading.specs.Whole.{lastLine, setOf, also, readFrom, readAll}
 
 -- a run of one kind, up to a character of another
 pub leads : (p : ℕ → Bool) (xs : List ℕ) (c : ℕ) (rest : List ℕ) (most : ℕ) → every p xs ≡ true → length xs < most → p c ≡ false

@@ -10,8 +10,9 @@ use lib.ListN.{length, drop}
 use denote.Ref.{now}
 use Rattle.reading.specs.declared.SetRead.{SetRead}
 use Rattle.reading.specs.Sets.{startsWith3, endAt, malformedAt, setAt, isSet, addressLength, valueLength, setHere, setRead}
+use Rattle.reading.specs.Whole.{placeAfter}
 use Rattle.reader.specs.declared.Reader.{Reader}
-use Rattle.reader.specs.Walking.{yields, moved, placeAfter, setAfter}
+use Rattle.reader.specs.Walking.{yields, moved, setAfter}
 
 pub stays : (s : List ℕ) (at : ℕ) → (setRead s at .number ≡ 1 → ⊥) → setRead s at .next ≡ at
 unfolding setRead setHere

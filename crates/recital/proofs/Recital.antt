@@ -26,7 +26,7 @@ use Rattle.replies.specs.Answers.{askedSets, askedData}
 use Rattle.replies.specs.Block.{factSets, energySets, tableSets, blockSets, blockData}
 use Rattle.replies.proofs.Good.{asked-good, block-good, asked-shown, block-shown}
 use Rattle.blocks.specs.Parts.{isContent}
-use Rattle.readback.specs.Sets.{Found, lastLine, readAll}
+use Rattle.reading.specs.Whole.{Found, lastLine, readAll}
 use Rattle.readback.proofs.Blocks.{block-long, part-of-block, part-is-content, block-strips, block-strips-into}
 use Rattle.readback.proofs.Lines.{sets-read-back, answer-reads-back}
 use Rattle.deciding.specs.declared.Verdict.the-variants.{Read}

@@ -21,7 +21,7 @@ use Rattle.replies.specs.Shown.{total, rowOf}
 use Rattle.replies.specs.Shown as shown
 use Rattle.blocks.specs.Stripping.{strippedOf, strippedInto}
 use Rattle.blocks.specs.Parts.{partOf}
-use Rattle.readback.specs.Sets.{readAll}
+use Rattle.reading.specs.Whole.{readAll}
 
 -- what one data set says: a register with its value; energy 0 is the total, 1 to 4 are the zones
 pub data Register : Type 0 where

@@ -4,8 +4,9 @@ use Prim.Native.Nat.{ℕ, _-_}
 use native.Mathlib.Omega.{arith}
 use Rattle.reading.specs.declared.SetRead.{SetRead}
 use Rattle.reading.specs.Sets.{setRead}
+use Rattle.reading.specs.Whole.{placeAfter}
 use Rattle.reader.specs.declared.Placed.{Placed}
-use Rattle.reader.specs.Walking.{placeAfter, setAfter}
+use Rattle.reader.specs.Walking.{setAfter}
 use Rattle.reader.proofs.Staying.{place-stays, place-turn, reached}
 use Rattle.reader.proofs.set_after.Statement.{statement}
 use Rattle.reader.proofs.set_after.Tie as tie

@@ -1,12 +1,12 @@
--- Document 01, "The head": all data sets of some lines, read one after the other.
+-- Document 01, "The head": all data sets of some data, read one after the other.
 use mathlib.Core.Bool.{cond}
 use mathlib.Core.List.{List, [], _∷_}
 use Prim.Native.Nat.{ℕ, zero, suc, _+_}
 use lib.Dec.{eqb}
 use lib.ListN.{length, take, drop}
-use Rattle.datasets.specs.Sets.{DataSet}
+use Rattle.text.specs.DataSet.{DataSet}
 use Rattle.reading.specs.Sets.{setRead}
 use Rattle.reading.specs.declared.SetRead.{SetRead}
 
 -- ! CR LF
 unfoldable pub lastLine : List ℕ
@@ -36,3 +36,8 @@ readFrom (suc more) s at =
 -- all of them: there are no more sets than characters
 unfoldable pub readAll : List ℕ → Found
 readAll s = readFrom (suc (length s)) s 0
+
+-- where a reader stands after so many sets from a place on
+unfoldable pub placeAfter : List ℕ → ℕ → ℕ → ℕ
+placeAfter s zero at = at
+placeAfter s (suc n) at = placeAfter s n (setRead s at .next)
