@@ -121,9 +121,9 @@ fn receiver_good(meter: &Meter) -> bool {
         bad |= eight(&meter.held, at) & eight(forbidden, at);
     }
     let start = if count == 0 {
-        !meter.mark
+        meter.mark == 0
     } else {
-        meter.held[0] == first
+        (meter.mark <= 1) & (meter.held[0] == first)
     };
     (bad == 0) & start
 }
@@ -175,7 +175,7 @@ fn parity(character: u8) -> u8 {
 
 fn empty(meter: &mut Meter) {
     meter.count = 0;
-    meter.mark = false;
+    meter.mark = 0;
     meter.held = [0; PLACES];
 }
 
@@ -193,7 +193,7 @@ fn restart(meter: &mut Meter, first: u8) {
 fn hold(meter: &mut Meter, character: u8, damaged: bool) {
     meter.held[usize::from(meter.count)] = character;
     meter.count += 1;
-    meter.mark |= damaged;
+    meter.mark |= u8::from(damaged);
 }
 
 /// A received character.
@@ -223,7 +223,7 @@ fn line_character(meter: &mut Meter, character: u8, damaged: bool, buffer: &mut 
         return answer(0, 0, 0);
     }
     if character == LF {
-        let ours = !meter.mark && called(&meter.held[..count], &meter.serial);
+        let ours = meter.mark == 0 && called(&meter.held[..count], &meter.serial);
         empty(meter);
         if !ours {
             return answer(0, 0, 0);
@@ -265,7 +265,7 @@ fn confirmation_character(
         hold(meter, character, damaged);
         return answer(0, 0, 0);
     }
-    let good = !meter.mark
+    let good = meter.mark == 0
         && !damaged
         && character == LF
         && meter.held[..3] == [ACK, b'0', b'5']
@@ -289,7 +289,7 @@ fn confirmation_character(
 fn frame_character(meter: &mut Meter, character: u8, damaged: bool, buffer: &mut [u8]) -> Answer {
     let count = usize::from(meter.count);
     if count > 0 && meter.held[count - 1] == ETX {
-        meter.mark |= damaged;
+        meter.mark |= u8::from(damaged);
         return match decide(meter, count, character, buffer) {
             Ok(length) => {
                 empty(meter);
@@ -328,7 +328,7 @@ fn printable(character: u8) -> bool {
 
 /// The length of the reply, or the number of the refusal.
 fn decide(meter: &mut Meter, count: usize, check: u8, buffer: &mut [u8]) -> Result<usize, u8> {
-    if meter.mark {
+    if meter.mark == 1 {
         return Err(3);
     }
     // Unused places are 0 and the first is SOH, so that the whole receiver can be summed.

@@ -210,11 +210,7 @@ fn state(fields: &[&[u8]]) -> Option<Meter> {
     Some(Meter {
         mode: decimal(mode)?,
         count: decimal(count)?,
-        mark: match decimal::<u8>(mark)? {
-            0 => false,
-            1 => true,
-            _ => return None,
-        },
+        mark: decimal(mark)?,
         held: exactly::<PLACES>(held)?,
         serial: exactly(serial)?,
         account: exactly(account)?,
@@ -231,7 +227,7 @@ pub fn dump(meter: &Meter) -> String {
     let mut line = String::new();
     put(
         &mut line,
-        format_args!("{} {} {} ", meter.mode, meter.count, u8::from(meter.mark)),
+        format_args!("{} {} {} ", meter.mode, meter.count, meter.mark),
     );
     for field in [
         &meter.held[..],
@@ -264,7 +260,7 @@ pub fn dump(meter: &Meter) -> String {
 }
 
 /// One or more decimal digits whose value fits.
-fn decimal<N: TryFrom<u64>>(field: &[u8]) -> Option<N> {
+pub(crate) fn decimal<N: TryFrom<u64>>(field: &[u8]) -> Option<N> {
     if field.is_empty() {
         return None;
     }
@@ -281,7 +277,7 @@ fn decimal<N: TryFrom<u64>>(field: &[u8]) -> Option<N> {
 }
 
 /// The bytes of a field in lower-case hex, `-` for none.
-fn hex(field: &[u8]) -> Option<Vec<u8>> {
+pub(crate) fn hex(field: &[u8]) -> Option<Vec<u8>> {
     if field == b"-" {
         return Some(Vec::new());
     }
@@ -303,7 +299,7 @@ fn nibble(digit: u8) -> Option<u8> {
 }
 
 /// A hex field of just this many bytes.
-fn exactly<const N: usize>(field: &[u8]) -> Option<[u8; N]> {
+pub(crate) fn exactly<const N: usize>(field: &[u8]) -> Option<[u8; N]> {
     hex(field)?.try_into().ok()
 }
 

@@ -1,5 +1,6 @@
 pub mod bench;
 pub mod head;
+pub mod headbench;
 pub mod line;
 pub mod meter;
 pub mod post;

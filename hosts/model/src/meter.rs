@@ -46,7 +46,8 @@ pub struct Clock {
 pub struct Meter {
     pub mode: u8,
     pub count: u8,
-    pub mark: bool,
+    /// 1 where a held character came damaged, else 0.
+    pub mark: u8,
     pub held: [u8; PLACES],
     pub serial: [u8; 10],
     pub account: [u8; 10],
@@ -244,7 +245,7 @@ impl Meter {
         Meter {
             mode: LISTENING,
             count: 0,
-            mark: false,
+            mark: 0,
             held: [0; PLACES],
             serial: *b"0000000000",
             account: *b"          ",
@@ -300,7 +301,7 @@ impl Meter {
         let (held, unused) = self.held.split_at(count);
         held.iter().all(|&character| character <= 127)
             && unused.iter().all(|&place| place == 0)
-            && (count > 0 || !self.mark)
+            && self.mark <= u8::from(count > 0)
             && (count == 0 || first.is_none() || first == Some(held[0]))
     }
 
@@ -334,7 +335,7 @@ impl Meter {
 
     fn empty(&mut self) {
         self.count = 0;
-        self.mark = false;
+        self.mark = 0;
         self.held = [0; PLACES];
     }
 
@@ -342,7 +343,7 @@ impl Meter {
     fn hold(&mut self, got: Option<u8>) {
         self.held[usize::from(self.count)] = got.unwrap_or(0);
         self.count += 1;
-        self.mark |= got.is_none();
+        self.mark |= u8::from(got.is_none());
     }
 
     fn restart(&mut self, first: u8) {
@@ -399,7 +400,7 @@ impl Meter {
             // Dropped, damaged or not.
         } else if got == Some(LF) {
             let line = [self.held(), &[LF]].concat();
-            let called = !self.mark && self.called_by(&line);
+            let called = self.mark == 0 && self.called_by(&line);
             self.empty();
             if called {
                 self.enter(CONFIRMATION);
@@ -425,7 +426,7 @@ impl Meter {
             return Step::quiet(0);
         }
         let choice = match self.held() {
-            [ACK, b'0', b'5', choice, CR, LF] if !self.mark => Some(*choice),
+            [ACK, b'0', b'5', choice, CR, LF] if self.mark == 0 => Some(*choice),
             _ => None,
         };
         self.enter(LISTENING);
@@ -445,7 +446,7 @@ impl Meter {
     fn frame_character(&mut self, got: Option<u8>) -> Step {
         if self.held().last() == Some(&ETX) {
             // The BCC, whatever it is.
-            self.mark |= got.is_none();
+            self.mark |= u8::from(got.is_none());
             let frame = self.held().to_vec();
             let decision = self.decide(&frame, got.unwrap_or(0));
             self.empty();
@@ -479,7 +480,7 @@ impl Meter {
 
     /// Decides a whole frame: the reply, or the number of its refusal.
     fn decide(&mut self, frame: &[u8], check: u8) -> Result<Vec<u8>, u8> {
-        if self.mark {
+        if self.mark == 1 {
             return Err(3);
         }
         if bcc(&frame[1..]) != check {

@@ -1,11 +1,8 @@
 //! The speed of the head's reading: the proved library beside Rust by hand, in one run, on the same
 //! data block.
 
-#[path = "../../../trials/src/head_link.rs"]
-#[allow(dead_code)]
-mod head_link;
-
 use benchmark::fast_head;
+use dirgemist::head as library;
 use model::head::{self, answer, Clock, Registers, Step};
 use std::cell::RefCell;
 use std::hint::black_box;
@@ -34,6 +31,19 @@ fn registers() -> Registers {
         tables: std::array::from_fn(|table| {
             std::array::from_fn(|hour| b'1' + ((7 * table + 3 * hour) % 4) as u8)
         }),
+    }
+}
+
+/// The library's step in the words of the other side.
+#[inline(always)]
+fn library_next(sets: &[u8], at: usize) -> Step {
+    let step = library::next(sets, at);
+    Step {
+        answer: step.number,
+        address_length: step.address_length,
+        value_length: step.value_length,
+        next: step.next,
+        place: step.place,
     }
 }
 
@@ -95,7 +105,7 @@ fn medians(mut rust: impl FnMut(), mut library: impl FnMut()) -> (f64, f64) {
 fn all_equal(wire: &[u8], block: &[u8], sets: &[u8]) -> bool {
     let strips = |reply: &[u8]| {
         let (mut one, mut other) = (vec![0x5A; reply.len() + 1], vec![0x5A; reply.len() + 1]);
-        fast_head::strip(reply, &mut one) == head_link::strip(reply, &mut other) && one == other
+        fast_head::strip(reply, &mut one) == library::strip(reply, &mut other) && one == other
     };
     let hurt = |bytes: &[u8], place: usize, bit: u32| {
         let mut bytes = bytes.to_vec();
@@ -104,19 +114,19 @@ fn all_equal(wire: &[u8], block: &[u8], sets: &[u8]) -> bool {
     };
     let bits = || 0..8;
     strips(wire)
-        && fast_head::part(block) == head_link::part(block)
-        && read_all(fast_next, sets) == read_all(head_link::next, sets)
+        && fast_head::part(block) == library::part(block)
+        && read_all(fast_next, sets) == read_all(library_next, sets)
         && (0..wire.len()).all(|place| bits().all(|bit| strips(&hurt(wire, place, bit))))
         && (0..block.len()).all(|place| {
             bits().all(|bit| {
                 let block = hurt(block, place, bit);
-                fast_head::part(&block) == head_link::part(&block)
+                fast_head::part(&block) == library::part(&block)
             })
         })
         && (0..sets.len()).all(|place| {
             bits().all(|bit| {
                 let sets = hurt(sets, place, bit);
-                fast_head::next(&sets, place / 36 * 36) == head_link::next(&sets, place / 36 * 36)
+                fast_head::next(&sets, place / 36 * 36) == library_next(&sets, place / 36 * 36)
             })
         })
 }
@@ -140,7 +150,7 @@ fn main() -> ExitCode {
             ));
         },
         || {
-            black_box(head_link::strip(
+            black_box(library::strip(
                 black_box(&wire),
                 black_box(&mut out.borrow_mut()),
             ));
@@ -151,7 +161,7 @@ fn main() -> ExitCode {
             black_box(fast_part(black_box(&block)));
         },
         || {
-            black_box(head_link::part(black_box(&block)));
+            black_box(library::part(black_box(&block)));
         },
     );
     let called = medians(
@@ -159,7 +169,7 @@ fn main() -> ExitCode {
             black_box(read_all(fast_next, black_box(&sets)));
         },
         || {
-            black_box(read_all(head_link::next, black_box(&sets)));
+            black_box(read_all(library_next, black_box(&sets)));
         },
     );
     let inlined = medians(
@@ -167,7 +177,7 @@ fn main() -> ExitCode {
             black_box(fast_head::read_all(black_box(&sets)));
         },
         || {
-            black_box(read_all(head_link::next, black_box(&sets)));
+            black_box(read_all(library_next, black_box(&sets)));
         },
     );
     println!(

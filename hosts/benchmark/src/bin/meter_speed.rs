@@ -1,13 +1,12 @@
 //! The speed of the meter that is changed in place: the proved library beside Rust by hand, in one run, on the
 //! same bytes. A character in programming mode and the data block, the whole state checked at every call.
 
-#[path = "../../../trials/src/firmware_link.rs"]
-mod firmware_link;
-
 use benchmark::fast_meter;
+use dirgemist::meter::{self as library, Event};
 use model::meter::{bcc, with_parity, Answer, Clock, Meter, BLOCK, ROOM};
 use std::hint::black_box;
 use std::time::Instant;
+use trials::record::record_of;
 
 /// Batches; the median counts. They are short, so that whatever else the machine does spoils few.
 const BATCHES: usize = 401;
@@ -40,13 +39,18 @@ impl Side for ByHand {
     }
 }
 
-impl Side for firmware_link::Meter {
-    fn of(meter: &Meter) -> firmware_link::Meter {
-        meter.into()
+impl Side for library::Meter {
+    fn of(meter: &Meter) -> library::Meter {
+        record_of(meter)
     }
 
     fn character(&mut self, byte: u8, buffer: &mut [u8]) -> Answer {
-        firmware_link::receive(self, byte, buffer)
+        let answer = self.meet(Event::Character(byte), buffer);
+        Answer {
+            number: answer.number,
+            speed: answer.speed,
+            length: answer.length,
+        }
     }
 
     fn wait(&mut self, held: &[u8; 5]) {
@@ -118,14 +122,14 @@ fn play(side: &mut impl Side, bytes: &[u8], buffer: &mut [u8]) {
 /// Nanoseconds for each character of such a stream.
 fn stream(bytes: &[u8]) -> (f64, f64) {
     let start = meter(4);
-    let (mut rust, mut library) = (ByHand::of(&start), firmware_link::Meter::of(&start));
+    let (mut rust, mut library) = (ByHand::of(&start), library::Meter::of(&start));
     let (mut one, mut other) = ([0xAA; ROOM], [0xAA; ROOM]);
     let times = medians(
         TURNS as usize * bytes.len(),
         || play(&mut rust, bytes, &mut one),
         || play(&mut library, bytes, &mut other),
     );
-    assert_eq!(library, (&rust.0).into());
+    assert_eq!(library, record_of(&rust.0));
     assert_eq!((rust.0.mode, rust.0.count), (4, 0));
     assert_eq!(one, other);
     times
@@ -143,7 +147,7 @@ fn send(side: &mut impl Side, buffer: &mut [u8]) {
 /// Nanoseconds for the call that sends the data block.
 fn block() -> (f64, f64) {
     let start = meter(1);
-    let (mut rust, mut library) = (ByHand::of(&start), firmware_link::Meter::of(&start));
+    let (mut rust, mut library) = (ByHand::of(&start), library::Meter::of(&start));
     let (mut one, mut other) = ([0xAA; ROOM], [0xAA; ROOM]);
     let times = medians(
         TURNS as usize,

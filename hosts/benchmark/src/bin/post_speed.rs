@@ -1,9 +1,7 @@
 //! The speed of the check and the export: the proved library beside Rust by hand, in one run,
 //! on the same bytes.
 
-#[path = "../../../trials/src/forum.rs"]
-mod forum;
-
+use dirgemist::post as forum;
 use model::post::{self, Table, TABLES};
 use std::hint::black_box;
 use std::process::ExitCode;

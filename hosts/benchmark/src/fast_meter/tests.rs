@@ -1,26 +1,7 @@
 //! The fast meter and the model side by side: answers, buffers and states must be equal.
 
 use super::*;
-
-/// xorshift64*.
-struct Chance(u64);
-
-impl Chance {
-    fn below(&mut self, end: usize) -> usize {
-        self.0 ^= self.0 >> 12;
-        self.0 ^= self.0 << 25;
-        self.0 ^= self.0 >> 27;
-        (self.0.wrapping_mul(0x2545_F491_4F6C_DD1D) >> 33) as usize % end
-    }
-
-    fn byte(&mut self) -> u8 {
-        self.below(256) as u8
-    }
-
-    fn of(&mut self, characters: &[u8]) -> u8 {
-        characters[self.below(characters.len())]
-    }
-}
+use trials::chance::Chance;
 
 struct Pair {
     fast: Meter,
@@ -83,7 +64,7 @@ impl Pair {
                 false => parity(character),
                 true => match chance.below(3) {
                     0 => parity(character) ^ 0x80,
-                    1 => parity(chance.of(b"\x01\x02\x03\n\r/0\0")),
+                    1 => parity(chance.one_of(b"\x01\x02\x03\n\r/0\0")),
                     _ => chance.byte(),
                 },
             };
@@ -106,15 +87,15 @@ fn framed(command: &[u8], data: Option<&[u8]>) -> Vec<u8> {
 fn state(chance: &mut Chance, mode: u8) -> Meter {
     let mut meter = Meter::blank();
     meter.mode = mode;
-    meter.serial = meter.serial.map(|_| chance.of(b"0123456789"));
-    meter.account = meter.account.map(|_| chance.of(b"09AZaz _"));
-    meter.password = meter.password.map(|_| chance.of(b"0123456789"));
+    meter.serial = meter.serial.map(|_| chance.one_of(b"0123456789"));
+    meter.account = meter.account.map(|_| chance.one_of(b"09AZaz _"));
+    meter.password = meter.password.map(|_| chance.one_of(b"0123456789"));
     meter.attempts = chance.below(4) as u8;
     meter.counters = meter.counters.map(|_| match chance.below(2) {
         0 => chance.below(1_000_000_000) as u32,
         _ => 999_999_999 - chance.below(5) as u32,
     });
-    meter.tables = meter.tables.map(|row| row.map(|_| chance.of(b"1234")));
+    meter.tables = meter.tables.map(|row| row.map(|_| chance.one_of(b"1234")));
     let year = 2000 + chance.below(100) as u16;
     let month = 1 + chance.below(12) as u8;
     meter.clock = Clock {
@@ -138,7 +119,7 @@ fn message(chance: &mut Chance, meter: &Meter) -> Vec<u8> {
             2 => [b"/", &[b'x'; 40][..26 + chance.below(8)], b"\n"].concat(),
             _ => [b"/?", &serial[..3], b" ", &serial[3..], b"!\r\n"].concat(),
         },
-        1 => vec![ACK, b'0', b'5', chance.of(b"011172"), CR, LF],
+        1 => vec![ACK, b'0', b'5', chance.one_of(b"011172"), CR, LF],
         2 => match chance.below(5) {
             0 => framed(b"P1", Some(b"()")),
             1 => framed(b"P1", Some(b"(1234567a)")),
@@ -155,10 +136,12 @@ fn command(chance: &mut Chance) -> Vec<u8> {
         0 => framed(b"R1", Some(b"T()")),
         1 => framed(b"R1", Some(b"L()")),
         2 => framed(b"R1", Some(b"K()")),
-        3 => framed(b"R1", Some(&[b'E', chance.of(b"012345"), b'(', b')'])),
+        3 => framed(b"R1", Some(&[b'E', chance.one_of(b"012345"), b'(', b')'])),
         4 => framed(b"R1", Some(format!("Z({table:02})").as_bytes())),
         5 | 6 => {
-            let row: String = (0..24).map(|_| char::from(chance.of(b"1234"))).collect();
+            let row: String = (0..24)
+                .map(|_| char::from(chance.one_of(b"1234")))
+                .collect();
             framed(b"W1", Some(format!("Z({table:02};{row})").as_bytes()))
         }
         7 => framed(b"W1", Some(b"K(a_B 9zZ0 x)")),
@@ -183,7 +166,10 @@ fn command(chance: &mut Chance) -> Vec<u8> {
             0 => framed(b"B0", None),
             1 => framed(b"P1", Some(b"()")),
             2 => framed(b"B0", Some(b"")),
-            _ => framed(&[chance.of(b"BPRWx"), chance.of(b"01")], Some(b"T()")),
+            _ => framed(
+                &[chance.one_of(b"BPRWx"), chance.one_of(b"01")],
+                Some(b"T()"),
+            ),
         },
     }
 }
@@ -195,7 +181,7 @@ fn spoil(chance: &mut Chance, meter: &mut Meter) {
         0 => meter.mode = byte % 8,
         1 => meter.count = byte % 80,
         2 => meter.held[chance.below(PLACES)] = byte,
-        3 => meter.mark = !meter.mark,
+        3 => meter.mark = byte % 4,
         4 => meter.serial[chance.below(10)] = byte,
         5 => meter.account[chance.below(10)] = byte,
         6 => meter.password[chance.below(8)] = byte,
@@ -212,7 +198,7 @@ fn spoil(chance: &mut Chance, meter: &mut Meter) {
 
 #[test]
 fn equal_on_random_events() {
-    let mut chance = Chance(20_000_101);
+    let mut chance = Chance::new(20_000_101);
     let mut pair = Pair {
         fast: Meter::blank(),
         slow: Meter::blank(),
@@ -259,7 +245,7 @@ fn equal_on_random_events() {
 
 #[test]
 fn data_block_of_any_state() {
-    let mut chance = Chance(63);
+    let mut chance = Chance::new(63);
     for _ in 0..200 {
         let meter = state(&mut chance, 0);
         let mut buffer = [0xAA; ROOM];

@@ -26,7 +26,7 @@ fn sign_on_by_hand() {
 fn dump_comes_back_through_set() {
     let mut bench = Bench::default();
     bench.meter.mode = 77;
-    bench.meter.mark = true;
+    bench.meter.mark = 255;
     bench.meter.held[62] = 255;
     bench.meter.counters[3] = u32::MAX;
     bench.meter.clock.year = u16::MAX;

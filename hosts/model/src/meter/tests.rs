@@ -212,11 +212,11 @@ fn sign_on_by_all_three_lines() {
 fn restart_clears_the_mark() {
     let mut meter = meter_in(LISTENING);
     wire(&mut meter, &[0xAF, 0x01]);
-    assert!(meter.mark);
+    assert_eq!(meter.mark, 1);
     assert_eq!(send(&mut meter, b"/?!\r\n").0, 1);
     let mut meter = meter_in(PROGRAMMING);
     wire(&mut meter, &[0x81, 0x01]);
-    assert!(meter.mark);
+    assert_eq!(meter.mark, 1);
     assert!(is_done(send(&mut meter, b"\x01B0\x03\x71")));
 }
 

@@ -1,13 +1,14 @@
 //! Scripts by chance, each line aimed at the state that the lines before it left: mostly what would
 //! lead on, often what comes near to it, sometimes noise.
 
-use crate::chance::Chance;
-use crate::player::{wire, Played, Player};
+use crate::player::{wire, Player};
 use crate::reached::Reached;
 use crate::sweeps::new_line;
-use crate::words::*;
 use model::bench::dump;
 use model::meter::{Clock, Meter, ETX, LF, PLACES, SOH, STX};
+use trials::chance::Chance;
+use trials::program::Played;
+use trials::words::*;
 
 /// One script of about so many events.
 pub fn script(name: String, seed: u64, events: u64, reached: &mut Reached) -> Played {
@@ -352,13 +353,13 @@ impl Aim<'_> {
                 0 => meter.mode = chance.between(5, 255) as u8,
                 1 => meter.count = chance.byte(),
                 2 => meter.held[chance.below(PLACES)] = chance.byte(),
-                3 => meter.mark = true,
+                3 => meter.mark = chance.between(1, 255) as u8,
                 4 => meter.serial[chance.below(10)] = chance.byte(),
                 5 => meter.account[chance.below(10)] = chance.byte(),
                 6 => meter.password[chance.below(8)] = chance.byte(),
                 7 => meter.attempts = chance.between(3, 255) as u8,
                 8 => meter.clock = any_clock(chance),
-                9 => meter.counters[chance.below(4)] = chance.next() as u32,
+                9 => meter.counters[chance.below(4)] = chance.bits() as u32,
                 _ => meter.tables[chance.below(24)][chance.below(24)] = chance.byte(),
             }
         }
@@ -404,7 +405,7 @@ impl Aim<'_> {
                 1 => 1_000_000,
                 2 => 1_000_001,
                 3 => u32::MAX,
-                4 => self.chance.next() as u32,
+                4 => self.chance.bits() as u32,
                 5 => self.chance.below(1_000_001) as u32,
                 _ => {
                     // Just up to the roll-over of some zone, when it is near.

@@ -1,7 +1,8 @@
 //! Fixed scripts with transcripts written from document 01: its facts, its traps and its edges.
 //! Texts stand without parity, checksums as the last character; nothing here asks the model.
 
-use crate::player::Played;
+use crate::player::state_after;
+use trials::program::Played;
 
 const ALL_ONES: &str = "111111111111111111111111";
 const ACK: &str = "\x06";
@@ -197,6 +198,7 @@ impl Fixed {
             script: Vec::new(),
             transcript: String::new(),
             answered: Vec::new(),
+            state: state_after,
         };
         let mut answered = 0;
         for (line, answers) in self.lines {
@@ -1064,10 +1066,19 @@ fn script_rules() -> Vec<Fixed> {
             .line(&format!("set {}", &shown[..shown.len() - 2]), "error")
             .line(&format!("set {shown}31"), "error")
             .line(&format!("set 256{}", &shown[1..]), "error")
-            .line(&format!("set 0 0 2{}", &shown[5..]), "error")
+            .line(&format!("set 0 0 256{}", &shown[5..]), "error")
             .dump(MADE)
             .line(&format!("set 255{}", &shown[1..]), "ok")
             .line("tick", "14 0"),
+        Fixed::listening("a mark is any number of 8 bits, and well-formed as 0 and 1")
+            .line(&format!("set 0 0 2{}", &shown[5..]), "ok")
+            .line("byte af", "14 0 0 -")
+            .line("silence", "14 0 0 -")
+            .line("up", "14 0")
+            .dump(Shown { mark: 2, ..MADE })
+            .line(&format!("set 0 0 255{}", &shown[5..]), "ok")
+            .line("tick", "14 0")
+            .dump(Shown { mark: 255, ..MADE }),
         Fixed::listening("no bytes, no answer")
             .line("bytes -", "")
             .line("tick", "1 0")

@@ -3,19 +3,16 @@
 //! `meter PROGRAM [SEED [EVENTS]]`; PROGRAM may be `'hosts/run bench'`, with its arguments
 
 mod aims;
-mod chance;
 mod fixed;
 mod player;
-mod program;
 mod reached;
 mod sweeps;
-mod words;
 
-use chance::Chance;
-use player::Played;
 use reached::Reached;
 use std::process::ExitCode;
 use std::time::Instant;
+use trials::chance::Chance;
+use trials::program::{self, Played};
 
 const SEED: u64 = 1;
 const EVENTS: u64 = 1_500_000;
@@ -73,7 +70,7 @@ fn trial() -> Result<String, String> {
     println!("events of the sweeps: {}", reached.events);
     let mut seeds = Chance::new(seed);
     while reached.events < events {
-        let seed = seeds.next();
+        let seed = seeds.bits();
         let most = SCRIPT_EVENTS.min(events - reached.events);
         let name = format!("by chance, {seed:016x}");
         hold(aims::script(name, seed, most, &mut reached))?;

@@ -4,15 +4,7 @@
 use crate::reached::Reached;
 use model::bench::{dump, parse, put_hex, Bench, Command};
 use model::meter::{with_parity, Meter};
-
-/// A finished script with the model's transcript.
-pub struct Played {
-    pub name: String,
-    pub script: Vec<u8>,
-    pub transcript: String,
-    /// Answer lines written before each line of the script.
-    pub answered: Vec<usize>,
-}
+use trials::program::Played;
 
 pub struct Player<'a> {
     name: String,
@@ -103,8 +95,18 @@ impl<'a> Player<'a> {
             script: self.script,
             transcript: self.transcript,
             answered: self.answered,
+            state: state_after,
         }
     }
+}
+
+/// The state that some lines leave, to be set again.
+pub fn state_after(lines: &[&[u8]]) -> String {
+    let mut bench = Bench::default();
+    for line in lines {
+        bench.answer(line, &mut String::new());
+    }
+    format!("  the state before the line: set {}\n", dump(&bench.meter))
 }
 
 /// Characters with good parity.

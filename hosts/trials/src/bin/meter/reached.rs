@@ -138,6 +138,7 @@ const RANGES: &[&str] = &[
     "held above 127",
     "unused place",
     "mark of an empty receiver",
+    "mark",
     "first of mode 0",
     "first of mode 2",
     "first of mode 3",
@@ -303,7 +304,7 @@ impl Reached {
         self.unreachable(before);
         let got = data_bits(byte);
         let count = usize::from(before.count);
-        if got == Some(0) && after.count > before.count && !after.mark {
+        if got == Some(0) && after.count > before.count && after.mark == 0 {
             self.reach("NUL held without the mark");
         }
         match before.mode {
@@ -316,7 +317,7 @@ impl Reached {
     fn unreachable(&mut self, before: &Meter) {
         let held = before.held();
         let inside = held.get(1..).unwrap_or(&[]);
-        if before.mark && !held.contains(&0) {
+        if before.mark == 1 && !held.contains(&0) {
             self.reach("unreachable: mark with no 0 held");
         }
         match before.mode {
@@ -349,7 +350,7 @@ impl Reached {
             None if count == 31 => self.reach("32nd character is damaged"),
             None => self.line_places[count] += 1,
             Some(b'/') => {
-                if before.mark {
+                if before.mark == 1 {
                     self.reach("'/' clears the mark");
                 }
                 if count == 31 {
@@ -363,7 +364,7 @@ impl Reached {
                     _ => {}
                 }
                 let zero_line = before.held() == b"/?000 0000000!\r";
-                self.reach(match (after.mode, before.mark) {
+                self.reach(match (after.mode, before.mark == 1) {
                     (1, _) if before.held() == b"/?!\r" => "sign-on by /?!",
                     (1, _) if zero_line && before.serial == *b"0000000000" => {
                         "sign-on by the zero serial that is ours"
@@ -395,12 +396,12 @@ impl Reached {
         if count < 5 {
             return;
         }
-        if before.held[0] == 0 && before.mark {
+        if before.held[0] == 0 && before.mark == 1 {
             self.reach("confirmation that starts damaged");
         }
         self.reach(match (after.mode, before.held[3]) {
             (2, _) => "confirmation '1'",
-            _ if before.mark || got.is_none() => "confirmation with the mark",
+            _ if before.mark == 1 || got.is_none() => "confirmation with the mark",
             (_, b'0') if before.held().starts_with(b"\x06050\r") && got == Some(LF) => {
                 "confirmation '0'"
             }
@@ -429,7 +430,7 @@ impl Reached {
                 _ => self.frame_places[count] += 1,
             }
         }
-        if got == Some(SOH) && before.mark {
+        if got == Some(SOH) && before.mark == 1 {
             self.reach("SOH clears the mark");
         }
         if count == 63 {
@@ -438,7 +439,7 @@ impl Reached {
                 Some(ETX) => "64th character is ETX (frame of 65)",
                 _ => "64th character is too long",
             });
-            if before.mark && got != Some(SOH) {
+            if before.mark == 1 && got != Some(SOH) {
                 self.reach("64th character, mark set");
             }
         }
@@ -720,7 +721,11 @@ fn broken_ranges(meter: &Meter) -> Vec<&'static str> {
     let (held, unused) = meter.held.split_at(count.min(63));
     must(held.iter().all(|&c| c < 128), "held above 127");
     must(unused.iter().all(|&c| c == 0), "unused place");
-    must(!held.is_empty() || !meter.mark, "mark of an empty receiver");
+    must(
+        !held.is_empty() || meter.mark != 1,
+        "mark of an empty receiver",
+    );
+    must(meter.mark < 2, "mark");
     if let Some(&first) = held.first() {
         match meter.mode {
             0 => must(first == b'/', "first of mode 0"),

@@ -1,11 +1,12 @@
 //! Scripts that go through a whole range, place by place, where chance could leave gaps.
 
-use crate::chance::Chance;
-use crate::player::{wire, Played, Player};
+use crate::player::{wire, Player};
 use crate::reached::Reached;
-use crate::words::*;
 use model::bench::{dump, LINE_MOST};
 use model::meter::{days_in_month, Clock, Meter, ETX, LF, PLACES, SOH, STX};
+use trials::chance::Chance;
+use trials::program::Played;
+use trials::words::*;
 
 /// All sweeps, each a script of its own.
 pub fn all(
@@ -521,7 +522,18 @@ fn broken_states(chance: &mut Chance, player: &mut Player) {
                 }),
             ));
         }
-        breakings.push((mode as u8, Box::new(|meter, _| meter.mark = true)));
+        breakings.push((mode as u8, Box::new(|meter, _| meter.mark = 1)));
+        for mark in [2, 3, 128, 129, 254, 255] {
+            breakings.push((
+                mode as u8,
+                Box::new(move |meter, chance| {
+                    let mut held = vec![b'0'; chance.between(1, most)];
+                    held[0] = first;
+                    *meter = holding(meter.clone(), &held, false);
+                    meter.mark = mark;
+                }),
+            ));
+        }
         if mode != 1 {
             for start in [0, 1, b'/', 2, 0x2E, 0x30, 0x81, 0xAF] {
                 if start != first {

@@ -1,7 +1,8 @@
 //! The comparison of an exporter with the model: numbers, places, lengths and every byte of
-//! the buffer and of what lies around it.
+//! the buffer, around which nothing may be touched.
 
 use model::post;
+use trials::memory::Guarded;
 
 /// Something that checks and exports posts.
 pub trait Exporter {
@@ -43,14 +44,11 @@ pub struct Tally {
     pub no_room: u64,
 }
 
-/// Memory before and behind the buffer that has to stay as it is.
-pub const AROUND: usize = 48;
-
 /// Compares an exporter with the model, text by text, and counts.
 pub struct Comparison<'a> {
     exporter: &'a dyn Exporter,
     pub tally: Tally,
-    given: Vec<u8>,
+    given: Guarded,
     wanted: Vec<u8>,
 }
 
@@ -59,7 +57,7 @@ impl<'a> Comparison<'a> {
         Comparison {
             exporter,
             tally: Tally::default(),
-            given: Vec::new(),
+            given: Guarded::new(1_024),
             wanted: Vec::new(),
         }
     }
@@ -92,13 +90,12 @@ impl<'a> Comparison<'a> {
     /// The export into a buffer of `room` bytes, filled with a pattern first.
     fn export(&mut self, text: &[u8], room: usize) -> Result<(), String> {
         let shift = self.tally.texts.wrapping_mul(0x6D) as usize;
-        self.given.clear();
-        self.given
-            .extend((0..room + 2 * AROUND).map(|at| (at * 31 + shift) as u8));
-        self.wanted.clone_from(&self.given);
-        let lent = AROUND..AROUND + room;
-        let given = self.exporter.export(text, &mut self.given[lent.clone()]);
-        let wanted = post::export(text, &mut self.wanted[lent]);
+        self.wanted.clear();
+        self.wanted
+            .extend((0..room).map(|at| (at * 31 + shift) as u8));
+        let buffer = self.given.copy(&self.wanted);
+        let given = self.exporter.export(text, buffer);
+        let wanted = post::export(text, &mut self.wanted);
         match wanted.0 {
             post::DONE => self.tally.done += 1,
             post::NO_ROOM => self.tally.no_room += 1,
@@ -117,14 +114,13 @@ impl<'a> Comparison<'a> {
                 shown(text)
             ));
         }
-        if self.given != self.wanted {
-            let differs = |at: &usize| self.given[*at] != self.wanted[*at];
-            let at = (0..self.given.len()).find(differs).unwrap_or(0);
+        if *buffer != self.wanted[..] {
+            let differs = |at: &usize| buffer[*at] != self.wanted[*at];
+            let at = (0..room).find(differs).unwrap_or(0);
             return Err(format!(
-                "export, room {room}: buffer byte {} wanted {:02X}, given {:02X}\n{}",
-                at as isize - AROUND as isize,
+                "export, room {room}: buffer byte {at} wanted {:02X}, given {:02X}\n{}",
                 self.wanted[at],
-                self.given[at],
+                buffer[at],
                 shown(text)
             ));
         }

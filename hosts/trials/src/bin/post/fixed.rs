@@ -1,8 +1,9 @@
 //! Named cases with the answers written down here, so that the model is held to them too.
 
-use crate::compare::{Exporter, Text, AROUND};
+use crate::compare::{Exporter, Text};
 use crate::texts::{flat, longest};
 use model::post::{text_of, Table, TABLES};
+use trials::memory::Guarded;
 
 /// What a case wants.
 enum Wanted {
@@ -235,25 +236,24 @@ pub fn hold(case: &Case, exporter: &dyn Exporter) -> Result<(), String> {
         return fault(format!("check wanted {wanted:?}, given {given:?}"));
     }
     let limit = frames.len();
+    let mut memory = Guarded::new(limit + 36);
     for room in [0, 1, limit.saturating_sub(1), limit, limit + 1, limit + 36] {
-        // The memory around the buffer is looked at too.
-        let mut out: Vec<u8> = (0..room + 2 * AROUND).map(|at| 0xC3 ^ at as u8).collect();
-        let mut kept = out.clone();
+        let mut kept: Vec<u8> = (0..room).map(|at| 0xC3 ^ at as u8).collect();
+        let out = memory.copy(&kept);
         let wanted = match case.wanted {
             Place(place) => (20, 0, place),
             Frames(_) if room < limit => (21, 0, 0),
             Frames(_) => {
-                kept[AROUND..AROUND + limit].copy_from_slice(frames);
+                kept[..limit].copy_from_slice(frames);
                 (1, limit, 0)
             }
         };
-        let given = exporter.export(text, &mut out[AROUND..AROUND + room]);
+        let given = exporter.export(text, out);
         if given != wanted {
             return fault(format!("room {room} wanted {wanted:?}, given {given:?}"));
         }
-        if out != kept {
-            let what = format!("room {room}, {AROUND} bytes before and behind it");
-            return fault(format!("{what}: wanted {kept:02X?}, given {out:02X?}"));
+        if *out != kept[..] {
+            return fault(format!("room {room}: wanted {kept:02X?}, given {out:02X?}"));
         }
     }
     Ok(())

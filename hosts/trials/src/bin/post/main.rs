@@ -2,18 +2,17 @@
 //!
 //!     post [--selftest] [--seed NUMBER] [--texts NUMBER]
 
-mod chance;
 mod compare;
 mod fixed;
-#[path = "../../forum.rs"]
-mod forum;
 mod texts;
 mod wrong;
 
-use chance::Chance;
-use compare::{Comparison, Exporter};
+use compare::{Comparison, Exporter, Tally};
+use std::cell::{Cell, RefCell};
 use std::ops::ControlFlow;
 use std::process::ExitCode;
+use trials::chance::Chance;
+use trials::memory::Guarded;
 
 const SEED: u64 = 131;
 const TEXTS: u64 = 2_000_000;
@@ -21,15 +20,37 @@ const TEXTS: u64 = 2_000_000;
 /// The texts by chance that a wrong exporter may pass at most before it is found out.
 const PATIENCE: u64 = 20_000;
 
-/// The proved library.
-struct Library;
+/// The proved library. Every other text lies in guarded memory, the rest where they are, with what
+/// stands behind them.
+struct Library {
+    texts: RefCell<Guarded>,
+    calls: Cell<u64>,
+}
+
+impl Library {
+    fn new() -> Library {
+        Library {
+            texts: RefCell::new(Guarded::new(4_096)),
+            calls: Cell::new(0),
+        }
+    }
+
+    fn on<T>(&self, text: &[u8], call: impl FnOnce(&[u8]) -> T) -> T {
+        self.calls.set(self.calls.get() + 1);
+        if self.calls.get().is_multiple_of(2) {
+            call(text)
+        } else {
+            call(self.texts.borrow_mut().copy(text))
+        }
+    }
+}
 
 impl Exporter for Library {
     fn check(&self, text: &[u8]) -> (u8, usize) {
-        forum::check(text)
+        self.on(text, dirgemist::post::check)
     }
     fn export(&self, text: &[u8], out: &mut [u8]) -> (u8, usize, usize) {
-        forum::export(text, out)
+        self.on(text, |text| dirgemist::post::export(text, out))
     }
 }
 
@@ -94,12 +115,13 @@ fn selftest(seed: u64) -> Result<(), String> {
 }
 
 /// The fixed cases, the families and then chance, up to `texts` in all.
-fn trial(seed: u64, texts: u64) -> Result<(Comparison<'static>, usize), String> {
+fn trial(seed: u64, texts: u64) -> Result<(Tally, usize), String> {
+    let library = Library::new();
     let cases = fixed::cases();
     for case in &cases {
-        fixed::hold(case, &Library)?;
+        fixed::hold(case, &library)?;
     }
-    let mut comparison = Comparison::new(&Library);
+    let mut comparison = Comparison::new(&library);
     let mut chance = Chance::new(seed);
     let families = texts::families(|text, rooms| {
         let chosen = match rooms {
@@ -119,7 +141,7 @@ fn trial(seed: u64, texts: u64) -> Result<(Comparison<'static>, usize), String> 
         let rooms = texts::rooms(text.bytes(), &mut chance);
         comparison.text(&text, &rooms)?;
     }
-    Ok((comparison, cases.len()))
+    Ok((comparison.tally, cases.len()))
 }
 
 fn run() -> Result<(), String> {
@@ -133,8 +155,7 @@ fn run() -> Result<(), String> {
     if asked.selftest {
         return Ok(());
     }
-    let (comparison, cases) = trial(asked.seed, asked.texts)?;
-    let tally = comparison.tally;
+    let (tally, cases) = trial(asked.seed, asked.texts)?;
     println!(
         "post: {} posts among the texts; exports done {}, refused with 20 {}, with 21 {}",
         tally.posts, tally.done, tally.not_a_post, tally.no_room

@@ -1,9 +1,9 @@
 //! The texts of the trial: whole families gone through one by one, then chance.
 
-use crate::chance::Chance;
 use crate::compare::Text;
 use model::post::{text_of, Row, Table, HOURS, LAST, LINE, LONGEST, TABLES};
 use std::ops::ControlFlow;
+use trials::chance::Chance;
 
 /// Where the row stands in a line.
 const ROW: std::ops::Range<usize> = 9..9 + HOURS;
@@ -57,7 +57,7 @@ pub fn rooms(text: &[u8], chance: &mut Chance) -> Vec<usize> {
     if text.len() == limit + LAST.len() && text.ends_with(LAST) {
         vec![limit, limit.saturating_sub(1), other]
     } else {
-        vec![if chance.once_in(2) { limit } else { other }]
+        vec![if chance.one_in(2) { limit } else { other }]
     }
 }
 
@@ -150,7 +150,7 @@ pub fn families<B>(
 
 /// A text by chance, of any kind.
 pub fn any(chance: &mut Chance) -> Text {
-    let kind = chance.pick(KINDS);
+    let kind = chance.one_of(KINDS);
     kind(chance)
 }
 
@@ -179,7 +179,7 @@ const KINDS: &[fn(&mut Chance) -> Text] = &[
 /// A row: one zone all day, two by turns, or any.
 fn row(chance: &mut Chance) -> Row {
     let zones = *b"1234";
-    let (one, other) = (chance.pick(&zones), chance.pick(&zones));
+    let (one, other) = (chance.one_of(&zones), chance.one_of(&zones));
     let mut row = [one; HOURS];
     match chance.below(3) {
         0 => {}
@@ -188,7 +188,7 @@ fn row(chance: &mut Chance) -> Row {
             let to = from + chance.below(HOURS - from);
             row[from..=to].fill(other);
         }
-        _ => row.fill_with(|| chance.pick(&zones)),
+        _ => row.fill_with(|| chance.one_of(&zones)),
     }
     row
 }
@@ -220,7 +220,7 @@ fn tables(chance: &mut Chance) -> Vec<Table> {
 fn whole(chance: &mut Chance) -> Text {
     let mut memory = post(chance);
     let length = memory.len();
-    if chance.once_in(2) {
+    if chance.one_in(2) {
         memory.extend_from_within(..);
     }
     Text::cut(memory, length)
@@ -252,9 +252,9 @@ fn beginning(chance: &mut Chance) -> Text {
 /// A byte instead of `old`: one that comes near, one bit wrong, the next one, or any.
 fn instead(old: u8, chance: &mut Chance) -> u8 {
     match chance.below(4) {
-        0 => chance.pick(NEAR),
+        0 => chance.one_of(NEAR),
         1 => old ^ (1 << chance.below(8)),
-        2 => old.wrapping_add(chance.pick(&[1, 255])),
+        2 => old.wrapping_add(chance.one_of(&[1, 255])),
         _ => chance.byte(),
     }
 }
@@ -263,7 +263,7 @@ fn damaged(chance: &mut Chance, times: usize) -> Text {
     let mut text = post(chance);
     // Often all in one line, so that each meets the other.
     let start = chance.below(text.len() / LINE) * LINE;
-    let near = chance.once_in(2);
+    let near = chance.one_in(2);
     for _ in 0..times {
         let column = if near {
             start + chance.below(LINE)
@@ -280,7 +280,7 @@ fn one_less_or_more(chance: &mut Chance) -> Text {
     let mut text = post(chance);
     for _ in 0..1 + chance.below(2) {
         let column = chance.below(text.len());
-        if chance.once_in(2) {
+        if chance.one_in(2) {
             text.remove(column);
         } else {
             let byte = instead(text[column], chance);
@@ -311,10 +311,10 @@ fn repeated(chance: &mut Chance) -> Text {
     let one = chance.below(lines.len());
     let mut again = lines[one].clone();
     // The same table twice, at times with another row.
-    if chance.once_in(2) {
+    if chance.one_in(2) {
         again[ROW].copy_from_slice(&row(chance));
     }
-    let to = if chance.once_in(2) {
+    let to = if chance.one_in(2) {
         one + 1
     } else {
         chance.below(lines.len() + 1)
@@ -327,15 +327,15 @@ fn repeated(chance: &mut Chance) -> Text {
 fn trailing(chance: &mut Chance) -> Text {
     let mut text = post(chance);
     match chance.below(7) {
-        0 => text.push(chance.pick(NEAR)),
+        0 => text.push(chance.one_of(NEAR)),
         1 => text.push(chance.byte()),
         2 => text.extend(post(chance)),
         3 => text.extend(LAST),
         4 => text.extend(b"\x01W1\x02K(somebody__)\x03\x15"),
-        5 => text.extend(vec![chance.pick(NEAR); LINE]),
+        5 => text.extend(vec![chance.one_of(NEAR); LINE]),
         _ => {
             let length = text.len() + chance.below(LONG + 1 - text.len());
-            let byte = chance.pick(NEAR);
+            let byte = chance.one_of(NEAR);
             text.resize(length, byte);
         }
     }
@@ -344,7 +344,7 @@ fn trailing(chance: &mut Chance) -> Text {
 
 /// CR and LF missing, doubled, turned about or in other company, in one line or in all.
 fn line_ends(chance: &mut Chance) -> Text {
-    let end = chance.pick::<&[u8]>(&[
+    let end = chance.one_of::<&[u8]>(&[
         b"\n",
         b"\r",
         b"",
@@ -362,7 +362,7 @@ fn line_ends(chance: &mut Chance) -> Text {
     ]);
     let mut lines = lines(chance);
     lines.push(LAST.to_vec());
-    let only = (!chance.once_in(4)).then(|| chance.below(lines.len()));
+    let only = (!chance.one_in(4)).then(|| chance.below(lines.len()));
     for (at, line) in lines.iter_mut().enumerate() {
         if only.is_none_or(|only| only == at) {
             line.truncate(line.len() - 2);
@@ -380,7 +380,7 @@ fn numbers(chance: &mut Chance) -> Text {
         1 => digits(25 + chance.below(5)),
         2 => digits(30 + chance.below(70)),
         3 => digits(chance.below(25)),
-        4 => [chance.pick(b"0123/: "), chance.pick(b"0123456789/: ;(")],
+        4 => [chance.one_of(b"0123/: "), chance.one_of(b"0123456789/: ;(")],
         _ => [chance.byte(), chance.byte()],
     };
     let at = chance.below(lines.len());
@@ -413,9 +413,9 @@ fn crafted(chance: &mut Chance) -> Text {
     let at = chance.below(lines.len());
     let mut row = row(chance).to_vec();
     row.truncate(chance.below(HOURS + 1));
-    row.extend(chance.pick(HIDDEN));
+    row.extend(chance.one_of(HIDDEN));
     // At times just as long as a row, so that the line's own end is where it should be.
-    if chance.once_in(2) {
+    if chance.one_in(2) {
         row.resize(HOURS, b'1');
     }
     let mut line = lines[at][..ROW.start].to_vec();
@@ -441,7 +441,7 @@ fn many_lines(chance: &mut Chance) -> Text {
         line[ROW].copy_from_slice(&row(chance));
         text.extend(line);
     }
-    if !chance.once_in(4) {
+    if !chance.one_in(4) {
         text.extend(LAST);
     }
     text.into()
@@ -450,7 +450,7 @@ fn many_lines(chance: &mut Chance) -> Text {
 /// The last line missing, early, twice, alone or not quite itself.
 fn last_line(chance: &mut Chance) -> Text {
     let mut lines = lines(chance);
-    let odd = chance.pick::<&[u8]>(&[
+    let odd = chance.one_of::<&[u8]>(&[
         b"",
         b"!",
         b"!\r",
@@ -486,7 +486,7 @@ fn tens(chance: &mut Chance) -> Text {
     let next = line(number);
     let length = text.len() + 5 + chance.below(6);
     text.extend(next);
-    if chance.once_in(2) {
+    if chance.one_in(2) {
         text.truncate(length);
         return text.into();
     }
@@ -503,13 +503,13 @@ fn random(chance: &mut Chance) -> Text {
 
 /// Characters that posts have, in any order, alone or below good lines.
 fn alphabet(chance: &mut Chance) -> Text {
-    let mut text = if chance.once_in(2) {
+    let mut text = if chance.one_in(2) {
         lines(chance).concat()
     } else {
         Vec::new()
     };
     let length = length(chance).max(text.len());
-    text.resize_with(length, || chance.pick(b"1234567890131.0.()!\r\n"));
+    text.resize_with(length, || chance.one_of(b"1234567890131.0.()!\r\n"));
     text.into()
 }
 

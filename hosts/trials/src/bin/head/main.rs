@@ -1,13 +1,16 @@
 //! Compares the proved head with the model, call by call, on cases good and bad.
 //! `head [seed]` ends with the count of equal cases, or shows the first difference and fails.
 
-#[path = "../head_link.rs"]
-mod head_link;
+mod proved;
 
-use ::model::head::{self as model, answer, Clock, Command, Kind, Registers, Step};
+use ::model::head::{self as model, answer, Clock, Command, Kind, Step};
+use proved::Proved;
 use std::fmt::Debug;
 use std::process::ExitCode;
 use std::time::Instant;
+use trials::chance::Chance;
+use trials::head_words::{ACCOUNT, ADDRESS, DIGITS, EDGES, VALUE, ZONES};
+use trials::memory::Guarded;
 
 /// A head under trial: the proved one, or a wrong one that the trial must notice.
 trait Head {
@@ -17,29 +20,6 @@ trait Head {
     fn next(&self, sets: &[u8], at: usize) -> Step;
     fn set_after(&self, sets: &[u8], count: usize) -> (usize, Step);
     fn value(&self, kind: Kind, value: &[u8]) -> (u8, Vec<u32>);
-}
-
-struct Proved;
-
-impl Head for Proved {
-    fn build(&self, command: &Command, out: &mut [u8]) -> (u8, usize) {
-        head_link::build(command, out)
-    }
-    fn strip(&self, reply: &[u8], out: &mut [u8]) -> (u8, usize) {
-        head_link::strip(reply, out)
-    }
-    fn part(&self, stripped: &[u8]) -> (u8, usize, usize) {
-        head_link::part(stripped)
-    }
-    fn next(&self, sets: &[u8], at: usize) -> Step {
-        head_link::next(sets, at)
-    }
-    fn set_after(&self, sets: &[u8], count: usize) -> (usize, Step) {
-        head_link::set_after(sets, count)
-    }
-    fn value(&self, kind: Kind, value: &[u8]) -> (u8, Vec<u32>) {
-        head_link::value(kind, value)
-    }
 }
 
 /// The model's part in the form of the call: a refused part is empty and starts at 0.
@@ -62,139 +42,8 @@ fn ruled_set_after(sets: &[u8], count: usize) -> (usize, Step) {
     (at, model::next(sets, at))
 }
 
-// Chance, the same for the same seed.
-
-struct Chance(u64);
-
-impl Chance {
-    fn number(&mut self) -> u64 {
-        self.0 = self.0.wrapping_add(0x9E37_79B9_7F4A_7C15);
-        let mut n = self.0;
-        n = (n ^ (n >> 30)).wrapping_mul(0xBF58_476D_1CE4_E5B9);
-        n = (n ^ (n >> 27)).wrapping_mul(0x94D0_49BB_1331_11EB);
-        n ^ (n >> 31)
-    }
-
-    fn below(&mut self, limit: usize) -> usize {
-        (self.number() % limit as u64) as usize
-    }
-
-    fn between(&mut self, least: usize, most: usize) -> usize {
-        least + self.below(most - least + 1)
-    }
-
-    fn byte(&mut self) -> u8 {
-        self.number() as u8
-    }
-
-    fn one_in(&mut self, count: usize) -> bool {
-        self.below(count) == 0
-    }
-
-    fn pick(&mut self, from: &[u8]) -> u8 {
-        from[self.below(from.len())]
-    }
-
-    fn text(&mut self, from: &[u8], length: usize) -> Vec<u8> {
-        (0..length).map(|_| self.pick(from)).collect()
-    }
-
-    fn texts<const N: usize>(&mut self, from: &[u8]) -> [u8; N] {
-        std::array::from_fn(|_| self.pick(from))
-    }
-
-    /// A byte that is near the edge of some rule, or any.
-    fn odd_byte(&mut self) -> u8 {
-        if self.one_in(3) {
-            self.byte()
-        } else {
-            self.pick(EDGES)
-        }
-    }
-
-    /// A clock that is mostly real.
-    fn clock(&mut self) -> Clock {
-        let spoilt = |me: &mut Chance, good: usize| {
-            if me.one_in(12) {
-                me.byte()
-            } else {
-                good as u8
-            }
-        };
-        let (month, day) = (self.between(1, 12), self.between(1, 31));
-        let (hour, minute, second) = (self.below(24), self.below(60), self.below(60));
-        Clock {
-            year: match self.below(16) {
-                0 => self.number() as u16,
-                1 => self.between(1990, 2110) as u16,
-                _ => self.between(2000, 2099) as u16,
-            },
-            month: spoilt(self, month),
-            day: spoilt(self, day),
-            hour: spoilt(self, hour),
-            minute: spoilt(self, minute),
-            second: spoilt(self, second),
-        }
-    }
-
-    fn real_clock(&mut self) -> Clock {
-        loop {
-            let clock = self.clock();
-            if clock.real() {
-                return clock;
-            }
-        }
-    }
-
-    fn counter(&mut self) -> u32 {
-        let size = 10usize.pow(self.between(0, 9) as u32);
-        match self.below(8) {
-            0 => 0,
-            1 => 999_999_999,
-            _ => self.below(size) as u32,
-        }
-    }
-
-    fn registers(&mut self) -> Registers {
-        Registers {
-            serial: self.texts(DIGITS),
-            account: self.texts(ACCOUNT),
-            clock: self.real_clock(),
-            counters: std::array::from_fn(|_| self.counter()),
-            tables: std::array::from_fn(|_| self.texts(ZONES)),
-        }
-    }
-
-    /// Changes, drops, doubles or puts in one byte at a place of chance.
-    fn hurt(&mut self, text: &mut Vec<u8>) {
-        if text.is_empty() {
-            text.push(self.odd_byte());
-            return;
-        }
-        let place = self.below(text.len());
-        match self.below(8) {
-            0 => drop(text.remove(place)),
-            1 => text.insert(place, text[place]),
-            2 => text.insert(place, self.odd_byte()),
-            3 => text.truncate(place),
-            _ => text[place] = self.odd_byte(),
-        }
-    }
-}
-
-const DIGITS: &[u8] = b"0123456789";
-const ZONES: &[u8] = b"1234";
-const ACCOUNT: &[u8] = b"ABCDEFGHIJKLMNOPQRSTUVWXYZabcdefghijklmnopqrstuvwxyz0123456789 _";
-const ADDRESS: &[u8] = b"ABCXYZabcxyz0123456789.";
-const VALUE: &[u8] = b"0123456789 ABCXYZabcxyz.,:;-*_#$%&'+<=>?@[\\]^`{|}~\"";
-const EDGES: &[u8] =
-    b"\x00\x01\x02\x03\x06\n\r\x15\x1F !()*+,-./0123459:;@AZ[_`az{}~\x7F\x80\x81\x82\x83\xA8\xB1\xFF";
-
 /// The rooms that a command is built in, around the least that is taken.
 const ROOMS: [usize; 12] = [0, 1, 2, 5, 35, 36, 62, 63, 64, 65, 128, 2048];
-
-/// Bytes lent before and after every buffer, to see that nothing is written there.
-const MARGIN: usize = 16;
 
 // The comparison.
 
@@ -204,7 +53,8 @@ struct Trial<'h> {
     head: &'h dyn Head,
     chance: Chance,
     cases: u64,
-    theirs: Vec<u8>,
+    /// The head's buffer, and the model's.
+    theirs: Guarded,
     ours: Vec<u8>,
 }
 
@@ -222,70 +72,65 @@ impl<'h> Trial<'h> {
     fn new(head: &'h dyn Head, seed: u64) -> Self {
         Trial {
             head,
-            chance: Chance(seed),
+            chance: Chance::new(seed),
             cases: 0,
-            theirs: Vec::new(),
+            theirs: Guarded::new(4_096),
             ours: Vec::new(),
         }
     }
 
-    /// Fills both buffers with one pattern, another for every case.
-    fn lend(&mut self, room: usize) {
-        let first = self.cases as u8;
-        let pattern = (0..room + 2 * MARGIN).map(|n| first.wrapping_add((n * 167) as u8));
-        self.ours.clear();
-        self.ours.extend(pattern);
-        self.theirs.clear();
-        self.theirs.extend_from_slice(&self.ours);
-        self.cases += 1;
-    }
-
-    /// Compares answer, length and every byte of the buffer lent.
-    fn same_buffers(
-        &self,
+    /// One call of the head and one of the model on buffers with the same pattern, another for every
+    /// case: answer, length and every byte of the buffer have to be the same.
+    fn lent(
+        &mut self,
         call: &str,
-        told: (u8, usize),
-        ruled: (u8, usize),
+        room: usize,
+        head: impl Fn(&dyn Head, &mut [u8]) -> (u8, usize),
+        model: impl Fn(&mut [u8]) -> (u8, usize),
         input: impl Fn() -> String,
     ) -> Outcome {
+        let first = self.cases as u8;
+        let pattern = (0..room).map(|n| first.wrapping_add((n * 167) as u8));
+        self.cases += 1;
+        self.ours.clear();
+        self.ours.extend(pattern);
+        let theirs = self.theirs.copy(&self.ours);
+        let told = head(self.head, theirs);
+        let ruled = model(&mut self.ours);
         if told != ruled {
             return Err(difference(call, input(), &told, &ruled));
         }
-        if self.theirs == self.ours {
+        if *theirs == self.ours[..] {
             return Ok(());
         }
-        let differ = |(theirs, ours)| theirs != ours;
-        let place = self.theirs.iter().zip(&self.ours).position(differ);
-        let place = place.map_or(0, |place| place as isize - MARGIN as isize);
-        let room = MARGIN..self.ours.len() - MARGIN;
+        let differ = |place: &usize| theirs[*place] != self.ours[*place];
         Err(format!(
-            "{call} of {}: byte {place} of the buffer differs\n  library: {}\n  model:   {}",
+            "{call} of {}: byte {} of the buffer differs\n  library: {}\n  model:   {}",
             input(),
-            hex(&self.theirs[room.clone()]),
-            hex(&self.ours[room])
+            (0..room).find(differ).unwrap_or(room),
+            hex(theirs),
+            hex(&self.ours)
         ))
     }
 
     fn build(&mut self, command: &Command, room: usize) -> Outcome {
-        self.lend(room);
-        let told = self
-            .head
-            .build(command, &mut self.theirs[MARGIN..MARGIN + room]);
-        let ruled = model::build(command, &mut self.ours[MARGIN..MARGIN + room]);
-        self.same_buffers("build", told, ruled, || {
-            format!("{command:X?} (fields in hex) in room {room}")
-        })
+        self.lent(
+            "build",
+            room,
+            |head, out| head.build(command, out),
+            |out| model::build(command, out),
+            || format!("{command:X?} (fields in hex) in room {room}"),
+        )
     }
 
     fn strip(&mut self, reply: &[u8], room: usize) -> Outcome {
-        self.lend(room);
-        let told = self
-            .head
-            .strip(reply, &mut self.theirs[MARGIN..MARGIN + room]);
-        let ruled = model::strip(reply, &mut self.ours[MARGIN..MARGIN + room]);
-        self.same_buffers("strip", told, ruled, || {
-            format!("{} into room {room}", hex(reply))
-        })
+        self.lent(
+            "strip",
+            room,
+            |head, out| head.strip(reply, out),
+            |out| model::strip(reply, out),
+            || format!("{} into room {room}", hex(reply)),
+        )
     }
 
     fn part(&mut self, stripped: &[u8]) -> Outcome {
@@ -1068,7 +913,8 @@ fn trial_of_the_trial(seed: u64) -> Outcome {
 fn run(seed: u64) -> Result<u64, String> {
     trial_of_the_trial(seed)?;
     println!("head: {} wrong heads noticed", FAULTS.len());
-    let mut trial = Trial::new(&Proved, seed);
+    let proved = Proved::default();
+    let mut trial = Trial::new(&proved, seed);
     for (name, section) in SECTIONS {
         let (before, start) = (trial.cases, Instant::now());
         section(&mut trial)?;

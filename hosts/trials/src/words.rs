@@ -144,7 +144,7 @@ pub fn holding(mut meter: Meter, held: &[u8], mark: bool) -> Meter {
     meter.held = [0; PLACES];
     meter.held[..held.len()].copy_from_slice(held);
     meter.count = held.len() as u8;
-    meter.mark = mark;
+    meter.mark = mark.into();
     meter
 }
 

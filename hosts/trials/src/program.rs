@@ -1,12 +1,21 @@
 //! Runs the program under trial on a script and holds its transcript against the expected one.
 
-use crate::player::Played;
-use model::bench::{dump, Bench};
 use std::io::{Read, Write};
 use std::process::{Command, Stdio};
 use std::sync::mpsc;
 use std::thread;
 use std::time::Duration;
+
+/// A finished script with the model's transcript.
+pub struct Played {
+    pub name: String,
+    pub script: Vec<u8>,
+    pub transcript: String,
+    /// Answer lines written before each line of the script.
+    pub answered: Vec<usize>,
+    /// What a person needs beside the line that differs, from the lines before it.
+    pub state: fn(&[&[u8]]) -> String,
+}
 
 /// A program that is silent for so long is taken to hang.
 const PATIENCE: Duration = Duration::from_secs(60);
@@ -97,10 +106,6 @@ fn report(played: &Played, place: usize, ours: Option<&[u8]>, theirs: Option<&[u
     // The last line that starts at or before the answer; lines without answers start there too.
     let at = played.answered.partition_point(|&before| before <= place);
     let at = at.saturating_sub(1);
-    let mut bench = Bench::default();
-    for line in &lines[..at] {
-        bench.answer(line, &mut String::new());
-    }
     let mut text = format!("script '{}' differs at line {}\n", played.name, at + 1);
     for line in &lines[at.saturating_sub(LINES_BEFORE)..at] {
         text += &format!("  before:   {}\n", shown(line, CUT));
@@ -118,7 +123,7 @@ fn report(played: &Played, place: usize, ours: Option<&[u8]>, theirs: Option<&[u
         let same = ours.iter().zip(theirs).take_while(|(a, b)| a == b).count();
         text += &format!("  the same up to column {same}\n");
     }
-    text + &format!("  the state before the line: set {}\n", dump(&bench.meter))
+    text + &(played.state)(&lines[..at])
 }
 
 /// A line in print, cut where it is long.

@@ -1,4 +1,4 @@
-//! A small generator: the same seed always gives the same scripts.
+//! Repeatable chance: the same seed gives the same cases on every machine.
 
 pub struct Chance(u64);
 
@@ -7,18 +7,22 @@ impl Chance {
         Chance(seed)
     }
 
-    /// SplitMix64.
-    pub fn next(&mut self) -> u64 {
+    /// The next 64 bits, by SplitMix64.
+    pub fn bits(&mut self) -> u64 {
         self.0 = self.0.wrapping_add(0x9E37_79B9_7F4A_7C15);
         let mut mixed = self.0;
-        mixed = (mixed ^ mixed >> 30).wrapping_mul(0xBF58_476D_1CE4_E5B9);
-        mixed = (mixed ^ mixed >> 27).wrapping_mul(0x94D0_49BB_1331_11EB);
-        mixed ^ mixed >> 31
+        mixed = (mixed ^ (mixed >> 30)).wrapping_mul(0xBF58_476D_1CE4_E5B9);
+        mixed = (mixed ^ (mixed >> 27)).wrapping_mul(0x94D0_49BB_1331_11EB);
+        mixed ^ (mixed >> 31)
+    }
+
+    pub fn byte(&mut self) -> u8 {
+        self.bits() as u8
     }
 
     /// A number from 0 up to, without, the end.
     pub fn below(&mut self, end: usize) -> usize {
-        (self.next() % end as u64) as usize
+        (self.bits() % end as u64) as usize
     }
 
     /// A number between the two, both included.
@@ -30,15 +34,16 @@ impl Chance {
         self.below(100) < share
     }
 
-    pub fn byte(&mut self) -> u8 {
-        self.next() as u8
-    }
-
-    pub fn pick<'a, T: ?Sized>(&mut self, from: &[&'a T]) -> &'a T {
-        from[self.below(from.len())]
+    /// True once in so many times, on the whole.
+    pub fn one_in(&mut self, times: usize) -> bool {
+        self.below(times) == 0
     }
 
     pub fn one_of<T: Copy>(&mut self, from: &[T]) -> T {
+        from[self.below(from.len())]
+    }
+
+    pub fn pick<'a, T: ?Sized>(&mut self, from: &[&'a T]) -> &'a T {
         from[self.below(from.len())]
     }
 

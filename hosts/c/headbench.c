@@ -1,0 +1,293 @@
+/* headbench.c: the reading head and the posts on the tester's bench. A line of a script from
+ * standard input is one call, and a line of the transcript on standard output says what it answered;
+ * README has the commands. What is lent lies in memory that ends, and in every other call that
+ * starts, where its size says. */
+#include "script.h"
+
+#include "dirgemist.h"
+#include "dirgemist_head.h"
+
+/* No buffer greater than this is lent. A call compares its room with what goes into it and with
+ * nothing else, and no line makes more than BYTES_MOST bytes: in a greater room every answer is the
+ * same, and the bytes that would follow are FILLING, which is not shown. */
+#define ROOM_LENT (BYTES_MOST + 1)
+
+/* ---- The words of a call: what each must be, and what they are. */
+
+enum word_kind {
+    ROOM,  /* of 64 bits, as AT is */
+    SHORT, /* a number of 8 bits */
+    YEAR,  /* of 16 bits */
+    BYTE,  /* one, in hex */
+    TEXT   /* bytes, as many as there are */
+};
+
+#define WORDS 8
+
+struct given {
+    uint64_t number;
+    const uint8_t *text;
+    size_t length;
+};
+
+/* A call by its one or two names, what must stand behind them, and what it does with that. */
+struct call {
+    const char *name;
+    const char *second; /* empty where there is one name */
+    size_t count;
+    enum word_kind kinds[WORDS];
+    void (*play)(const struct given *given);
+};
+
+static struct buffer buffer;                /* what a call writes to */
+static struct pages texts;                  /* what it only reads: one text a line */
+static bool text_at_the_start;
+
+static bool take_text(struct word word, struct given *given) {
+    size_t size;
+    if (!size_of(word, &size)) {
+        return false;
+    }
+    text_at_the_start = !text_at_the_start;
+    uint8_t *place = placed(texts, size, text_at_the_start);
+    given->text = place;
+    given->length = size;
+    return bytes_of(word, place, size);
+}
+
+static bool take_byte(struct word word, struct given *given) {
+    uint8_t byte;
+    bool good = bytes_of(word, &byte, 1);
+    given->number = byte;
+    return good;
+}
+
+static bool take(enum word_kind kind, struct word word, struct given *given) {
+    switch (kind) {
+    case ROOM: return number_of(word, UINT64_MAX, &given->number);
+    case SHORT: return number_of(word, UINT8_MAX, &given->number);
+    case YEAR: return number_of(word, UINT16_MAX, &given->number);
+    case BYTE: return take_byte(word, given);
+    default: return take_text(word, given);
+    }
+}
+
+/* Plays a call, if the words behind its names are such as it takes. */
+static bool play_call(const struct call *call, const struct word *words, size_t count) {
+    struct given given[WORDS] = {0};
+    if (count != call->count) {
+        return false;
+    }
+    for (size_t at = 0; at < count; at++) {
+        if (!take(call->kinds[at], words[at], &given[at])) {
+            return false;
+        }
+    }
+    call->play(given);
+    return true;
+}
+
+/* ---- What a call hands out: memory of its own size, and not what it was. */
+
+#define UNWRITTEN 0xA5
+#define NUMBERS 5
+
+static size_t *numbers[NUMBERS];
+static uint8_t *shorts[3];
+static uint16_t *year;
+static uint32_t *wh;
+
+static void *own(size_t size) {
+    return placed(guarded(size), size, false);
+}
+
+static void unwrite(void) {
+    for (size_t at = 0; at < NUMBERS; at++) {
+        memset(numbers[at], UNWRITTEN, sizeof *numbers[at]);
+    }
+    for (size_t at = 0; at < COUNT(shorts); at++) {
+        *shorts[at] = UNWRITTEN;
+    }
+    memset(year, UNWRITTEN, sizeof *year);
+    memset(wh, UNWRITTEN, sizeof *wh);
+}
+
+#define TELL(...) \
+    put_numbers((const uint64_t[]){__VA_ARGS__}, sizeof((const uint64_t[]){__VA_ARGS__}) / sizeof(uint64_t))
+
+static uint8_t *room_lent(uint64_t room) {
+    unwrite();
+    return lend(&buffer, room < ROOM_LENT ? (size_t)room : ROOM_LENT);
+}
+
+/* The answer of a call with a buffer: a number beside it, and how long what was written is. */
+static void put_written(uint8_t answer, size_t beside, size_t length) {
+    TELL(answer, beside);
+    put(' ');
+    put_buffer(&buffer, length);
+    put('\n');
+}
+
+/* ---- Commands built: after `build NAME` comes ROOM, and then the fields. */
+
+#define BUILD(name, call)                                         \
+    static void name(const struct given *g) {                     \
+        uint8_t *out = room_lent(g[0].number);                    \
+        size_t room = buffer.room, *length = numbers[0];          \
+        uint8_t answer = call;                                    \
+        put_written(answer, *length, *length);                    \
+    }
+#define N(place) ((uint8_t)g[place].number)
+#define T(place) g[place].text, g[place].length
+
+BUILD(any, dirgemist_head_sign_on(out, room, length))
+BUILD(serial, dirgemist_head_sign_on_to(T(1), out, room, length))
+BUILD(confirm, dirgemist_head_confirm(N(1), out, room, length))
+BUILD(readonly, dirgemist_head_enter(out, room, length))
+BUILD(password, dirgemist_head_password(T(1), out, room, length))
+BUILD(clock_asked, dirgemist_head_read_clock(out, room, length))
+BUILD(number_asked, dirgemist_head_read_serial(out, room, length))
+BUILD(account_asked, dirgemist_head_read_account(out, room, length))
+BUILD(energy_asked, N(1) == 0 ? dirgemist_head_read_total(out, room, length) : dirgemist_head_read_zone(N(1), out, room, length))
+BUILD(table_asked, dirgemist_head_read_table(N(1), out, room, length))
+BUILD(set_clock, dirgemist_head_write_clock((uint16_t)g[1].number, N(2), N(3), N(4), N(5), N(6), out, room, length))
+BUILD(set_account, dirgemist_head_write_account(T(1), out, room, length))
+BUILD(set_table, dirgemist_head_write_table(N(1), T(2), out, room, length))
+BUILD(sign_off, dirgemist_head_sign_off(out, room, length))
+
+/* ---- Values read back: after `value NAME` comes the value. */
+
+/* One that is characters, as many as the call writes. */
+static void characters(uint8_t (*call)(const uint8_t *, size_t, uint8_t *, size_t), const struct given *g, size_t count) {
+    uint8_t *out = room_lent(count);
+    put_number(call(T(0), out, count));
+    put(' ');
+    put_buffer(&buffer, count);
+    put('\n');
+}
+
+static void value_serial(const struct given *g) {
+    characters(dirgemist_head_value_serial, g, DIRGEMIST_HEAD_SERIAL);
+}
+
+static void value_account(const struct given *g) {
+    characters(dirgemist_head_value_account, g, DIRGEMIST_HEAD_ACCOUNT);
+}
+
+static void value_row(const struct given *g) {
+    characters(dirgemist_head_value_row, g, DIRGEMIST_HEAD_ROW);
+}
+
+static void value_counter(const struct given *g) {
+    unwrite();
+    uint8_t answer = dirgemist_head_value_counter(T(0), wh);
+    TELL(answer, *wh);
+    put('\n');
+}
+
+static void value_date(const struct given *g) {
+    unwrite();
+    uint8_t answer = dirgemist_head_value_date(T(0), year, shorts[0], shorts[1]);
+    TELL(answer, *year, *shorts[0], *shorts[1]);
+    put('\n');
+}
+
+static void value_time(const struct given *g) {
+    unwrite();
+    uint8_t answer = dirgemist_head_value_time(T(0), shorts[0], shorts[1], shorts[2]);
+    TELL(answer, *shorts[0], *shorts[1], *shorts[2]);
+    put('\n');
+}
+
+/* ---- The other calls. */
+
+static void check(const struct given *g) {
+    unwrite();
+    uint8_t answer = dirgemist_post_check(T(0), numbers[0]);
+    TELL(answer, *numbers[0]);
+    put('\n');
+}
+
+/* The number beside the answer is the place for a text that is no post, else the length. */
+static void export(const struct given *g) {
+    uint8_t *out = room_lent(g[0].number);
+    uint8_t answer = dirgemist_post_export(T(1), out, buffer.room, numbers[0], numbers[1]);
+    put_written(answer, answer == DIRGEMIST_NOT_A_POST ? *numbers[1] : *numbers[0], *numbers[0]);
+}
+
+static void strip(const struct given *g) {
+    uint8_t *out = room_lent(g[0].number);
+    uint8_t answer = dirgemist_head_strip(T(1), out, buffer.room, numbers[0]);
+    put_written(answer, *numbers[0], *numbers[0]);
+}
+
+static void part(const struct given *g) {
+    unwrite();
+    uint8_t answer = dirgemist_head_part(T(0), numbers[0], numbers[1]);
+    TELL(answer, *numbers[0], *numbers[1]);
+    put('\n');
+}
+
+/* Where there is no set its places are 0, and the reader stays. */
+static void next(const struct given *g) {
+    unwrite();
+    size_t at = g[0].number, *address = numbers[0], *value = numbers[1], *after = numbers[2], *place = numbers[3];
+    uint8_t answer = dirgemist_head_next(T(1), at, address, value, after, place);
+    bool set = answer == DIRGEMIST_HEAD_DONE;
+    TELL(answer, *place, set ? at : 0, *address, set ? at + *address + 1 : 0, *value, *after);
+    put('\n');
+}
+
+static const struct call calls[] = {
+    {"build", "any", 1, {ROOM}, any},
+    {"build", "serial", 2, {ROOM, TEXT}, serial},
+    {"build", "confirm", 2, {ROOM, BYTE}, confirm},
+    {"build", "readonly", 1, {ROOM}, readonly},
+    {"build", "password", 2, {ROOM, TEXT}, password},
+    {"build", "clock", 1, {ROOM}, clock_asked},
+    {"build", "number", 1, {ROOM}, number_asked},
+    {"build", "account", 1, {ROOM}, account_asked},
+    {"build", "energy", 2, {ROOM, SHORT}, energy_asked},
+    {"build", "table", 2, {ROOM, SHORT}, table_asked},
+    {"build", "setclock", 7, {ROOM, YEAR, SHORT, SHORT, SHORT, SHORT, SHORT}, set_clock},
+    {"build", "setaccount", 2, {ROOM, TEXT}, set_account},
+    {"build", "settable", 3, {ROOM, SHORT, TEXT}, set_table},
+    {"build", "break", 1, {ROOM}, sign_off},
+    {"value", "serial", 1, {TEXT}, value_serial},
+    {"value", "account", 1, {TEXT}, value_account},
+    {"value", "row", 1, {TEXT}, value_row},
+    {"value", "counter", 1, {TEXT}, value_counter},
+    {"value", "date", 1, {TEXT}, value_date},
+    {"value", "time", 1, {TEXT}, value_time},
+    {"check", "", 1, {TEXT}, check},
+    {"export", "", 2, {ROOM, TEXT}, export},
+    {"strip", "", 2, {ROOM, TEXT}, strip},
+    {"part", "", 1, {TEXT}, part},
+    {"next", "", 2, {ROOM, TEXT}, next},
+};
+
+static bool play(const struct word *words, size_t count) {
+    for (size_t at = 0; at < COUNT(calls); at++) {
+        const struct call *call = &calls[at];
+        size_t names = *call->second == '\0' ? 1 : 2;
+        if (count >= names && is(words[0], call->name) && (names == 1 || is(words[1], call->second))) {
+            return play_call(call, words + names, count - names);
+        }
+    }
+    return false;
+}
+
+int main(void) {
+    buffer = buffer_for(ROOM_LENT);
+    texts = guarded(BYTES_MOST);
+    for (size_t at = 0; at < NUMBERS; at++) {
+        numbers[at] = own(sizeof *numbers[at]);
+    }
+    for (size_t at = 0; at < COUNT(shorts); at++) {
+        shorts[at] = own(sizeof *shorts[at]);
+    }
+    year = own(sizeof *year);
+    wh = own(sizeof *wh);
+    play_all(play);
+    return 0;
+}

@@ -1,0 +1,423 @@
+//! What a reading head says and reads, as `dirgemist_head.h` has it.
+//!
+//! A function that builds a command returns the number and the command's length; the command stands
+//! at the front of the buffer. One that reads a value returns the number and the value, which is zero
+//! where the number is not [`DONE`].
+
+use crate::{UNWRITTEN, UNWRITTEN_BYTE};
+
+/// The number of the end of the data sets.
+pub const END: u8 = 0;
+/// The number of what was built, stripped, found or read.
+pub const DONE: u8 = 1;
+/// The least buffer that a command is built in.
+pub const COMMAND_ROOM: usize = 64;
+
+/// A function that builds a command without a field.
+type Plain = unsafe extern "C" fn(*mut u8, usize, *mut usize) -> u8;
+/// One whose field is a number.
+type Numbered = unsafe extern "C" fn(u8, *mut u8, usize, *mut usize) -> u8;
+/// One whose field is characters.
+type Lettered = unsafe extern "C" fn(*const u8, usize, *mut u8, usize, *mut usize) -> u8;
+
+#[link(name = "headlink", kind = "static")]
+extern "C" {
+    fn dirgemist_head_sign_on(out: *mut u8, out_length: usize, length: *mut usize) -> u8;
+    fn dirgemist_head_sign_on_to(
+        serial: *const u8,
+        serial_length: usize,
+        out: *mut u8,
+        out_length: usize,
+        length: *mut usize,
+    ) -> u8;
+    fn dirgemist_head_confirm(
+        choice: u8,
+        out: *mut u8,
+        out_length: usize,
+        length: *mut usize,
+    ) -> u8;
+    fn dirgemist_head_enter(out: *mut u8, out_length: usize, length: *mut usize) -> u8;
+    fn dirgemist_head_password(
+        password: *const u8,
+        password_length: usize,
+        out: *mut u8,
+        out_length: usize,
+        length: *mut usize,
+    ) -> u8;
+    fn dirgemist_head_read_clock(out: *mut u8, out_length: usize, length: *mut usize) -> u8;
+    fn dirgemist_head_read_serial(out: *mut u8, out_length: usize, length: *mut usize) -> u8;
+    fn dirgemist_head_read_account(out: *mut u8, out_length: usize, length: *mut usize) -> u8;
+    fn dirgemist_head_read_total(out: *mut u8, out_length: usize, length: *mut usize) -> u8;
+    fn dirgemist_head_read_zone(
+        zone: u8,
+        out: *mut u8,
+        out_length: usize,
+        length: *mut usize,
+    ) -> u8;
+    fn dirgemist_head_read_table(
+        table: u8,
+        out: *mut u8,
+        out_length: usize,
+        length: *mut usize,
+    ) -> u8;
+    fn dirgemist_head_write_clock(
+        year: u16,
+        month: u8,
+        day: u8,
+        hour: u8,
+        minute: u8,
+        second: u8,
+        out: *mut u8,
+        out_length: usize,
+        length: *mut usize,
+    ) -> u8;
+    fn dirgemist_head_write_account(
+        account: *const u8,
+        account_length: usize,
+        out: *mut u8,
+        out_length: usize,
+        length: *mut usize,
+    ) -> u8;
+    fn dirgemist_head_write_table(
+        table: u8,
+        row: *const u8,
+        row_length: usize,
+        out: *mut u8,
+        out_length: usize,
+        length: *mut usize,
+    ) -> u8;
+    fn dirgemist_head_sign_off(out: *mut u8, out_length: usize, length: *mut usize) -> u8;
+    fn dirgemist_head_strip(
+        reply: *const u8,
+        reply_length: usize,
+        out: *mut u8,
+        out_length: usize,
+        length: *mut usize,
+    ) -> u8;
+    fn dirgemist_head_part(
+        stripped: *const u8,
+        stripped_length: usize,
+        start: *mut usize,
+        length: *mut usize,
+    ) -> u8;
+    fn dirgemist_head_next(
+        sets: *const u8,
+        sets_length: usize,
+        at: usize,
+        address_length: *mut usize,
+        value_length: *mut usize,
+        next: *mut usize,
+        place: *mut usize,
+    ) -> u8;
+    fn dirgemist_head_set_after(
+        sets: *const u8,
+        sets_length: usize,
+        count: usize,
+        start: *mut usize,
+        address_length: *mut usize,
+        value_length: *mut usize,
+        next: *mut usize,
+        place: *mut usize,
+    ) -> u8;
+    fn dirgemist_head_value_serial(
+        value: *const u8,
+        length: usize,
+        serial: *mut u8,
+        serial_length: usize,
+    ) -> u8;
+    fn dirgemist_head_value_account(
+        value: *const u8,
+        length: usize,
+        account: *mut u8,
+        account_length: usize,
+    ) -> u8;
+    fn dirgemist_head_value_row(
+        value: *const u8,
+        length: usize,
+        row: *mut u8,
+        row_length: usize,
+    ) -> u8;
+    fn dirgemist_head_value_date(
+        value: *const u8,
+        length: usize,
+        year: *mut u16,
+        month: *mut u8,
+        day: *mut u8,
+    ) -> u8;
+    fn dirgemist_head_value_time(
+        value: *const u8,
+        length: usize,
+        hour: *mut u8,
+        minute: *mut u8,
+        second: *mut u8,
+    ) -> u8;
+    fn dirgemist_head_value_counter(value: *const u8, length: usize, wh: *mut u32) -> u8;
+}
+
+// Every pointer below comes from a live borrow, with that borrow's length beside it, and two borrows
+// of which one may be written do not overlap: that is all that the headers ask.
+
+#[inline]
+fn plain(build: Plain, out: &mut [u8]) -> (u8, usize) {
+    let mut length = UNWRITTEN;
+    // SAFETY: see above.
+    let number = unsafe { build(out.as_mut_ptr(), out.len(), &mut length) };
+    (number, length)
+}
+
+#[inline]
+fn numbered(build: Numbered, field: u8, out: &mut [u8]) -> (u8, usize) {
+    let mut length = UNWRITTEN;
+    // SAFETY: see above.
+    let number = unsafe { build(field, out.as_mut_ptr(), out.len(), &mut length) };
+    (number, length)
+}
+
+#[inline]
+fn lettered(build: Lettered, field: &[u8], out: &mut [u8]) -> (u8, usize) {
+    let mut length = UNWRITTEN;
+    let (to, room) = (out.as_mut_ptr(), out.len());
+    // SAFETY: see above.
+    let number = unsafe { build(field.as_ptr(), field.len(), to, room, &mut length) };
+    (number, length)
+}
+
+/// The sign-on to any meter.
+pub fn sign_on(out: &mut [u8]) -> (u8, usize) {
+    plain(dirgemist_head_sign_on, out)
+}
+
+/// The sign-on to the meter of a serial, ten digits.
+///
+/// ```
+/// use dirgemist::head;
+/// let mut out = [0; head::COMMAND_ROOM];
+/// assert_eq!(head::sign_on_to(b"1234567890", &mut out), (head::DONE, 16));
+/// assert_eq!(head::sign_on_to(b"123456789", &mut out), (9, 0));
+/// ```
+pub fn sign_on_to(serial: &[u8], out: &mut [u8]) -> (u8, usize) {
+    lettered(dirgemist_head_sign_on_to, serial, out)
+}
+
+/// The confirmation with the character `'0'`, `'7'` or `'1'`.
+pub fn confirm(choice: u8, out: &mut [u8]) -> (u8, usize) {
+    numbered(dirgemist_head_confirm, choice, out)
+}
+
+/// The start of a session that only reads.
+pub fn enter(out: &mut [u8]) -> (u8, usize) {
+    plain(dirgemist_head_enter, out)
+}
+
+/// The start of a session that may write, with the password's eight digits.
+pub fn password(password: &[u8], out: &mut [u8]) -> (u8, usize) {
+    lettered(dirgemist_head_password, password, out)
+}
+
+/// Asks for the clock.
+pub fn read_clock(out: &mut [u8]) -> (u8, usize) {
+    plain(dirgemist_head_read_clock, out)
+}
+
+/// Asks for the serial.
+pub fn read_serial(out: &mut [u8]) -> (u8, usize) {
+    plain(dirgemist_head_read_serial, out)
+}
+
+/// Asks for the account.
+pub fn read_account(out: &mut [u8]) -> (u8, usize) {
+    plain(dirgemist_head_read_account, out)
+}
+
+/// Asks for the total of all zones.
+pub fn read_total(out: &mut [u8]) -> (u8, usize) {
+    plain(dirgemist_head_read_total, out)
+}
+
+/// Asks for a zone's energy.
+pub fn read_zone(zone: u8, out: &mut [u8]) -> (u8, usize) {
+    numbered(dirgemist_head_read_zone, zone, out)
+}
+
+/// Asks for a table.
+pub fn read_table(table: u8, out: &mut [u8]) -> (u8, usize) {
+    numbered(dirgemist_head_read_table, table, out)
+}
+
+/// Sets the clock to `[month, day, hour, minute, second]` of a year.
+pub fn write_clock(year: u16, rest: [u8; 5], out: &mut [u8]) -> (u8, usize) {
+    let [month, day, hour, minute, second] = rest;
+    let mut length = UNWRITTEN;
+    let (to, room) = (out.as_mut_ptr(), out.len());
+    // SAFETY: see above.
+    let number = unsafe {
+        dirgemist_head_write_clock(
+            year,
+            month,
+            day,
+            hour,
+            minute,
+            second,
+            to,
+            room,
+            &mut length,
+        )
+    };
+    (number, length)
+}
+
+/// Sets the account, ten characters.
+pub fn write_account(account: &[u8], out: &mut [u8]) -> (u8, usize) {
+    lettered(dirgemist_head_write_account, account, out)
+}
+
+/// Sets a table to a row of 24 characters.
+pub fn write_table(table: u8, row: &[u8], out: &mut [u8]) -> (u8, usize) {
+    let mut length = UNWRITTEN;
+    let (to, room) = (out.as_mut_ptr(), out.len());
+    // SAFETY: see above.
+    let number = unsafe {
+        dirgemist_head_write_table(table, row.as_ptr(), row.len(), to, room, &mut length)
+    };
+    (number, length)
+}
+
+/// Ends the session.
+pub fn sign_off(out: &mut [u8]) -> (u8, usize) {
+    plain(dirgemist_head_sign_off, out)
+}
+
+/// Strips a reply's parity into a buffer: the number and the length.
+pub fn strip(reply: &[u8], out: &mut [u8]) -> (u8, usize) {
+    lettered(dirgemist_head_strip, reply, out)
+}
+
+/// Finds the part of a stripped block: the number, where it starts and how long it is.
+pub fn part(stripped: &[u8]) -> (u8, usize, usize) {
+    let (mut start, mut length) = (UNWRITTEN, UNWRITTEN);
+    // SAFETY: see above.
+    let number =
+        unsafe { dirgemist_head_part(stripped.as_ptr(), stripped.len(), &mut start, &mut length) };
+    (number, start, length)
+}
+
+/// What a reader found at a place.
+#[derive(Clone, Copy, Debug, PartialEq, Eq)]
+pub struct Step {
+    /// [`DONE`] for a set, [`END`], or 25 for a malformed one.
+    pub number: u8,
+    /// The address starts at the place that was read.
+    pub address_length: usize,
+    /// The value starts behind the address and its bracket.
+    pub value_length: usize,
+    /// Where the reader goes on.
+    pub next: usize,
+    /// The place of a refusal.
+    pub place: usize,
+}
+
+const UNREAD: Step = Step {
+    number: UNWRITTEN_BYTE,
+    address_length: UNWRITTEN,
+    value_length: UNWRITTEN,
+    next: UNWRITTEN,
+    place: UNWRITTEN,
+};
+
+/// Reads the data set at a place. A reader starts at 0 and goes on at `next`.
+///
+/// ```
+/// use dirgemist::head;
+/// let sets = b"0.0.0(Kiln_7 old)\r\n!\r\n";
+/// let step = head::next(sets, 0);
+/// assert_eq!((step.number, &sets[..step.address_length]), (head::DONE, &b"0.0.0"[..]));
+/// assert_eq!(head::next(sets, step.next).number, head::END);
+/// ```
+pub fn next(sets: &[u8], at: usize) -> Step {
+    let mut step = UNREAD;
+    // SAFETY: see above.
+    step.number = unsafe {
+        dirgemist_head_next(
+            sets.as_ptr(),
+            sets.len(),
+            at,
+            &mut step.address_length,
+            &mut step.value_length,
+            &mut step.next,
+            &mut step.place,
+        )
+    };
+    step
+}
+
+/// Reads the data set behind the first so many: where that is, and what was found there.
+pub fn set_after(sets: &[u8], count: usize) -> (usize, Step) {
+    let (mut start, mut step) = (UNWRITTEN, UNREAD);
+    // SAFETY: see above.
+    step.number = unsafe {
+        dirgemist_head_set_after(
+            sets.as_ptr(),
+            sets.len(),
+            count,
+            &mut start,
+            &mut step.address_length,
+            &mut step.value_length,
+            &mut step.next,
+            &mut step.place,
+        )
+    };
+    (start, step)
+}
+
+/// A function that reads characters back.
+type Reads = unsafe extern "C" fn(*const u8, usize, *mut u8, usize) -> u8;
+
+fn characters<const N: usize>(read: Reads, value: &[u8]) -> (u8, [u8; N]) {
+    let mut characters = [UNWRITTEN_BYTE; N];
+    // SAFETY: see above.
+    let number = unsafe { read(value.as_ptr(), value.len(), characters.as_mut_ptr(), N) };
+    (number, characters)
+}
+
+/// A serial's ten digits.
+pub fn value_serial(value: &[u8]) -> (u8, [u8; 10]) {
+    characters(dirgemist_head_value_serial, value)
+}
+
+/// An account's ten characters.
+pub fn value_account(value: &[u8]) -> (u8, [u8; 10]) {
+    characters(dirgemist_head_value_account, value)
+}
+
+/// A row's 24 characters.
+pub fn value_row(value: &[u8]) -> (u8, [u8; 24]) {
+    characters(dirgemist_head_value_row, value)
+}
+
+/// A date's year, month and day.
+pub fn value_date(value: &[u8]) -> (u8, (u16, u8, u8)) {
+    let mut date = (UNWRITTEN as u16, UNWRITTEN_BYTE, UNWRITTEN_BYTE);
+    let (year, month, day) = (&mut date.0, &mut date.1, &mut date.2);
+    // SAFETY: see above.
+    let number =
+        unsafe { dirgemist_head_value_date(value.as_ptr(), value.len(), year, month, day) };
+    (number, date)
+}
+
+/// A time's hour, minute and second.
+pub fn value_time(value: &[u8]) -> (u8, (u8, u8, u8)) {
+    let mut time = (UNWRITTEN_BYTE, UNWRITTEN_BYTE, UNWRITTEN_BYTE);
+    let (hour, minute, second) = (&mut time.0, &mut time.1, &mut time.2);
+    // SAFETY: see above.
+    let number =
+        unsafe { dirgemist_head_value_time(value.as_ptr(), value.len(), hour, minute, second) };
+    (number, time)
+}
+
+/// A counter's Wh.
+pub fn value_counter(value: &[u8]) -> (u8, u32) {
+    let mut wh = UNWRITTEN as u32;
+    // SAFETY: see above.
+    let number = unsafe { dirgemist_head_value_counter(value.as_ptr(), value.len(), &mut wh) };
+    (number, wh)
+}

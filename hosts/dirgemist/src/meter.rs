@@ -1,0 +1,214 @@
+//! The meter, as `dirgemist_meter.h` has it: a record that the caller keeps and lends with every
+//! event.
+//!
+//! ```
+//! use dirgemist::meter::{Clock, Date, Event, Meter, Time, REPLY_ROOM};
+//! let clock = Clock { date: Date { year: 2024, month: 2, day: 29 }, time: Time { hour: 23, minute: 5, second: 9 } };
+//! let (number, mut meter) = Meter::make(b"1234567890", b"Kiln_7 old", b"20304050", clock);
+//! assert_eq!((number, meter.check()), (1, 1));
+//! let mut reply = [0; REPLY_ROOM];
+//! for byte in [0xAF, 0x3F, 0x21, 0x8D] {
+//!     assert_eq!(meter.meet(Event::Character(byte), &mut reply).number, 0);
+//! }
+//! let answer = meter.meet(Event::Character(0x0A), &mut reply);
+//! assert_eq!((answer.number, answer.length, answer.speed), (1, 19, 0));
+//! ```
+
+use crate::{UNWRITTEN, UNWRITTEN_BYTE};
+use std::mem::MaybeUninit;
+
+/// The least room of a reply buffer.
+pub const REPLY_ROOM: usize = 2_048;
+/// The number of an event that is none.
+pub const NO_EVENT: u8 = 99;
+
+/// A date; the year has all four digits.
+#[repr(C)]
+#[derive(Clone, Copy, Debug, PartialEq, Eq)]
+pub struct Date {
+    pub year: u16,
+    pub month: u8,
+    pub day: u8,
+}
+
+/// A time of day.
+#[repr(C)]
+#[derive(Clone, Copy, Debug, PartialEq, Eq)]
+pub struct Time {
+    pub hour: u8,
+    pub minute: u8,
+    pub second: u8,
+}
+
+/// The meter's clock.
+#[repr(C)]
+#[derive(Clone, Copy, Debug, PartialEq, Eq)]
+pub struct Clock {
+    pub date: Date,
+    pub time: Time,
+}
+
+/// What was received of a line or frame so far: 0 from `count` on, and `mark` 1 where one of them
+/// came damaged.
+#[repr(C)]
+#[derive(Clone, Copy, Debug, PartialEq, Eq)]
+pub struct Receiver {
+    pub held: [u8; 63],
+    pub count: u8,
+    pub mark: u8,
+}
+
+/// What a meter keeps for life.
+#[repr(C)]
+#[derive(Clone, Copy, Debug, PartialEq, Eq)]
+pub struct Facts {
+    pub serial: [u8; 10],
+    pub password: [u8; 8],
+}
+
+/// The zones' counters in Wh.
+#[repr(C)]
+#[derive(Clone, Copy, Debug, PartialEq, Eq)]
+pub struct Counters {
+    pub zones: [u32; 4],
+}
+
+/// What the meter knows and counts.
+#[repr(C)]
+#[derive(Clone, Copy, Debug, PartialEq, Eq)]
+pub struct Registers {
+    pub facts: Facts,
+    pub account: [u8; 10],
+    pub clock: Clock,
+    pub counters: Counters,
+    pub tables: [[u8; 24]; 24],
+}
+
+/// The record. Any numbers may stand in it: a call tells by 14 that they are no meter's, and leaves
+/// them as they were.
+#[repr(C)]
+#[derive(Clone, Copy, Debug, PartialEq, Eq)]
+pub struct Meter {
+    pub mode: u8,
+    pub attempts: u8,
+    pub receiver: Receiver,
+    pub registers: Registers,
+}
+
+/// What can happen to a meter.
+#[derive(Clone, Copy, Debug, PartialEq, Eq)]
+pub enum Event {
+    /// A byte came from the line.
+    Character(u8),
+    /// Eight seconds went by without one.
+    Silence,
+    /// A second went by.
+    Tick,
+    /// So many Wh were used.
+    Pulse(u32),
+    /// The power came back.
+    PowerUp,
+}
+
+impl Event {
+    /// The kind and the value that the library takes.
+    fn told(self) -> (u8, u32) {
+        match self {
+            Event::Character(byte) => (0, byte.into()),
+            Event::Silence => (1, 0),
+            Event::Tick => (2, 0),
+            Event::Pulse(wh) => (3, wh),
+            Event::PowerUp => (4, 0),
+        }
+    }
+}
+
+/// What a meter answers: its number, the bytes of its reply and the speed they go out at.
+#[derive(Clone, Copy, Debug, PartialEq, Eq)]
+pub struct Answer {
+    pub number: u8,
+    pub length: usize,
+    pub speed: u8,
+}
+
+#[link(name = "firmware", kind = "static")]
+extern "C" {
+    fn dirgemist_meter_make(
+        meter: *mut Meter,
+        serial: *const u8,
+        serial_length: usize,
+        account: *const u8,
+        account_length: usize,
+        password: *const u8,
+        password_length: usize,
+        year: u16,
+        month: u8,
+        day: u8,
+        hour: u8,
+        minute: u8,
+        second: u8,
+    ) -> u8;
+    fn dirgemist_meter_check(meter: *const Meter) -> u8;
+    fn dirgemist_meter_meet(
+        meter: *mut Meter,
+        kind: u8,
+        value: u32,
+        reply: *mut u8,
+        room: usize,
+        length: *mut usize,
+        speed: *mut u8,
+    ) -> u8;
+}
+
+impl Meter {
+    /// A new meter with 1, or the blank one with 15 where a field lies outside its rule.
+    pub fn make(serial: &[u8], account: &[u8], password: &[u8], clock: Clock) -> (u8, Meter) {
+        let mut meter = MaybeUninit::uninit();
+        // SAFETY: the pointers and lengths are those of live borrows, and the record's is its own.
+        let number = unsafe {
+            dirgemist_meter_make(
+                meter.as_mut_ptr(),
+                serial.as_ptr(),
+                serial.len(),
+                account.as_ptr(),
+                account.len(),
+                password.as_ptr(),
+                password.len(),
+                clock.date.year,
+                clock.date.month,
+                clock.date.day,
+                clock.time.hour,
+                clock.time.minute,
+                clock.time.second,
+            )
+        };
+        // SAFETY: the call writes the whole record, whatever it answers.
+        (number, unsafe { meter.assume_init() })
+    }
+
+    /// 1 for a well-formed record, else 14.
+    pub fn check(&self) -> u8 {
+        // SAFETY: the record has the library's layout and is only read.
+        unsafe { dirgemist_meter_check(self) }
+    }
+
+    /// Lets something happen; the record becomes the next state.
+    pub fn meet(&mut self, event: Event, reply: &mut [u8]) -> Answer {
+        let (kind, value) = event.told();
+        self.told(kind, value, reply)
+    }
+
+    /// The same with any kind and value; those of no event answer [`NO_EVENT`].
+    pub fn told(&mut self, kind: u8, value: u32, reply: &mut [u8]) -> Answer {
+        let (mut length, mut speed) = (UNWRITTEN, UNWRITTEN_BYTE);
+        let (to, room) = (reply.as_mut_ptr(), reply.len());
+        // SAFETY: the record has the library's layout, and the borrows do not overlap.
+        let number =
+            unsafe { dirgemist_meter_meet(self, kind, value, to, room, &mut length, &mut speed) };
+        Answer {
+            number,
+            length,
+            speed,
+        }
+    }
+}

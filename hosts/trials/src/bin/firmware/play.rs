@@ -1,0 +1,283 @@
+//! What happens to the meters: dialogues, noise, time, energy, facts good and bad, broken records.
+
+use crate::{Clock, Meter, Pair};
+use model::meter::{with_parity, PLACES, ROOM};
+use trials::chance::Chance;
+use trials::words::*;
+
+/// What a meter is made from, of any lengths.
+#[derive(Clone, Debug)]
+pub struct Facts {
+    pub serial: Vec<u8>,
+    pub account: Vec<u8>,
+    pub password: Vec<u8>,
+    pub clock: Clock,
+}
+
+type Outcome = Result<(), String>;
+
+/// So many events and more.
+pub fn play(pair: &mut Pair, seed: u64, events: u64) -> Outcome {
+    let chance = &mut Chance::new(seed);
+    while pair.reached.events < events {
+        let filling = chance.byte();
+        match chance.weighed(&[80, 5, 5, 4, 3, 4, 4, 3, 2, 2, 1]) {
+            0 => {
+                for character in message(chance, &pair.model) {
+                    let damage = u8::from(chance.one_in(400)) << 7;
+                    let byte = with_parity(character) ^ damage;
+                    pair.meet(0, byte.into(), ROOM, filling)?;
+                }
+            }
+            1 => {
+                for _ in 0..chance.between(1, 40) {
+                    let byte = chance.byte();
+                    pair.meet(0, byte.into(), ROOM + chance.below(3), filling)?;
+                }
+            }
+            2 => {
+                let mode = chance.below(5) as u8;
+                pair.put(state(chance, mode));
+            }
+            3 => broken_record(pair, chance, filling)?,
+            4 => {
+                let room = chance.one_of(&[0, 1, 19, 2_000, ROOM - 1]);
+                let kind = chance.below(5) as u8;
+                let value = u32::from(chance.byte());
+                pair.meet(kind, value, room, filling)?;
+            }
+            5 => ticks(pair, chance, filling)?,
+            6 => pulses(pair, chance, filling)?,
+            7 => interruption(pair, chance, filling)?,
+            8 => pair.make(&facts(chance))?,
+            9 => {
+                pair.check()?;
+                let (kind, value) = no_event(chance);
+                pair.meet(kind, value, chance.one_of(&[0, ROOM]), filling)?;
+            }
+            _ => {
+                let meter = any_bytes(chance);
+                let kept = std::mem::replace(&mut pair.model, Meter::blank());
+                pair.put(meter);
+                pair.reached.reach("any bytes in the record");
+                pair.check()?;
+                any_event(pair, chance, filling)?;
+                pair.put(kept);
+            }
+        }
+    }
+    Ok(())
+}
+
+/// What a head might say to this meter, or nearly.
+fn message(chance: &mut Chance, meter: &Meter) -> Vec<u8> {
+    let mut message = match meter.mode {
+        0 => match chance.weighed(&[3, 2, 1, 1]) {
+            0 => b"/?!\r\n".to_vec(),
+            1 => sign_on(&meter.serial),
+            2 => sign_on(b"0000000000"),
+            _ => {
+                let mut line = vec![b'/'];
+                let most = chance.between(1, 34);
+                line.extend((0..most).map(|_| chance.between(0x20, 0x2E) as u8));
+                line.push(b'\n');
+                line
+            }
+        },
+        1 => {
+            let wanted = chance.byte() & 0x7F;
+            confirmation(chance.one_of(&[b'1', b'1', b'1', b'1', b'0', b'7', wanted]))
+        }
+        2 => match chance.weighed(&[2, 6, 1, 1]) {
+            0 => password(b"()"),
+            1 => password(&bracketed(&meter.password)),
+            2 => password(&bracketed(&wrong_password(chance, &meter.password))),
+            _ => password(&malformed_password(chance, &meter.password)),
+        },
+        _ => match chance.weighed(&[4, 2, 6, 3, 1, 1, 1]) {
+            0 => read(&good_read(chance)),
+            1 => read(&bad_read(chance)),
+            2 => write(&good_write(chance)),
+            3 => write(&bad_write(chance)),
+            4 => {
+                let length = chance.between(60, 66);
+                long_frame(chance, b"W1", length)
+            }
+            5 => good_bye(),
+            _ => frame(&[chance.byte() & 0x7F, b'1'], Some(b"T()")),
+        },
+    };
+    if chance.percent(8) {
+        let at = chance.below(message.len());
+        message[at] = chance.byte() & 0x7F;
+    }
+    message
+}
+
+/// Seconds, often around the end of a day, a month, a year or the century.
+fn ticks(pair: &mut Pair, chance: &mut Chance, filling: u8) -> Outcome {
+    let mut meter = pair.model.clone();
+    meter.clock = clock(chance);
+    if chance.percent(20) {
+        let last = Clock {
+            year: chance.one_of(&[2000, 2023, 2024, 2099, 2099]),
+            month: chance.one_of(&[2, 12]),
+            day: 28,
+            hour: 23,
+            minute: 59,
+            second: 59,
+        };
+        meter.clock = last;
+        if last.month == 12 {
+            meter.clock.day = 31;
+        }
+    }
+    pair.put(meter);
+    for _ in 0..chance.between(1, 4) {
+        let room = chance.one_of(&[0, 0, ROOM]);
+        pair.meet(2, chance.bits() as u32, room, filling)?;
+    }
+    Ok(())
+}
+
+fn pulses(pair: &mut Pair, chance: &mut Chance, filling: u8) -> Outcome {
+    for _ in 0..chance.between(1, 3) {
+        let wh = match chance.below(6) {
+            0 => chance.one_of(&[0, 1_000_000, 1_000_001, u32::MAX]),
+            1 => chance.bits() as u32,
+            2 => {
+                let counter = chance.one_of(&pair.model.counters);
+                1_000_000_000_u32.saturating_sub(counter).min(1_000_000)
+            }
+            _ => chance.below(1_000_001) as u32,
+        };
+        pair.meet(3, wh, chance.one_of(&[0, ROOM]), filling)?;
+    }
+    Ok(())
+}
+
+/// Silence or power-up, most of the time in the middle of something.
+fn interruption(pair: &mut Pair, chance: &mut Chance, filling: u8) -> Outcome {
+    if chance.percent(60) {
+        let start: &[u8] = match pair.model.mode {
+            0 => b"/?12",
+            1 => b"\x0605",
+            _ => b"\x01R1\x02",
+        };
+        for &character in start {
+            pair.meet(0, with_parity(character).into(), ROOM, filling)?;
+        }
+    }
+    let kind = chance.one_of(&[1, 1, 4]);
+    pair.meet(kind, chance.bits() as u32, ROOM, filling)
+}
+
+/// A kind or a value of no event.
+fn no_event(chance: &mut Chance) -> (u8, u32) {
+    match chance.below(3) {
+        0 => (chance.between(5, 255) as u8, chance.below(300) as u32),
+        1 => (5, chance.bits() as u32),
+        _ => {
+            let far = chance.bits() as u32 >> 1;
+            (0, 256 + chance.one_of(&[0, 0x0A, 0x81, far]))
+        }
+    }
+}
+
+/// Any event, in any room.
+fn any_event(pair: &mut Pair, chance: &mut Chance, filling: u8) -> Outcome {
+    let kind = chance.below(6) as u8;
+    let value = match kind {
+        0 => u32::from(chance.byte()),
+        3 => chance.one_of(&[7, 1_000_000, 1_000_001]),
+        _ => chance.bits() as u32,
+    };
+    let room = chance.one_of(&[0, ROOM - 1, ROOM, ROOM, ROOM, ROOM + 1]);
+    pair.meet(kind, value, room, filling)
+}
+
+/// A record with something wrong in one place, and what happens to it.
+fn broken_record(pair: &mut Pair, chance: &mut Chance, filling: u8) -> Outcome {
+    let kept = pair.model.clone();
+    pair.put(broken(chance));
+    pair.check()?;
+    for _ in 0..3 {
+        any_event(pair, chance, filling)?;
+    }
+    pair.put(kept);
+    Ok(())
+}
+
+fn broken(chance: &mut Chance) -> Meter {
+    let mode = chance.below(5) as u8;
+    let mut meter = state(chance, mode);
+    if mode == 4 && chance.percent(30) {
+        // A whole write that came damaged, and one character before its end.
+        let frame = write(&good_write(chance));
+        meter = holding(meter, &frame[..frame.len() - 1], true);
+    }
+    let odd = chance.byte();
+    match chance.below(12) {
+        0 => meter.mode = odd,
+        1 => meter.attempts = odd,
+        2 => meter.count = odd,
+        3 | 4 => meter.mark = chance.one_of(&[1, 2, 2, 3, 255]),
+        5 => meter.held[chance.below(PLACES)] = odd,
+        6 => meter.serial[chance.below(10)] = odd,
+        7 => meter.account[chance.below(10)] = chance.one_of(&[odd, b'-']),
+        8 => meter.password[chance.below(8)] = odd,
+        9 => meter.clock.day = odd,
+        10 => meter.counters[chance.below(4)] = chance.bits() as u32,
+        _ => meter.tables[chance.below(24)][chance.below(24)] = odd,
+    }
+    meter
+}
+
+/// A record of any bytes at all.
+fn any_bytes(chance: &mut Chance) -> Meter {
+    Meter {
+        mode: chance.byte(),
+        count: chance.byte(),
+        mark: chance.byte(),
+        held: [0; PLACES].map(|_| chance.byte()),
+        serial: [0; 10].map(|_| chance.byte()),
+        account: [0; 10].map(|_| chance.byte()),
+        password: [0; 8].map(|_| chance.byte()),
+        attempts: chance.byte(),
+        clock: Clock {
+            year: chance.bits() as u16,
+            month: chance.byte(),
+            day: chance.byte(),
+            hour: chance.byte(),
+            minute: chance.byte(),
+            second: chance.byte(),
+        },
+        counters: [0; 4].map(|_| chance.bits() as u32),
+        tables: [[0; 24]; 24].map(|row| row.map(|_| chance.byte())),
+    }
+}
+
+/// Facts, good more often than not.
+fn facts(chance: &mut Chance) -> Facts {
+    let mut facts = Facts {
+        serial: digits::<10>(chance).to_vec(),
+        account: account(chance).to_vec(),
+        password: digits::<8>(chance).to_vec(),
+        clock: clock(chance),
+    };
+    let odd = chance.byte();
+    match chance.below(14) {
+        0 => facts.serial[chance.below(10)] = odd,
+        1 => facts.account[chance.below(10)] = odd,
+        2 => facts.password[chance.below(8)] = odd,
+        3 => facts.serial.truncate(chance.one_of(&[0, 9])),
+        4 => facts.account.push(b'1'),
+        5 => facts.password.truncate(chance.below(8)),
+        6 => facts.serial.push(b'1'),
+        7 => facts.clock.second = chance.one_of(&[60, odd]),
+        8 => facts.clock.day = chance.one_of(&[0, 30, 31, 32]),
+        9 => facts.clock.year = chance.one_of(&[0, 1999, 2100, 65_535]),
+        _ => {}
+    }
+    facts
+}

@@ -1,0 +1,276 @@
+//! Counts what the events reached, from the states around them and not from what was meant.
+
+use crate::{Answer, Facts, Meter};
+use model::meter::{data_bits, BLOCK, ROOM};
+use std::collections::{BTreeMap, BTreeSet};
+
+/// What must have happened at least once.
+pub const AIMS: [&str; 82] = [
+    "character: 0",
+    "character: 1",
+    "character: 2",
+    "character: 3",
+    "character: 4",
+    "character: 5",
+    "character: 6",
+    "character: 7",
+    "character: 8",
+    "character: 9",
+    "character: 10",
+    "character: 11",
+    "character: 12",
+    "character: 14",
+    "silence: 0",
+    "silence: 1",
+    "silence: 12",
+    "silence: 14",
+    "tick: 1",
+    "tick: 14",
+    "pulse: 1",
+    "pulse: 13",
+    "pulse: 14",
+    "power-up: 1",
+    "power-up: 14",
+    "no event: 99",
+    "character over 255",
+    "kind over 4",
+    "99 before 14",
+    "13 before 14",
+    "12 before 14",
+    "make: 1",
+    "make: 15",
+    "make, serial of another length",
+    "make, account of another length",
+    "make, password of another length",
+    "make, empty serial",
+    "make, bad character in the serial",
+    "make, bad character in the account",
+    "make, bad character in the password",
+    "make, no real clock",
+    "check: 1",
+    "check: 14",
+    "mode 0",
+    "mode 1",
+    "mode 2",
+    "mode 3",
+    "mode 4",
+    "mode over 4",
+    "attempts over 3",
+    "mark of 2",
+    "mark over 2",
+    "mark with nothing held",
+    "damaged character held",
+    "damaged BCC",
+    "mark cleared by a new start",
+    "bad character held",
+    "count over its limit",
+    "bad clock",
+    "bad counter",
+    "bad table",
+    "bad serial",
+    "bad account",
+    "bad password",
+    "data block sent",
+    "row written",
+    "account written",
+    "clock written",
+    "session entered",
+    "locked",
+    "attempts cleared by power-up",
+    "NAK after silence",
+    "line dropped by silence",
+    "no buffer for a tick",
+    "room exact",
+    "room greater",
+    "counter rolls over",
+    "zone 1 to 4 counted",
+    "leap day reached",
+    "end of a year",
+    "end of 2099",
+    "any bytes in the record",
+];
+
+#[derive(Default)]
+pub struct Reached {
+    pub events: u64,
+    pub made: u64,
+    pub checks: u64,
+    numbers: BTreeMap<u8, u64>,
+    zones: [bool; 4],
+    met: BTreeSet<String>,
+}
+
+fn name_of(kind: u8) -> &'static str {
+    match kind {
+        0 => "character",
+        1 => "silence",
+        2 => "tick",
+        3 => "pulse",
+        _ => "power-up",
+    }
+}
+
+impl Reached {
+    pub fn reach(&mut self, aim: impl Into<String>) {
+        self.met.insert(aim.into());
+    }
+
+    fn when(&mut self, met: bool, aim: &str) {
+        if met {
+            self.reach(aim);
+        }
+    }
+
+    pub fn missed(&self) -> Vec<&'static str> {
+        let mut missed = AIMS.to_vec();
+        missed.retain(|&aim| !self.met.contains(aim));
+        missed
+    }
+
+    /// Each number with how often it came.
+    pub fn answers(&self) -> String {
+        let told = |(number, times)| format!("{number}: {times}");
+        let shown: Vec<String> = self.numbers.iter().map(told).collect();
+        shown.join(", ")
+    }
+
+    pub fn made(&mut self, facts: &Facts, number: u8) {
+        self.made += 1;
+        *self.numbers.entry(number).or_default() += 1;
+        self.reach(format!("make: {number}"));
+        let digits = |text: &[u8]| text.iter().all(u8::is_ascii_digit);
+        let lengths = (
+            facts.serial.len(),
+            facts.account.len(),
+            facts.password.len(),
+        );
+        self.when(lengths.0 != 10, "make, serial of another length");
+        self.when(lengths.0 == 0, "make, empty serial");
+        self.when(lengths.1 != 10, "make, account of another length");
+        self.when(lengths.2 != 8, "make, password of another length");
+        if lengths == (10, 10, 8) {
+            self.when(!digits(&facts.serial), "make, bad character in the serial");
+            self.when(
+                !digits(&facts.password),
+                "make, bad character in the password",
+            );
+            let good = |c: &u8| c.is_ascii_alphanumeric() || b" _".contains(c);
+            let account = facts.account.iter().all(good);
+            self.when(!account, "make, bad character in the account");
+            self.when(!facts.clock.is_real(), "make, no real clock");
+        }
+    }
+
+    pub fn checked(&mut self, number: u8) {
+        self.checks += 1;
+        self.reach(format!("check: {number}"));
+    }
+
+    pub fn event(
+        &mut self,
+        before: &Meter,
+        event: (u8, u32, usize),
+        answer: Answer,
+        after: &Meter,
+    ) {
+        let (kind, value, room) = event;
+        self.events += 1;
+        *self.numbers.entry(answer.number).or_default() += 1;
+        let good = before.well_formed();
+        match answer.number {
+            99 => {
+                self.reach("no event: 99");
+                self.when(kind == 0, "character over 255");
+                self.when(kind > 4, "kind over 4");
+                self.when(!good, "99 before 14");
+                return;
+            }
+            number => self.reach(format!("{}: {number}", name_of(kind))),
+        }
+        self.when(answer.number == 13 && !good, "13 before 14");
+        self.when(answer.number == 12 && !good, "12 before 14");
+        self.when(kind < 2 && room == ROOM, "room exact");
+        self.when(kind < 2 && room > ROOM, "room greater");
+        self.when(kind == 2 && room == 0, "no buffer for a tick");
+        match answer.number {
+            12 | 13 => {}
+            14 => self.malformed(before),
+            _ => self.happened(before, (kind, value), answer, after),
+        }
+    }
+
+    fn malformed(&mut self, meter: &Meter) {
+        self.when(meter.mode > 4, "mode over 4");
+        self.when(meter.attempts > 3, "attempts over 3");
+        self.when(meter.mark == 2, "mark of 2");
+        self.when(meter.mark > 2, "mark over 2");
+        self.when(
+            meter.mark == 1 && meter.count == 0,
+            "mark with nothing held",
+        );
+        self.when(meter.held[0] > 127, "bad character held");
+        self.when(meter.count > 63, "count over its limit");
+        self.when(!meter.clock.is_real(), "bad clock");
+        self.when(
+            meter.counters.iter().any(|&c| c > 999_999_999),
+            "bad counter",
+        );
+        let zones = meter.tables.as_flattened();
+        self.when(
+            zones.iter().any(|zone| !b"1234".contains(zone)),
+            "bad table",
+        );
+        self.when(!meter.serial.iter().all(u8::is_ascii_digit), "bad serial");
+        self.when(
+            !meter.password.iter().all(u8::is_ascii_digit),
+            "bad password",
+        );
+        self.when(meter.account.contains(&b'-'), "bad account");
+    }
+
+    fn happened(&mut self, before: &Meter, event: (u8, u32), answer: Answer, after: &Meter) {
+        let (kind, value) = event;
+        self.reach(format!("mode {}", before.mode));
+        match kind {
+            0 => {
+                let damaged = data_bits(value as u8).is_none();
+                self.when(
+                    damaged && after.count > before.count,
+                    "damaged character held",
+                );
+                self.when(damaged && answer.number == 3, "damaged BCC");
+                let restarted = before.mark == 1 && after.mark == 0 && after.count == 1;
+                self.when(restarted, "mark cleared by a new start");
+                self.when(answer.length == BLOCK, "data block sent");
+                self.when(after.tables != before.tables, "row written");
+                self.when(after.account != before.account, "account written");
+                self.when(after.clock != before.clock, "clock written");
+                self.when(after.mode == 4 && before.mode == 2, "session entered");
+                self.when(answer.number == 11, "locked");
+            }
+            1 => {
+                self.when(answer.length == 1, "NAK after silence");
+                self.when(
+                    before.mode == 0 && before.count > 0,
+                    "line dropped by silence",
+                );
+            }
+            2 => {
+                let leap = (after.clock.month, after.clock.day) == (2, 29);
+                self.when(leap && before.clock.day == 28, "leap day reached");
+                let years = (before.clock.year, after.clock.year);
+                self.when(years.0 != years.1, "end of a year");
+                self.when(years == (2099, 2000), "end of 2099");
+            }
+            3 => {
+                for zone in 0..4 {
+                    self.zones[zone] |= after.counters[zone] != before.counters[zone];
+                    let rolled = after.counters[zone] < before.counters[zone];
+                    self.when(rolled, "counter rolls over");
+                }
+                self.when(self.zones == [true; 4], "zone 1 to 4 counted");
+            }
+            _ => self.when(before.attempts > 0, "attempts cleared by power-up"),
+        }
+    }
+}

@@ -1,0 +1,224 @@
+//! The trial's own trial: meters that are the model but for one fault.
+
+use crate::{library, made, record_of, ruled, Answer, Facts, Firmware, Meter};
+use model::meter::{data_bits, with_parity, ETX, ROOM, SOH};
+
+#[derive(Clone, Copy, Debug, PartialEq, Eq)]
+pub enum Fault {
+    TakesAMarkOfTwo,
+    MalformedBeforeRoom,
+    RoomBeforeThePulse,
+    KindFiveIsATick,
+    CharactersModulo256,
+    WritesPastTheReply,
+    WritesARefusal,
+    EmptiesARefusedRecord,
+    LengthOfARefusal,
+    SpeedOfTheOldState,
+    KeepsTheMark,
+    TakesADamagedBcc,
+    OnlyAcknowledgesARow,
+    WritesTheNextRow,
+    CountsInTheNextHour,
+    StopsAtTheEnd,
+    CountsAPulseTooMuch,
+    LosesTheLeapDay,
+    StaysInDecember,
+    KeepsAttempts,
+    SilenceWithoutNak,
+    SilenceKeepsTheLine,
+    BadFactsKeepTheRecord,
+    MakesOfShortFacts,
+    MakesOfAnyClock,
+    ChecksNoTable,
+    TickNeedsRoom,
+}
+
+pub const FAULTS: [Fault; 27] = [
+    Fault::TakesAMarkOfTwo,
+    Fault::MalformedBeforeRoom,
+    Fault::RoomBeforeThePulse,
+    Fault::KindFiveIsATick,
+    Fault::CharactersModulo256,
+    Fault::WritesPastTheReply,
+    Fault::WritesARefusal,
+    Fault::EmptiesARefusedRecord,
+    Fault::LengthOfARefusal,
+    Fault::SpeedOfTheOldState,
+    Fault::KeepsTheMark,
+    Fault::TakesADamagedBcc,
+    Fault::OnlyAcknowledgesARow,
+    Fault::WritesTheNextRow,
+    Fault::CountsInTheNextHour,
+    Fault::StopsAtTheEnd,
+    Fault::CountsAPulseTooMuch,
+    Fault::LosesTheLeapDay,
+    Fault::StaysInDecember,
+    Fault::KeepsAttempts,
+    Fault::SilenceWithoutNak,
+    Fault::SilenceKeepsTheLine,
+    Fault::BadFactsKeepTheRecord,
+    Fault::MakesOfShortFacts,
+    Fault::MakesOfAnyClock,
+    Fault::ChecksNoTable,
+    Fault::TickNeedsRoom,
+];
+
+pub struct Wrong {
+    meter: Meter,
+    fault: Option<Fault>,
+}
+
+impl Wrong {
+    /// The model itself, which must pass.
+    pub fn right() -> Wrong {
+        Wrong {
+            meter: Meter::blank(),
+            fault: None,
+        }
+    }
+
+    pub fn with(fault: Fault) -> Wrong {
+        Wrong {
+            meter: Meter::blank(),
+            fault: Some(fault),
+        }
+    }
+
+    /// What the fault makes of the event, before the model has it.
+    fn turned(&self, kind: u8, value: u32, room: usize) -> Result<(u8, u32), u8> {
+        let good = self.meter.well_formed();
+        match self.fault {
+            Some(Fault::MalformedBeforeRoom) if kind < 2 && !good && room < ROOM => Err(14),
+            Some(Fault::RoomBeforeThePulse) if kind == 3 && room < 1 => Err(12),
+            Some(Fault::TickNeedsRoom) if kind == 2 && room < ROOM => Err(12),
+            Some(Fault::KindFiveIsATick) if kind == 5 => Ok((2, value)),
+            Some(Fault::CharactersModulo256) if kind == 0 => Ok((0, value % 256)),
+            Some(Fault::CountsAPulseTooMuch) if kind == 3 && value == 1_000_001 => {
+                Ok((3, 1_000_000))
+            }
+            _ => Ok((kind, value)),
+        }
+    }
+}
+
+fn refused(number: u8) -> Answer {
+    Answer {
+        number,
+        speed: 0,
+        length: 0,
+    }
+}
+
+impl Firmware for Wrong {
+    fn make(&mut self, facts: &Facts) -> u8 {
+        let mut given = facts.clone();
+        match self.fault {
+            Some(Fault::MakesOfShortFacts) if given.serial.len() == 9 => given.serial.push(b'0'),
+            Some(Fault::MakesOfAnyClock) if given.clock.second == 60 => given.clock.second = 59,
+            _ => {}
+        }
+        let (number, meter) = made(&given);
+        if number == 1 || self.fault != Some(Fault::BadFactsKeepTheRecord) {
+            self.meter = meter;
+        }
+        number
+    }
+
+    fn put(&mut self, meter: &Meter) {
+        self.meter = meter.clone();
+    }
+
+    fn check(&mut self) -> u8 {
+        let mut meter = self.meter.clone();
+        if self.fault == Some(Fault::ChecksNoTable) {
+            meter.tables = Meter::blank().tables;
+        }
+        if meter.well_formed() {
+            1
+        } else {
+            14
+        }
+    }
+
+    fn meet(&mut self, kind: u8, value: u32, reply: &mut [u8]) -> Answer {
+        let before = self.meter.clone();
+        let (kind, value) = match self.turned(kind, value, reply.len()) {
+            Ok(turned) => turned,
+            Err(number) => return refused(number),
+        };
+        if self.fault == Some(Fault::TakesAMarkOfTwo) && self.meter.mark == 2 {
+            self.meter.mark = 1;
+            if !self.meter.well_formed() {
+                self.meter.mark = 2;
+            }
+        }
+        let frame_ends = before.well_formed() && before.held().last() == Some(&ETX);
+        let damaged = kind == 0 && data_bits(value as u8).is_none();
+        if self.fault == Some(Fault::TakesADamagedBcc) && frame_ends && damaged {
+            let good = u32::from(with_parity(value as u8 & 0x7F));
+            return ruled(&mut self.meter, kind, good, reply);
+        }
+        let mut answer = ruled(&mut self.meter, kind, value, reply);
+        let row = self.meter.tables != before.tables;
+        match self.fault {
+            Some(Fault::WritesPastTheReply) if answer.length > 0 => {
+                reply[answer.length] = !reply[answer.length];
+            }
+            Some(Fault::WritesARefusal) if answer.number == 14 && !reply.is_empty() => {
+                reply[0] = !reply[0];
+            }
+            Some(Fault::EmptiesARefusedRecord) if answer.number == 14 => {
+                self.meter.held[62] = 0;
+                self.meter.count = 0;
+            }
+            Some(Fault::LengthOfARefusal) if answer.number == 12 => answer.length = 1,
+            Some(Fault::SpeedOfTheOldState) if answer.number == 1 => answer.speed = before.speed(),
+            Some(Fault::KeepsTheMark) if kind == 0 && value as u8 == SOH | 0x80 => {
+                self.meter.mark = u8::from(self.meter.count > 0) & before.mark;
+            }
+            Some(Fault::OnlyAcknowledgesARow) if row => self.meter.tables = before.tables,
+            Some(Fault::WritesTheNextRow) if row => self.meter.tables.rotate_right(1),
+            Some(Fault::CountsInTheNextHour) if kind == 3 && answer.number == 1 => {
+                self.meter = before;
+                let hour = self.meter.clock.hour;
+                self.meter.clock.hour = (hour + 1) % 24;
+                answer = self.meter.pulse(value);
+                self.meter.clock.hour = hour;
+            }
+            Some(Fault::StopsAtTheEnd) if kind == 3 => {
+                for (after, before) in self.meter.counters.iter_mut().zip(before.counters) {
+                    if *after < before {
+                        *after = 999_999_999;
+                    }
+                }
+            }
+            Some(Fault::LosesTheLeapDay)
+                if (self.meter.clock.month, self.meter.clock.day) == (2, 29) =>
+            {
+                if kind == 2 && before.clock.day == 28 {
+                    self.meter.clock.month = 3;
+                    self.meter.clock.day = 1;
+                }
+            }
+            Some(Fault::StaysInDecember)
+                if kind == 2 && self.meter.clock.year != before.clock.year =>
+            {
+                self.meter.clock = before.clock;
+            }
+            Some(Fault::KeepsAttempts) if kind == 4 => self.meter.attempts = before.attempts,
+            Some(Fault::SilenceWithoutNak) if kind == 1 && answer.length == 1 => {
+                reply[0] = 0;
+            }
+            Some(Fault::SilenceKeepsTheLine) if kind == 1 && before.mode == 0 => {
+                self.meter = before;
+            }
+            _ => {}
+        }
+        answer
+    }
+
+    fn record(&self) -> library::Meter {
+        record_of(&self.meter)
+    }
+}

@@ -1,0 +1,311 @@
+//! The lines of the trial: some by hand, the rest by chance, good, nearly good and damaged.
+
+use model::bench::{put_hex, LINE_MOST};
+use model::head::{block, on_the_wire};
+use model::post::{text_of, Table};
+use trials::chance::Chance;
+use trials::head_words::{ACCOUNT, ADDRESS, DIGITS, VALUE, ZONES};
+
+fn hex(bytes: &[u8]) -> String {
+    let mut line = String::new();
+    put_hex(&mut line, bytes);
+    line
+}
+
+/// Lines at the edges of what a script can say.
+pub fn fixed() -> Vec<Vec<u8>> {
+    let mut lines: Vec<Vec<u8>> = [
+        "",
+        " ",
+        "build",
+        "build ",
+        "build any",
+        "build any 64",
+        "build any 064",
+        "build any 18446744073709551615",
+        "build any 18446744073709551616",
+        "build any 99999999999999999999999999",
+        "build any -1",
+        "build any +64",
+        "build any 64 ",
+        "build any  64",
+        "build any 64 64",
+        "build nothing 64",
+        "Build any 64",
+        "build any\t64",
+        "build energy 64 0",
+        "build energy 64 255",
+        "build energy 64 256",
+        "build setclock 64 65535 1 1 0 0 0",
+        "build setclock 64 65536 1 1 0 0 0",
+        "build setclock 64 2024 2 29 23 59 59",
+        "build confirm 64 31",
+        "build confirm 64 -",
+        "build confirm 64 3131",
+        "build serial 64 -",
+        "build serial 64 31",
+        "build serial 64 3",
+        "build settable 64 24 -",
+        "value",
+        "value serial",
+        "value serial -",
+        "value nothing -",
+        "check",
+        "check -",
+        "check 31 31",
+        "export 0 -",
+        "export 18446744073709551615 -",
+        "strip 0 -",
+        "strip 1 2a",
+        "strip 1 aa",
+        "strip 18446744073709551615 aaaa",
+        "part -",
+        "part 020303",
+        "part 02 0303",
+        "next 0 -",
+        "next 18446744073709551615 -",
+        "next 18446744073709551616 -",
+        "next 0 412829",
+        "find 41 -",
+        "session any open reads",
+        "dump",
+        "\0",
+    ]
+    .map(|line| line.into())
+    .into();
+    // The longest line there is, and one more.
+    for length in [LINE_MOST, LINE_MOST + 1, LINE_MOST + 2, 3 * LINE_MOST] {
+        for start in ["check ", "strip 999999 ", "strip 0099999 "] {
+            let mut line = start.as_bytes().to_vec();
+            line.resize(length, b'0');
+            lines.push(line);
+        }
+    }
+    lines.push(b"build any 64".to_vec());
+    lines
+}
+
+/// A line of some kind.
+pub fn any(chance: &mut Chance) -> Vec<u8> {
+    let line = match chance.weighed(&[40, 12, 6, 12, 18, 6, 8]) {
+        0 => build(chance),
+        1 => strip(chance),
+        2 => part(chance),
+        3 => next(chance),
+        4 => value(chance),
+        5 => format!("check {}", hex(&post(chance))),
+        _ => export(chance),
+    };
+    let mut line = line.into_bytes();
+    if chance.percent(12) {
+        damage(chance, &mut line);
+    }
+    line
+}
+
+/// A room near the one that is needed, or far from it.
+fn room(chance: &mut Chance, needed: usize) -> String {
+    match chance.weighed(&[30, 10, 10, 10, 4, 3, 3, 3]) {
+        0 => needed.to_string(),
+        1 => needed.saturating_sub(1).to_string(),
+        2 => (needed + chance.below(40)).to_string(),
+        3 => chance.below(needed + 1).to_string(),
+        4 => chance.bits().to_string(),
+        5 => format!("00{needed}"),
+        6 => u64::MAX.to_string(),
+        _ => "18446744073709551616".into(),
+    }
+}
+
+/// A number of 8 bits, mostly in a range, now and then over.
+fn short(chance: &mut Chance, least: usize, most: usize) -> usize {
+    match chance.below(12) {
+        0 => chance.below(256),
+        1 => chance.between(254, 258),
+        _ => chance.between(least, most),
+    }
+}
+
+/// A field of characters, good more often than not.
+fn field(chance: &mut Chance, made_of: &[u8], length: usize) -> String {
+    let mut field = chance.text(made_of, length);
+    match chance.below(8) {
+        0 => chance.hurt(&mut field),
+        1 => {
+            let length = chance.below(40);
+            field = chance.text(made_of, length);
+        }
+        _ => {}
+    }
+    hex(&field)
+}
+
+fn build(chance: &mut Chance) -> String {
+    let room = room(chance, 64);
+    let rest = match chance.below(14) {
+        0 => format!("serial {room} {}", field(chance, DIGITS, 10)),
+        1 => {
+            let choice = match chance.below(3) {
+                0 => chance.byte(),
+                _ => chance.one_of(b"0177"),
+            };
+            format!("confirm {room} {choice:02x}")
+        }
+        2 => format!("password {room} {}", field(chance, DIGITS, 8)),
+        3 => format!("energy {room} {}", short(chance, 0, 5)),
+        4 => format!("table {room} {}", short(chance, 0, 26)),
+        5 => format!("setaccount {room} {}", field(chance, ACCOUNT, 10)),
+        6 => {
+            let table = short(chance, 0, 26);
+            format!("settable {room} {table} {}", field(chance, ZONES, 24))
+        }
+        7 => {
+            let c = chance.clock();
+            let year = match chance.below(12) {
+                0 => chance.between(65_530, 65_540),
+                _ => usize::from(c.year),
+            };
+            let (month, day) = (c.month, c.day);
+            let second = match chance.below(12) {
+                0 => chance.between(250, 260),
+                _ => usize::from(c.second),
+            };
+            format!(
+                "setclock {room} {year} {month} {day} {} {} {second}",
+                c.hour, c.minute
+            )
+        }
+        plain => {
+            let names = ["any", "readonly", "clock", "number", "account", "break"];
+            format!("{} {room}", names[plain - 8])
+        }
+    };
+    format!("build {rest}")
+}
+
+/// Some data sets, seldom all of a meter's.
+fn sets(chance: &mut Chance) -> Vec<u8> {
+    if chance.one_in(12) {
+        return chance.registers().data();
+    }
+    let mut data = Vec::new();
+    for _ in 0..chance.below(4) {
+        let (address, value) = (chance.between(1, 17), chance.below(34));
+        data.extend(chance.text(ADDRESS, address));
+        data.push(b'(');
+        data.extend(chance.text(VALUE, value));
+        data.extend(b")\r\n");
+    }
+    if chance.percent(60) {
+        data.extend(b"!\r\n");
+    }
+    data
+}
+
+fn strip(chance: &mut Chance) -> String {
+    let mut wire = on_the_wire(&block(&sets(chance)));
+    if chance.percent(30) {
+        let length = chance.below(20);
+        let text: Vec<u8> = (0..length).map(|_| chance.byte() & 0x7F).collect();
+        wire = on_the_wire(&text);
+    }
+    if chance.percent(30) && !wire.is_empty() {
+        let place = chance.below(wire.len());
+        wire[place] ^= 1 << chance.below(8);
+    }
+    format!("strip {} {}", room(chance, wire.len()), hex(&wire))
+}
+
+fn part(chance: &mut Chance) -> String {
+    let mut stripped = block(&sets(chance));
+    if chance.percent(60) {
+        chance.hurt(&mut stripped);
+    }
+    format!("part {}", hex(&stripped))
+}
+
+fn next(chance: &mut Chance) -> String {
+    let mut data = sets(chance);
+    if chance.percent(40) {
+        chance.hurt(&mut data);
+    }
+    let ends: Vec<usize> = (0..data.len())
+        .filter(|&at| at == 0 || data[at - 1] == b'\n')
+        .collect();
+    let at = match chance.weighed(&[60, 15, 10, 5]) {
+        0 if !ends.is_empty() => chance.one_of(&ends).to_string(),
+        1 => chance.below(data.len() + 3).to_string(),
+        2 => data.len().to_string(),
+        3 => u64::MAX.to_string(),
+        _ => "0".into(),
+    };
+    format!("next {at} {}", hex(&data))
+}
+
+fn value(chance: &mut Chance) -> String {
+    let kinds = [
+        ("serial", 0),
+        ("date", 1),
+        ("time", 2),
+        ("account", 3),
+        ("counter", 4),
+        ("row", 9),
+    ];
+    let (kind, place) = chance.one_of(&kinds);
+    let place = match chance.below(12) {
+        0 => chance.one_of(&kinds).1,
+        _ => place,
+    };
+    let (_, value) = chance.registers().data_sets().swap_remove(place);
+    let mut value = value.into_bytes();
+    if chance.percent(40) {
+        chance.hurt(&mut value);
+    }
+    format!("value {kind} {}", hex(&value))
+}
+
+/// A post, mostly a short one, or nearly one.
+fn post(chance: &mut Chance) -> Vec<u8> {
+    let share = chance.one_of(&[4, 4, 4, 10, 30, 100]);
+    let mut tables = Vec::new();
+    for number in 1..=24 {
+        if chance.percent(share) {
+            let row = chance.texts(ZONES);
+            tables.push(Table { number, row });
+        }
+    }
+    let mut text = text_of(&tables);
+    if chance.percent(40) {
+        chance.hurt(&mut text);
+    }
+    text
+}
+
+fn export(chance: &mut Chance) -> String {
+    let text = post(chance);
+    let needed = text.len() / 36 * 36;
+    format!("export {} {}", room(chance, needed), hex(&text))
+}
+
+/// One thing wrong with a line; now and then it stays a line.
+fn damage(chance: &mut Chance, line: &mut Vec<u8>) {
+    let place = chance.below(line.len());
+    match chance.below(10) {
+        0 => drop(line.remove(place)),
+        1 => line.insert(place, chance.one_of(b" 0123459-+afAFxyz\t\r")),
+        2 => line[place] = chance.one_of(b" 0123459-+afAFxyz\t\r"),
+        3 => {
+            let byte = chance.byte();
+            line[place] = if byte == b'\n' { b' ' } else { byte };
+        }
+        4 => line.extend(chance.pick::<[u8]>(&[b" ", b" 64", b" -", b" 00", b" x"])),
+        5 => {
+            let last = line.iter().rposition(|&byte| byte == b' ');
+            line.truncate(last.unwrap_or(0));
+        }
+        6 => line[place..].make_ascii_uppercase(),
+        7 => line.truncate(place),
+        8 => line.clear(),
+        _ => line.insert(0, b' '),
+    }
+}

@@ -1,0 +1,204 @@
+//! Counts what the lines reached, from the line and its answer and not from what was meant.
+
+use std::collections::BTreeMap;
+
+/// Each call with the numbers that it can answer.
+const CALLS: &[(&str, &[u8])] = &[
+    ("build any", &[1, 19]),
+    ("build serial", &[1, 9, 19]),
+    ("build confirm", &[1, 9, 19]),
+    ("build readonly", &[1, 19]),
+    ("build password", &[1, 9, 19]),
+    ("build clock", &[1, 19]),
+    ("build number", &[1, 19]),
+    ("build account", &[1, 19]),
+    ("build energy", &[1, 9, 19]),
+    ("build table", &[1, 9, 19]),
+    ("build setclock", &[1, 9, 19]),
+    ("build setaccount", &[1, 9, 19]),
+    ("build settable", &[1, 9, 19]),
+    ("build break", &[1, 19]),
+    ("value serial", &[1, 25]),
+    ("value account", &[1, 25]),
+    ("value row", &[1, 25]),
+    ("value counter", &[1, 25]),
+    ("value date", &[1, 25]),
+    ("value time", &[1, 25]),
+    ("check", &[1, 20]),
+    ("export", &[1, 20, 21]),
+    ("strip", &[1, 24, 26]),
+    ("part", &[1, 22, 23]),
+    ("next", &[0, 1, 25]),
+];
+
+/// What must have happened beside that.
+const MORE: &[&str] = &[
+    "room of more than 32 bits",
+    "room of 64 bits and one",
+    "room exact: build",
+    "room exact: export",
+    "room exact: strip",
+    "empty text",
+    "empty line",
+    "capital hex",
+    "word too many",
+    "word missing",
+    "number too great for 8 bits",
+    "number too great for 16 bits",
+    "number with zeros before it",
+    "odd hex",
+    "line of the greatest length",
+    "line that is one too long",
+    "total asked for",
+    "table 24",
+    "24 lines exported",
+    "place past the end",
+    "a filling byte that was written",
+];
+
+#[derive(Default)]
+pub struct Reached {
+    pub lines: u64,
+    pub errors: u64,
+    met: BTreeMap<String, u64>,
+}
+
+/// Everything that must be reached.
+pub fn aims() -> Vec<String> {
+    let calls = CALLS.iter().flat_map(|(call, numbers)| {
+        numbers
+            .iter()
+            .map(move |number| format!("{call}: {number}"))
+    });
+    calls.chain(MORE.iter().map(|&aim| aim.into())).collect()
+}
+
+fn hex_length(word: &str) -> usize {
+    if word == "-" {
+        0
+    } else {
+        word.len() / 2
+    }
+}
+
+impl Reached {
+    fn reach(&mut self, aim: &str) {
+        *self.met.entry(aim.into()).or_default() += 1;
+    }
+
+    pub fn missed(&self) -> Vec<String> {
+        let mut missed = aims();
+        missed.retain(|aim| !self.met.contains_key(aim));
+        missed
+    }
+
+    /// A line and its answer.
+    pub fn line(&mut self, line: &[u8], told: Option<&str>) {
+        self.lines += 1;
+        let words: Vec<&str> = match std::str::from_utf8(line) {
+            Ok(text) => text.split(' ').collect(),
+            Err(_) => Vec::new(),
+        };
+        match told {
+            Some(told) => self.answered(&words, told),
+            None => self.refused(line, &words),
+        }
+    }
+
+    fn answered(&mut self, words: &[&str], told: &str) {
+        let told: Vec<&str> = told.split(' ').collect();
+        let (call, rest) = match words[0] {
+            "build" | "value" => (words[..2].join(" "), &words[2..]),
+            _ => (words[0].to_string(), &words[1..]),
+        };
+        self.reach(&format!("{call}: {}", told[0]));
+        let done = told[0] == "1";
+        let has_room = call.starts_with("build") || call == "export" || call == "strip";
+        if has_room {
+            let room: u64 = rest[0].parse().expect("it was taken");
+            let exact = match (words[0], done) {
+                ("build", true) => room == 64,
+                (_, true) => Some(room) == told[1].parse().ok(),
+                _ => false,
+            };
+            if exact {
+                self.reach(&format!("room exact: {}", words[0]));
+            }
+            if room > u64::from(u32::MAX) {
+                self.reach("room of more than 32 bits");
+            }
+            if rest[0].starts_with('0') && rest[0].len() > 1 {
+                self.reach("number with zeros before it");
+            }
+            if done && told[2].ends_with("aa") {
+                self.reach("a filling byte that was written");
+            }
+        }
+        match (&call[..], done) {
+            ("build energy", true) if rest[1] == "0" => self.reach("total asked for"),
+            ("build table" | "build settable", true) if rest[1] == "24" => self.reach("table 24"),
+            ("export", true) if told[1] == "864" => self.reach("24 lines exported"),
+            ("next", false) => {
+                let at: u64 = rest[0].parse().expect("it was taken");
+                if at > hex_length(rest[1]) as u64 {
+                    self.reach("place past the end");
+                }
+            }
+            _ => {}
+        }
+        if rest.last() == Some(&"-") {
+            self.reach("empty text");
+        }
+        let length = words.iter().map(|word| word.len() + 1).sum::<usize>() - 1;
+        if length == model::bench::LINE_MOST {
+            self.reach("line of the greatest length");
+        }
+    }
+
+    fn refused(&mut self, line: &[u8], words: &[&str]) {
+        self.errors += 1;
+        if line.is_empty() {
+            self.reach("empty line");
+        }
+        if line.len() == model::bench::LINE_MOST + 1 {
+            self.reach("line that is one too long");
+        }
+        // What the line would be without the one thing that is wrong with it.
+        let taken = |words: &[&str]| model::headbench::answer(words.join(" ").as_bytes()).is_some();
+        if words.len() > 20 || line.len() > 4_000 {
+            return;
+        }
+        if words.len() > 1 && taken(&words[..words.len() - 1]) {
+            self.reach("word too many");
+        }
+        for more in ["64", "-", "00"] {
+            if taken(&[words, &[more]].concat()) {
+                self.reach("word missing");
+            }
+        }
+        for (place, word) in words.iter().enumerate() {
+            let with = |other: &str| {
+                let mut words = words.to_vec();
+                words[place] = other;
+                taken(&words)
+            };
+            let small = word.to_ascii_lowercase();
+            if small != *word && with(&small) {
+                self.reach("capital hex");
+            }
+            if word.len() % 2 == 1 && with(&word[1..]) && !with("7") {
+                self.reach("odd hex");
+            }
+            match word.parse::<u128>() {
+                Ok(256..=999) if with("255") => self.reach("number too great for 8 bits"),
+                Ok(65_536..=99_999) if with("65535") => {
+                    self.reach("number too great for 16 bits");
+                }
+                Ok(18_446_744_073_709_551_616) if with("18446744073709551615") => {
+                    self.reach("room of 64 bits and one");
+                }
+                _ => {}
+            }
+        }
+    }
+}

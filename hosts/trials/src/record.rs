@@ -1,0 +1,42 @@
+//! The model's meter as the record that the library takes.
+
+use dirgemist::meter::{Clock, Counters, Date, Facts, Meter, Receiver, Registers, Time};
+
+pub fn clock_of(clock: &model::meter::Clock) -> Clock {
+    Clock {
+        date: Date {
+            year: clock.year,
+            month: clock.month,
+            day: clock.day,
+        },
+        time: Time {
+            hour: clock.hour,
+            minute: clock.minute,
+            second: clock.second,
+        },
+    }
+}
+
+pub fn record_of(meter: &model::meter::Meter) -> Meter {
+    Meter {
+        mode: meter.mode,
+        attempts: meter.attempts,
+        receiver: Receiver {
+            held: meter.held,
+            count: meter.count,
+            mark: meter.mark,
+        },
+        registers: Registers {
+            facts: Facts {
+                serial: meter.serial,
+                password: meter.password,
+            },
+            account: meter.account,
+            clock: clock_of(&meter.clock),
+            counters: Counters {
+                zones: meter.counters,
+            },
+            tables: meter.tables,
+        },
+    }
+}
