@@ -98,14 +98,18 @@ answer-recites g good (ask.Energy n) h =
     and-then _ _ _ _ (energy-reads n wh (energy-small (g .counters) (counters-small g good) n)) and-none
 answer-recites g good (ask.Table t) h = and-then _ _ _ _ (row-reads g good (t .0) h) and-none
 
+-- the data block reads to its end as its own sets
+pub block-read : (g : Registers) → registersGood g ≡ true → readAll (blockData 24 g) ≡ record { sets = blockSets 24 g; number = 0; place = length (linesOf (blockSets 24 g)) }
+unfolding blockData lastLine
+block-read g good = sets-read-back (blockSets 24 g) (block-good 24 g good)
+
 module _ (m : Meter) (f : wellFormed m ≡ true) where
   -- the data block: all 33 data sets in order
   pub block-reads-back : ReadsBack (blockData 24 (m .registers)) (blockSays (m .registers))
-  unfolding blockData lastLine
   block-reads-back =
       let g = m .registers in
       let good = formed m f .registers in
-      reads-back (blockData 24 g) (blockSays g) (blockSets 24 g) (length (linesOf (blockSets 24 g))) (block-shown 24 g good) (sets-read-back (blockSets 24 g) (block-good 24 g good))
+      reads-back (blockData 24 g) (blockSays g) (blockSets 24 g) (length (linesOf (blockSets 24 g))) (block-shown 24 g good) (block-read g good)
       (block-recites g good)
 
   -- and every answer to R1
