@@ -2,7 +2,7 @@
  *
  * A head signs on, confirms, sends P1 and then R1 and W1 frames, and ends with B0. Each of these is built by one call, parity and
  * BCC included, ready for the line. A reply is stripped of its parity, its part is found, and the data sets of the part are read
- * one by one; the value of a set is read back to the numbers or characters that made it.
+ * one by one, or one is found by its address; the value of a set is read back to the numbers or characters that made it.
  *
  * Every function takes any bytes of any length and any numbers, keeps nothing between calls and may be called from several
  * threads at once. Each is proved, for all inputs, to do what its paragraph says. A buffer is a pointer and a length; where the
@@ -31,6 +31,7 @@ extern "C" {
 #define DIRGEMIST_HEAD_DAMAGED 24    /* a byte whose count of ones is odd; nothing written */
 #define DIRGEMIST_HEAD_MALFORMED 25  /* no data set at that place, or a value not in its line's form */
 #define DIRGEMIST_HEAD_SHORT_COPY 26 /* a buffer shorter than what goes into it; nothing written */
+#define DIRGEMIST_HEAD_MISSING 27    /* the sets ended, and none has the address */
 
 /* Lengths in bytes. */
 #define DIRGEMIST_HEAD_COMMAND_ROOM 64 /* the least buffer that a command is built in */
@@ -116,6 +117,15 @@ uint8_t dirgemist_head_next(const uint8_t *sets, size_t sets_length, size_t at, 
 /* Reads the data set behind the first count sets of the sets_length bytes at sets: with 0 the first. *start is the place where it was read, and
  * the rest is what dirgemist_head_next returns and writes for that place. Where an end or a malformed set comes before, it is that one. */
 uint8_t dirgemist_head_set_after(const uint8_t *sets, size_t sets_length, size_t count, size_t *start, size_t *address_length, size_t *value_length, size_t *next, size_t *place);
+
+/* Finds the first data set of the sets_length bytes at sets that has the address of asked_length bytes at asked, and reads no further. Any
+ * bytes may be asked for; an address that no set can have is never found. Returns
+ *   DIRGEMIST_HEAD_DONE       the set's address is the *address_length bytes from sets + *address_start on, its value the *value_length bytes
+ *                             from sets + *value_start on; *count is its position, the first set being 1; *place is 0;
+ *   DIRGEMIST_HEAD_MALFORMED  before any match a malformed set stands at *place, behind *count good ones;
+ *   DIRGEMIST_HEAD_MISSING    none of the *count sets before `!` CR LF or the end of the data has it; *place is 0.
+ * But for DIRGEMIST_HEAD_DONE both starts and both lengths are 0. Whatever stands behind the match changes nothing. */
+uint8_t dirgemist_head_find(const uint8_t *sets, size_t sets_length, const uint8_t *asked, size_t asked_length, size_t *count, size_t *place, size_t *address_start, size_t *address_length, size_t *value_start, size_t *value_length);
 
 /* ---- Values, as they stand between the brackets of a data set.
  *

@@ -39,8 +39,9 @@ struct call {
     void (*play)(const struct given *given);
 };
 
-static struct buffer buffer; /* what a call writes to */
-static struct pages texts;   /* what it only reads: one text a line */
+static struct buffer buffer;                /* what a call writes to */
+static struct pages texts[2];               /* what it only reads: two texts a line at most */
+static size_t texts_taken;
 static bool text_at_the_start;
 
 static bool take_text(struct word word, struct given *given) {
@@ -48,8 +49,7 @@ static bool take_text(struct word word, struct given *given) {
     if (!size_of(word, &size)) {
         return false;
     }
-    text_at_the_start = !text_at_the_start;
-    uint8_t *place = placed(texts, size, text_at_the_start);
+    uint8_t *place = placed(texts[texts_taken++], size, text_at_the_start);
     given->text = place;
     given->length = size;
     return bytes_of(word, place, size);
@@ -78,6 +78,8 @@ static bool play_call(const struct call *call, const struct word *words, size_t 
     if (count != call->count) {
         return false;
     }
+    texts_taken = 0;
+    text_at_the_start = !text_at_the_start;
     for (size_t at = 0; at < count; at++) {
         if (!take(call->kinds[at], words[at], &given[at])) {
             return false;
@@ -90,7 +92,7 @@ static bool play_call(const struct call *call, const struct word *words, size_t 
 /* ---- What a call hands out: memory of its own size, and not what it was. */
 
 #define UNWRITTEN 0xA5
-#define NUMBERS 5
+#define NUMBERS 6
 
 static size_t *numbers[NUMBERS];
 static uint8_t *shorts[3];
@@ -242,6 +244,13 @@ static void next(const struct given *g) {
     put('\n');
 }
 
+static void find(const struct given *g) {
+    unwrite();
+    uint8_t answer = dirgemist_head_find(T(1), T(0), numbers[0], numbers[1], numbers[2], numbers[3], numbers[4], numbers[5]);
+    TELL(answer, *numbers[0], *numbers[1], *numbers[2], *numbers[3], *numbers[4], *numbers[5]);
+    put('\n');
+}
+
 static const struct call calls[] = {
     {"build", "any", 1, {ROOM}, any},
     {"build", "serial", 2, {ROOM, TEXT}, serial},
@@ -268,6 +277,7 @@ static const struct call calls[] = {
     {"strip", "", 2, {ROOM, TEXT}, strip},
     {"part", "", 1, {TEXT}, part},
     {"next", "", 2, {ROOM, TEXT}, next},
+    {"find", "", 2, {TEXT, TEXT}, find},
 };
 
 static bool play(const struct word *words, size_t count) {
@@ -284,7 +294,9 @@ static bool play(const struct word *words, size_t count) {
 
 int main(void) {
     buffer = buffer_for(ROOM_LENT);
-    texts = guarded(BYTES_MOST);
+    for (size_t at = 0; at < COUNT(texts); at++) {
+        texts[at] = guarded(BYTES_MOST);
+    }
     for (size_t at = 0; at < NUMBERS; at++) {
         numbers[at] = own(sizeof *numbers[at]);
     }

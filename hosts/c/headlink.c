@@ -12,6 +12,7 @@ _Static_assert(DIRGEMIST_HEAD_END == 0 && DIRGEMIST_HEAD_DONE == 1, "end and don
 _Static_assert(DIRGEMIST_HEAD_FIELD == 9 && DIRGEMIST_HEAD_NO_ROOM == 19 && DIRGEMIST_HEAD_COMMAND_ROOM == 64, "commands");
 _Static_assert(DIRGEMIST_HEAD_SHORT_COPY == 26 && DIRGEMIST_HEAD_DAMAGED == 24, "strip");
 _Static_assert(DIRGEMIST_HEAD_NO_BLOCK == 22 && DIRGEMIST_HEAD_WRONG_BCC == 23 && DIRGEMIST_HEAD_MALFORMED == 25, "parts, sets and values");
+_Static_assert(DIRGEMIST_HEAD_MISSING == 27, "lookups");
 _Static_assert(DIRGEMIST_HEAD_SERIAL == 10 && DIRGEMIST_HEAD_PASSWORD == 8 && DIRGEMIST_HEAD_ACCOUNT == 10 && DIRGEMIST_HEAD_ROW == 24, "fields");
 
 #define KEPT 0x5A
@@ -82,7 +83,7 @@ static int is_time(int hour, int minute, int second) {
 
 static uint8_t *out;
 static size_t room;
-static size_t *length, *start, *address_length, *value_length, *next, *place;
+static size_t *length, *start, *address_length, *value_length, *next, *place, *count, *value_start;
 static const uint8_t *field;
 static size_t field_length;
 
@@ -90,7 +91,7 @@ static void lend(size_t size) {
     out = exactly(size);
     room = size;
     memset(out, KEPT, size);
-    *length = *start = *address_length = *value_length = *next = *place = 99;
+    *length = *start = *address_length = *value_length = *next = *place = *count = *value_start = 99;
     calls++;
 }
 
@@ -427,6 +428,84 @@ static void try_sets(void) {
     }
 }
 
+/* What is asked for, as many bytes as it has, in memory of its own. */
+static void try_find(const char *sets, size_t size, const char *asked, size_t asked_size, uint8_t number, size_t read, size_t at, size_t address, size_t value) {
+    const uint8_t *own = lent(sets, size), *asks = lent(asked, asked_size);
+    int found = number == 1;
+    lend(0);
+    expect(dirgemist_head_find(own, size, asks, asked_size, count, place, start, address_length, value_start, value_length) == number, "find's number");
+    expect(*count == read, "how many sets were read");
+    expect(*place == (number == 25 ? at : 0), "the place of a malformed set before any match");
+    expect(*start == (found ? at : 0) && *address_length == (found ? address : 0), "the address that was found");
+    expect(*value_start == (found ? at + address + 1 : 0) && *value_length == (found ? value : 0), "the value that was found");
+    give_back(out, room);
+    give_back(asks, asked_size);
+    give_back(own, size);
+}
+
+static void try_finds(void) {
+    static const char sets[] = "C.1.0(123 4567890)\r\n0.0.0()\r\n15.8.1(000001.500*kWh)\r\n0.0.0(again)\r\n!\r\n15.8.0(x)\r\n";
+    static const size_t starts[] = {0, 20, 29, 53, 67};
+    size_t size = sizeof sets - 1;
+    static const struct { const char *address; size_t read, at, value; } known[] = {{"C.1.0", 1, 0, 11}, {"0.0.0", 2, 20, 0}, {"15.8.1", 3, 29, 14}};
+    for (size_t i = 0; i < COUNT(known); i++) {
+        const char *address = known[i].address;
+        size_t wide = strlen(address), end = known[i].at + wide + known[i].value + 4;
+        try_find(sets, size, address, wide, 1, known[i].read, known[i].at, wide, known[i].value);
+
+        /* Cut anywhere: the same from the end of the match on, and before it the set that is cut. */
+        for (size_t cut = 0; cut <= size; cut++) {
+            size_t good = 0;
+            while (good < 4 && starts[good + 1] <= cut) {
+                good++;
+            }
+            if (cut >= end) {
+                try_find(sets, cut, address, wide, 1, known[i].read, known[i].at, wide, known[i].value);
+            } else {
+                try_find(sets, cut, address, wide, starts[good] == cut ? 27 : 25, good, starts[good], 0, 0);
+            }
+        }
+
+        /* Any byte behind the match: the same. Any byte in place of one before it that a set can't have: the place of that set. */
+        char hurt[sizeof sets];
+        for (size_t at = 0; at < size; at++) {
+            memcpy(hurt, sets, size);
+            hurt[at] = '\0';
+            size_t line = 0;
+            while (line < 3 && starts[line + 1] <= at) {
+                line++;
+            }
+            if (at >= end) {
+                try_find(hurt, size, address, wide, 1, known[i].read, known[i].at, wide, known[i].value);
+            } else {
+                try_find(hurt, size, address, wide, 25, line, starts[line], 0, 0);
+            }
+        }
+
+        /* A beginning of the address, and more than it. */
+        char asked[20];
+        for (size_t part = 0; part < wide; part++) {
+            try_find(sets, size, address, part, 27, 4, 0, 0, 0);
+        }
+        memcpy(asked, address, wide);
+        for (int c = 0; c < 256; c++) {
+            asked[wide] = (char)c;
+            try_find(sets, size, asked, wide + 1, 27, 4, 0, 0, 0);
+        }
+    }
+
+    /* What stands behind `!` is no set; nothing is found in nothing; no set has an address of none, or of 17. */
+    try_find(sets, size, TEXT("15.8.0"), 27, 4, 0, 0, 0);
+    try_find(sets + starts[4], size - starts[4], TEXT("15.8.0"), 27, 0, 0, 0, 0);
+    try_find("", 0, TEXT("15.8.0"), 27, 0, 0, 0, 0);
+    try_find("", 0, "", 0, 27, 0, 0, 0, 0);
+    try_find(TEXT("(1)\r\n"), "", 0, 25, 0, 0, 0, 0);
+    try_find(TEXT("!\r"), TEXT("!"), 25, 0, 0, 0, 0);
+    try_find(TEXT("ABCDEFGHIJKLMNOP(1)\r\n"), TEXT("ABCDEFGHIJKLMNOP"), 1, 1, 0, 16, 1);
+    try_find(TEXT("ABCDEFGHIJKLMNOP(1)\r\n"), TEXT("ABCDEFGHIJKLMNOPQ"), 27, 1, 0, 0, 0);
+    try_find(TEXT("ABCDEFGHIJKLMNOPQ(1)\r\n"), TEXT("ABCDEFGHIJKLMNOPQ"), 25, 0, 0, 0, 0);
+}
+
 /* ---- Values. */
 
 static const uint8_t zeros[24];
@@ -574,6 +653,8 @@ int main(void) {
     value_length = exactly(sizeof *value_length);
     next = exactly(sizeof *next);
     place = exactly(sizeof *place);
+    count = exactly(sizeof *count);
+    value_start = exactly(sizeof *value_start);
     year = exactly(sizeof *year);
     first = exactly(1);
     second = exactly(1);
@@ -588,6 +669,7 @@ int main(void) {
     try_strips();
     try_parts();
     try_sets();
+    try_finds();
     try_characters();
     try_numbers();
 

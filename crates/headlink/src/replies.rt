@@ -1,9 +1,10 @@
-// Replies, for C: parity stripped, the part of a block, and its data sets one by one.
+// Replies, for C: parity stripped, the part of a block, its data sets one by one, and one of them by its address.
 ghost use mathlib.Core.Path.{_≡_};
 ghost use Rattle.blocks.specs.Stripping.{Strips};
 ghost use Rattle.blocks.specs.Parts.{partOf};
 ghost use Rattle.reading.specs.Sets.{setRead};
 ghost use Rattle.reader.specs.Walking.{setAfter};
+ghost use Rattle.finding.specs.Finding.{lookup};
 
 // Strips a reply's parity into a second buffer.
 #[no_mangle]
@@ -67,4 +68,28 @@ pub extern "C" fn dirgemist_head_set_after(
     *next = s.next;
     *place = s.place;
     s.number
+}
+
+// The first data set with an address: how many sets were read, the place of a malformed one before any match, and where its address and its value stand.
+#[no_mangle]
+pub extern "C" fn dirgemist_head_find(
+    sets: &[u8],
+    address: &[u8],
+    count: &mut usize,
+    place: &mut usize,
+    address_start: &mut usize,
+    address_length: &mut usize,
+    value_start: &mut usize,
+    value_length: &mut usize,
+) -> u8
+    ensures { λ r. ⌜ record { number = r; count = now (count .exit); place = now (place .exit); «address_start» = now («address_start» .exit); «address_length» = now («address_length» .exit); «value_start» = now («value_start» .exit); «value_length» = now («value_length» .exit) } ≡ lookup (now (sets .entry)) (now (address .entry)) ⌝ }
+{
+    let l = finding::find(sets, address);
+    *count = l.count;
+    *place = l.place;
+    *address_start = l.address_start;
+    *address_length = l.address_length;
+    *value_start = l.value_start;
+    *value_length = l.value_length;
+    l.number
 }

@@ -1,11 +1,11 @@
--- The wrong answers for `blocks`, `reading`, `reader` and `headlink` are ruled out, by computing. Assumes nothing.
+-- The wrong answers for `blocks`, `reading`, `reader`, `finding` and `headlink` are ruled out, by computing. Assumes nothing.
 use mathlib.Core.Path.{refl, ap, _∙_}
 use lib.Count.{ones}
 use Rattle.line.specs.Characters.{damagedAt, seven, undamagedAll}
 use Rattle.line.specs.Checksum.{bccOf}
 use Rattle.line.specs.Runs.{every}
 use Rattle.text.specs.Writing.{holding}
-use Rattle.text.specs.Classes.{between, isDigit, isLetter, isPrintable, isAddress, isValue, matching}
+use Rattle.text.specs.Classes.{between, isDigit, isLetter, isPrintable, isAddress, isValue, matching, sameText}
 use Rattle.text.specs.Decimal.{decimal, valueFrom, valueOf, numberAt}
 use Rattle.text.specs.Layout.{layoutText, pattern, agrees, fits}
 use Rattle.clock.specs.declared.Date.{Date}
@@ -25,10 +25,12 @@ use Rattle.reading.specs.declared.SetRead.{SetRead}
 use Rattle.reading.specs.Sets.{ofKind, leading, startsWith3, isSet, addressLength, valueLength, setHere, setRead}
 use Rattle.reader.specs.declared.Reader.{Reader}
 use Rattle.reader.specs.declared.Placed.{Placed}
-use Rattle.reading.specs.Whole.{placeAfter}
+use Rattle.reading.specs.Whole.{setOf, also, readFrom, readAll, placeAfter}
+use Rattle.finding.specs.declared.Lookup.{Lookup}
+use Rattle.finding.specs.Finding.{among, position, answered, lookup}
 use Rattle.headlink.specs.Telling.{valueNumber}
 use Rattle.mistakes.specs.Samples.{serial, twos}
-use Rattle.mistakes.specs.Replying.{block, misSummed, twoSets, Blocks, Sets, Readers, Walks, Fields}
+use Rattle.mistakes.specs.Replying.{block, misSummed, twoSets, sameTwice, badFirst, Blocks, Sets, Readers, Walks, Finds, Fields}
 use Rattle.mistakes.proofs.Differing.{seen, number, byte, long}
 
 pub blocks : Blocks
@@ -55,6 +57,15 @@ sets = (
     «set_after» = (seen (λ (p : Placed). p .start) refl, seen (λ (p : Placed). p .start) refl);
   },
 )
+
+pub finds : Finds
+unfolding every between isDigit isLetter isPrintable isAddress isValue matching sameText ofKind leading startsWith3 isSet addressLength valueLength setHere setRead setOf also readFrom readAll placeAfter among position answered lookup dataSet twoSets sameTwice badFirst
+finds =
+    record {
+      find = (seen (λ (l : Lookup). l .count) refl, seen (λ (l : Lookup). l .count) refl);
+      find-compared = (seen (λ (l : Lookup). l .number) refl, seen (λ (l : Lookup). l .number) refl);
+      find-stopped = (number refl, number refl);
+    }
 
 pub fields : Fields
 unfolding every holding between isDigit isLetter matching decimal valueFrom valueOf numberAt layoutText pattern agrees fits leap thirty daysIn realDate realTime isAccountCharacter goodAccount goodRow serialText dateText timeText counterText dateRead timeRead counterRead serialRead accountRead rowRead valueNumber serial twos

@@ -1,4 +1,4 @@
--- Two wrong answers for each call of `blocks`, `reading` and `reader`, and for the values that `headlink` hands to C.
+-- Two wrong answers for each call of `blocks`, `reading`, `reader` and `finding`, and for the values that `headlink` hands to C.
 use mathlib.Core.Path.{_≡_}
 use mathlib.Core.List.{List, [], _∷_, _++_}
 use Prim.Native.Nat.{ℕ}
@@ -16,6 +16,7 @@ use Rattle.blocks.specs.Parts.{partOf, Within}
 use Rattle.reading.specs.Sets.{endAt, setAt, setRead}
 use Rattle.reader.specs.declared.Reader.{Reader}
 use Rattle.reader.specs.Walking.{yields, moved, setAfter}
+use Rattle.finding.specs.Finding.{matchedAt, lookup}
 use Rattle.headlink.specs.Telling.{valueNumber, Tells}
 use Rattle.mistakes.specs.RuledOut.{RuledOut}
 use Rattle.mistakes.specs.Samples.{serial, account, twos}
@@ -66,6 +67,23 @@ pub record Walks : Type 0 where
       × RuledOut (setRead (dataSet (65 ∷ []) (replicate 33 49)) 0) (setAt 0 1 33)
   -- the first set again; past the last line to the end of the data
   pub «set_after» : RuledOut (setAfter twoSets 1) (record { start = 0; set = setAt 0 1 1 }) × RuledOut (setAfter twoSets 3) (record { start = 16; set = endAt 16 })
+
+-- A(1) CR LF A(22) CR LF: the same address at 0 and 6
+unfoldable pub sameTwice : List ℕ
+sameTwice = dataSet (65 ∷ []) (49 ∷ []) ++ dataSet (65 ∷ []) (50 ∷ 50 ∷ [])
+
+-- A CR LF B(1) CR LF: a malformed set before a good one
+unfoldable pub badFirst : List ℕ
+badFirst = 65 ∷ 13 ∷ 10 ∷ dataSet (66 ∷ []) (49 ∷ [])
+
+-- of `finding`
+pub record Finds : Type 0 where
+  -- the position counted from 0; the last of two matches
+  pub find : RuledOut (lookup twoSets (66 ∷ [])) (matchedAt 1 6 (setAt 6 1 2)) × RuledOut (lookup sameTwice (65 ∷ [])) (matchedAt 2 6 (setAt 6 1 2))
+  -- a set whose address only begins with what is asked for; one whose address is only the beginning of it
+  pub find-compared : RuledOut (lookup (dataSet (65 ∷ 66 ∷ []) (49 ∷ [])) (65 ∷ [])) (matchedAt 1 0 (setAt 0 2 1)) × RuledOut (lookup twoSets (65 ∷ 66 ∷ [])) (matchedAt 1 0 (setAt 0 1 1))
+  -- on behind a malformed set; 27 in place of 25
+  pub find-stopped : RuledOut (lookup badFirst (66 ∷ []) .number) 1 × RuledOut (lookup badFirst (66 ∷ []) .number) 27
 
 -- of `headlink::fields`
 pub record Fields : Type 0 where

@@ -15,29 +15,10 @@ use Rattle.datasets.specs.Sets.{lineOf}
 use Rattle.datasets.specs.Good.{goodSet}
 use Rattle.reading.specs.Sets.{ofKind, leading, startsWith3, setAt, isSet, addressLength, valueLength, setRead}
 use Rattle.reading.specs.declared.SetRead.{SetRead}
-use Rattle.reading.proofs.Inside.{shown, set-closed}
+use Rattle.reading.proofs.Inside.{Tested, tested, shown, set-closed}
 use Rattle.reading.specs.Whole.{setOf}
+use Rattle.reading.proofs.Leading.{address-led, value-led}
 use Rattle.readback.proofs.Lines.{line-opened}
-
-led-on : (p : ℕ → Bool) (c k : ℕ) (s : List ℕ) (b : Bool) → p c ≡ b → every p (take k s) ≡ true → every p (take (cond b (suc k) 0) (c ∷ s)) ≡ true
-unfolding every
-led-on p c k s true e h = rw e h
-led-on p c k s false e h = refl
-
--- those that lead are of the kind
-led : (p : ℕ → Bool) (most : ℕ) (s : List ℕ) → every p (take (leading p most s) s) ≡ true
-unfolding leading every
-led p zero s = refl
-led p (suc most) [] = refl
-led p (suc most) (c ∷ s) = led-on p c (leading p most s) s (p c) refl (led p most s)
-
-address-led : (t : List ℕ) → every isAddress (take (addressLength t) t) ≡ true
-unfolding addressLength ofKind
-address-led t = led (ofKind false) 17 t
-
-value-led : (t : List ℕ) (a : ℕ) → every isValue (take (valueLength t a) (drop (a + 1) t)) ≡ true
-unfolding valueLength ofKind
-value-led t a = led (ofKind true) 33 (drop (a + 1) t)
 
 -- three characters that a text starts with
 starts : (x y z : ℕ) (u : List ℕ) → startsWith3 x y z u ≡ true → u ≡ x ∷ y ∷ z ∷ drop 3 u
@@ -50,30 +31,6 @@ starts x y z (a ∷ b ∷ c ∷ u) h =
     let l = and-right (eqb a x) (eqb b y && eqb c z) k in
     ap₂ _∷_ (eqb-true a x (and-left (eqb a x) (eqb b y && eqb c z) k))
     (ap₂ _∷_ (eqb-true b y (and-left (eqb b y) (eqb c z) l)) (ap₂ _∷_ (eqb-true c z (and-right (eqb b y) (eqb c z) l)) refl))
-
--- what a set's test says, one by one
-pub record Tested (t : List ℕ) (a v : ℕ) : Type 0 where
-  pub some : 1 ≤ a
-  pub short : a ≤ 16
-  pub bracket : getD t a 0 ≡ 40
-  pub small : v ≤ 32
-  pub closes : startsWith3 41 13 10 (drop (a + 1 + v) t) ≡ true
-
-tested : (t : List ℕ) (a v : ℕ) → isSet t a v ≡ true → Tested t a v
-unfolding isSet
-tested t a v h =
-    let first = (leb 1 a && leb a 16) && eqb (getD t a 0) 40 in
-    let rest = leb v 32 && startsWith3 41 13 10 (drop (a + 1 + v) t) in
-    let f = and-left first rest h in
-    let r = and-right first rest h in
-    let l = and-left (leb 1 a && leb a 16) (eqb (getD t a 0) 40) f in
-    record {
-      some = leb-true 1 a (and-left (leb 1 a) (leb a 16) l);
-      short = leb-true a 16 (and-right (leb 1 a) (leb a 16) l);
-      bracket = eqb-true (getD t a 0) 40 (and-right (leb 1 a && leb a 16) (eqb (getD t a 0) 40) f);
-      small = leb-true v 32 (and-left (leb v 32) (startsWith3 41 13 10 (drop (a + 1 + v) t)) r);
-      closes = and-right (leb v 32) (startsWith3 41 13 10 (drop (a + 1 + v) t)) r;
-    }
 
 module _ (t : List ℕ) (a v : ℕ) (h : isSet t a v ≡ true) where
   from-close : drop (a + 1 + v) t ≡ 41 ∷ 13 ∷ 10 ∷ drop (a + 1 + v + 3) t

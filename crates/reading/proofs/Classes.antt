@@ -9,6 +9,7 @@ use lib.Dec.{eqb, leb}
 use Rattle.line.specs.Runs.{every}
 use Rattle.line.proofs.Runs.{allBelow, below-all, and-left, and-right, and-both}
 use Rattle.text.specs.Classes.{between, isDigit, isLetter, isPrintable, isAddress, isValue}
+use Rattle.reading.specs.Sets.{isPlain}
 
 -- the same answer
 agree : Bool → Bool → Bool
@@ -41,16 +42,22 @@ unfolding agree isValue isPrintable between
 value-test = at-byte valueTest isValue refl
 
 -- what is passed eight at a time may stand in a value
-pub plain-value : (c : ℕ) → between 48 126 c ≡ true → isValue c ≡ true
-unfolding between isValue isPrintable
+pub plain-value : (c : ℕ) → isPlain c ≡ true → isValue c ≡ true
+unfolding between isPlain isValue isPrintable
 plain-value c h =
-    let low : 48 ≤ c = leb-true 48 c (and-left (leb 48 c) (leb c 126) h) in
-    let high : c ≤ 126 = leb-true c 126 (and-right (leb 48 c) (leb c 126) h) in
+    let range = and-left (leb 42 c && leb c 126) (not (eqb c 47)) h in
+    let low : 42 ≤ c = leb-true 42 c (and-left (leb 42 c) (leb c 126) range) in
+    let high : c ≤ 126 = leb-true c 126 (and-right (leb 42 c) (leb c 126) range) in
+    let slash : eqb c 47 ≡ false = not-true-false (eqb c 47) (and-right (leb 42 c && leb c 126) (not (eqb c 47)) h) in
     rw (
       le-leb 32 c (omega arith),
       le-leb c 126 high,
       ne-eqb c 40 (λ e. omega arith),
       ne-eqb c 41 (λ e. omega arith),
-      ne-eqb c 47 (λ e. omega arith),
+      slash,
       ne-eqb c 33 (λ e. omega arith),
     )
+  where
+    not-true-false : (b : Bool) → not b ≡ true → b ≡ false
+    not-true-false true e = sym e
+    not-true-false false e = refl

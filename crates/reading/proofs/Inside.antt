@@ -4,7 +4,7 @@ use mathlib.Core.Bool.{Bool, true, false, cond, _&&_, _||_}
 use mathlib.Core.List.{List}
 use Prim.Native.Nat.{ℕ, _+_, _≤_, _<_}
 use native.Mathlib.Omega.{arith}
-use borrow.Author.Tests.{leb-true, leb-false, eq-eqb}
+use borrow.Author.Tests.{leb-true, leb-false, eqb-true, eq-eqb}
 use lib.Dec.{leb, eqb}
 use lib.ListN.{length, drop, getD, length-drop}
 use Rattle.line.proofs.Runs.{and-left, and-right, chosen}
@@ -27,16 +27,36 @@ or-left : (a b : Bool) → (a || b) ≡ false → a ≡ false
 or-left true b h = h
 or-left false b h = refl
 
+-- what a set's test says, one by one
+pub record Tested (t : List ℕ) (a v : ℕ) : Type 0 where
+  pub some : 1 ≤ a
+  pub short : a ≤ 16
+  pub bracket : getD t a 0 ≡ 40
+  pub small : v ≤ 32
+  pub closes : startsWith3 41 13 10 (drop (a + 1 + v) t) ≡ true
+
+pub tested : (t : List ℕ) (a v : ℕ) → isSet t a v ≡ true → Tested t a v
+unfolding isSet
+tested t a v h =
+    let first = (leb 1 a && leb a 16) && eqb (getD t a 0) 40 in
+    let rest = leb v 32 && startsWith3 41 13 10 (drop (a + 1 + v) t) in
+    let f = and-left first rest h in
+    let r = and-right first rest h in
+    let l = and-left (leb 1 a && leb a 16) (eqb (getD t a 0) 40) f in
+    record {
+      some = leb-true 1 a (and-left (leb 1 a) (leb a 16) l);
+      short = leb-true a 16 (and-right (leb 1 a) (leb a 16) l);
+      bracket = eqb-true (getD t a 0) 40 (and-right (leb 1 a && leb a 16) (eqb (getD t a 0) 40) f);
+      small = leb-true v 32 (and-left (leb v 32) (startsWith3 41 13 10 (drop (a + 1 + v) t)) r);
+      closes = and-right (leb v 32) (startsWith3 41 13 10 (drop (a + 1 + v) t)) r;
+    }
+
 closed-long : (s : List ℕ) → startsWith3 41 13 10 s ≡ true → 3 ≤ length s
 unfolding startsWith3
 closed-long s h = leb-true 3 (length s) (and-left (leb 3 (length s)) _ h)
 
 pub set-closed : (s : List ℕ) (a v : ℕ) → isSet s a v ≡ true → a + 1 + v + 3 ≤ length s
-unfolding isSet
-set-closed s a v h =
-    let value = and-right ((leb 1 a && leb a 16) && eqb (getD s a 0) 40) (leb v 32 && startsWith3 41 13 10 (drop (a + 1 + v) s)) h in
-    let long = closed-long (drop (a + 1 + v) s) (and-right (leb v 32) (startsWith3 41 13 10 (drop (a + 1 + v) s)) value) in
-    omega (arith, length-drop (a + 1 + v) s)
+set-closed s a v h = omega (arith, length-drop (a + 1 + v) s, closed-long (drop (a + 1 + v) s) (tested s a v h .closes))
 
 -- what shows as a set: where it stands, its two lengths, and that it is one
 pub record Shown (s : List ℕ) (at a v : ℕ) : Type 0 where

@@ -1,6 +1,6 @@
 -- A count of leading characters: what a turn keeps, and where it stops. Assumes nothing.
 use mathlib.Core.Path.{_≡_, refl, ap, _∙_}
-use mathlib.Core.Bool.{Bool, true, false, _||_}
+use mathlib.Core.Bool.{Bool, true, false, cond, _||_}
 use mathlib.Core.Logic.{_⊎_, inl, inr, ⊎-elim}
 use mathlib.Core.List.{List, [], _∷_}
 use Prim.Native.Nat.{ℕ, zero, suc, _+_, _-_, _<_, _≤_}
@@ -11,7 +11,8 @@ use lib.ListN.{length, take, drop, getD, drop-of-length-le, length-drop}
 use lib.Seq.{drop-drop, take-add}
 use Rattle.line.proofs.Runs.{left-next, and-left, and-right, every-append}
 use Rattle.line.specs.Runs.{every}
-use Rattle.reading.specs.Sets.{leading, Lesser}
+use Rattle.text.specs.Classes.{isAddress, isValue}
+use Rattle.reading.specs.Sets.{ofKind, leading, addressLength, valueLength, Lesser}
 
 pub or-cases : (a b : Bool) → (a || b) ≡ true → (a ≡ true) ⊎ (b ≡ true)
 or-cases true b h = inl refl
@@ -102,3 +103,23 @@ module _ (p : ℕ → Bool) where
       let d : drop (i - at) (drop at s) ≡ drop i s = drop-drop (i - at) at s ∙ ap (λ (j : ℕ). drop j s) {x = at + (i - at)} {y = i} (omega arith) in
       let next : every p (take 8 (drop i s)) ≡ true = rw m at k in
       rw (n, take-add (i - at) 8 (drop at s), d) (every-append p (take (i - at) (drop at s)) (take 8 (drop i s)) h next)
+
+led-on : (p : ℕ → Bool) (c k : ℕ) (s : List ℕ) (b : Bool) → p c ≡ b → every p (take k s) ≡ true → every p (take (cond b (suc k) 0) (c ∷ s)) ≡ true
+unfolding every
+led-on p c k s true e h = rw e h
+led-on p c k s false e h = refl
+
+-- those that lead are of the kind
+led : (p : ℕ → Bool) (most : ℕ) (s : List ℕ) → every p (take (leading p most s) s) ≡ true
+unfolding leading every
+led p zero s = refl
+led p (suc most) [] = refl
+led p (suc most) (c ∷ s) = led-on p c (leading p most s) s (p c) refl (led p most s)
+
+pub address-led : (t : List ℕ) → every isAddress (take (addressLength t) t) ≡ true
+unfolding addressLength ofKind
+address-led t = led (ofKind false) 17 t
+
+pub value-led : (t : List ℕ) (a : ℕ) → every isValue (take (valueLength t a) (drop (a + 1) t)) ≡ true
+unfolding valueLength ofKind
+value-led t a = led (ofKind true) 33 (drop (a + 1) t)

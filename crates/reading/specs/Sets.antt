@@ -1,13 +1,17 @@
 -- Document 01, "The head": the data sets of a block, one by one.
 use mathlib.Core.Path.{_≡_}
-use mathlib.Core.Bool.{Bool, true, false, cond, _&&_, _||_}
+use mathlib.Core.Bool.{Bool, true, false, cond, not, _&&_, _||_}
 use mathlib.Core.List.{List, [], _∷_}
 use Prim.Native.Nat.{ℕ, zero, suc, _+_, _-_, _≤_}
 use lib.Dec.{eqb, leb}
 use lib.ListN.{length, take, drop, getD}
 use Rattle.line.specs.Runs.{every}
-use Rattle.text.specs.Classes.{isAddress, isValue}
+use Rattle.text.specs.Classes.{between, isAddress, isValue}
 use Rattle.reading.specs.declared.SetRead.{SetRead}
+
+-- a value's digits and letters, and the characters that stand between them in a date, a time or a counter
+unfoldable pub isPlain : ℕ → Bool
+isPlain c = between 42 126 c && not (eqb c 47)
 
 unfoldable pub ofKind : Bool → ℕ → Bool
 ofKind value c = cond value (isValue c) (isAddress c)

@@ -3,8 +3,9 @@ ghost use mathlib.Core.Path.{_≡_};
 ghost use mathlib.Core.Bool.{true};
 ghost use Prim.Native.Nat.{_+_, _-_, _≤_};
 ghost use lib.ListN.{length, take, drop, getD};
+ghost use Rattle.line.specs.Runs.{every};
 ghost use Rattle.text.specs.Classes.{isAddress, isValue};
-ghost use Rattle.reading.specs.Sets.{ofKind, Lesser, Passes, Passed, Leads, startsWith3, endAt, malformedAt, setRead};
+ghost use Rattle.reading.specs.Sets.{isPlain, ofKind, Lesser, Passes, Passed, Leads, startsWith3, endAt, malformedAt, setRead};
 
 // The answers of document 01.
 pub const END: u8 = 0;
@@ -48,7 +49,21 @@ fn lesser(a: usize, b: usize) -> usize
     if a < b { a } else { b }
 }
 
-// Passes eight characters of a value at a time, while all of them are digits or letters, say; the others are looked at one by one.
+// Whether every byte is a plain one of a value; no way out and two tests a byte, so that eight are tested at once.
+fn all_plain(s: &[u8]) -> bool
+    ensures { λ r. ⌜ r ≡ every isPlain (now (s .entry)) ⌝ }
+{
+    let mut ok = true;
+    let mut i = 0;
+    while i < s.len() {
+        let c = s[i];
+        ok = ok & (((42 <= c) & (c <= 126)) & (c != b'/'));
+        i += 1;
+    }
+    ok
+}
+
+// Passes eight characters of a value at a time, while all of them are plain; the others are looked at one by one.
 fn pass_eights(s: &[u8], at: usize, end: usize) -> usize
     requires { ⌜ (at ≤ end) × (end ≤ length (now s)) ⌝ }
     ensures { λ r. ⌜ Passes (now (s .entry)) at end r ⌝ }
@@ -56,7 +71,7 @@ fn pass_eights(s: &[u8], at: usize, end: usize) -> usize
     let mut i = at;
     while i + 8 <= end {
         let j = i + 8;
-        if !text::all_between(&s[i..j], 48, 126) {
+        if !all_plain(&s[i..j]) {
             return i;
         }
         i = j;

@@ -1,3 +1,4 @@
 pub mod Registers
 pub mod Recital
 pub mod Learnt
+pub mod Finding

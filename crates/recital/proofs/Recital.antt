@@ -105,14 +105,18 @@ answer-recites g good ask.Account h = and-then _ _ _ _ (account-reads g good) an
 answer-recites g good (ask.Energy e) h = and-then _ _ _ _ (own-energy-reads g good e) and-none
 answer-recites g good (ask.Table t) h = and-then _ _ _ _ (row-reads g good (t .0) h) and-none
 
+-- the data block reads to its end as its own sets
+pub block-read : (g : Registers) → registersGood g ≡ true → readAll (blockData editionTables g) ≡ record { sets = blockSets editionTables g; number = 0; place = length (linesOf (blockSets editionTables g)) }
+unfolding blockData lastLine
+block-read g good = sets-read-back (blockSets editionTables g) (block-good editionTables g good)
+
 module _ (m : Meter) (f : wellFormed m ≡ true) where
   -- the data block: all 33 data sets in order
   pub block-reads-back : ReadsBack (blockData editionTables (m .registers)) (blockSays (m .registers))
-  unfolding blockData lastLine
   block-reads-back =
       let g = m .registers in
       let good = formed m f .registers in
-      reads-back (blockData editionTables g) (blockSays g) (blockSets editionTables g) (length (linesOf (blockSets editionTables g))) (block-shown editionTables g good) (sets-read-back (blockSets editionTables g) (block-good editionTables g good))
+      reads-back (blockData editionTables g) (blockSays g) (blockSets editionTables g) (length (linesOf (blockSets editionTables g))) (block-shown editionTables g good) (block-read g good)
       (block-recites g good)
 
   -- and every answer to R1

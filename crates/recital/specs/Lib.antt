@@ -1,2 +1,3 @@
 pub mod Recital
 pub mod Learnt
+pub mod Finding

@@ -1,7 +1,7 @@
 //! The head's reading of replies, written by hand for speed in safe Rust: the yardstick for the proved
 //! head. The same checks and answers as the model, which the tests below hold it to.
 
-use model::head::{answer, Step};
+use model::head::{answer, Lookup, Step};
 
 const STX: u8 = 0x02;
 const ETX: u8 = 0x03;
@@ -122,6 +122,41 @@ pub fn read_all(sets: &[u8]) -> (u8, usize, usize) {
     }
 }
 
+/// Finds the first data set with an address.
+pub fn find(sets: &[u8], address: &[u8]) -> Lookup {
+    let mut found = Lookup {
+        answer: answer::MISSING,
+        count: 0,
+        place: 0,
+        address_start: 0,
+        address_length: 0,
+        value_start: 0,
+        value_length: 0,
+    };
+    let mut at = 0;
+    loop {
+        let step = next(sets, at);
+        if step.answer != answer::DONE {
+            if step.answer == answer::MALFORMED {
+                found.answer = answer::MALFORMED;
+                found.place = at;
+            }
+            return found;
+        }
+        found.count += 1;
+        let bracket = at + step.address_length;
+        if sets[at..bracket] == *address {
+            found.answer = answer::DONE;
+            found.address_start = at;
+            found.address_length = step.address_length;
+            found.value_start = bracket + 1;
+            found.value_length = step.value_length;
+            return found;
+        }
+        at = step.next;
+    }
+}
+
 #[cfg(test)]
 mod tests {
     use super::*;
@@ -238,6 +273,25 @@ mod tests {
                 let (address, value) = ("a".repeat(address_length), "v".repeat(value_length));
                 same_next(&model::line(&address, &value), 0);
             }
+        }
+    }
+
+    #[test]
+    fn finds_as_the_model_does() {
+        let data = registers().data();
+        for (address, _) in registers().data_sets() {
+            let address = address.as_bytes();
+            for asked in [address, &address[..address.len() - 1], &address[1..], b""] {
+                assert_eq!(find(&data, asked), model::find(&data, asked));
+            }
+        }
+        let mut hurt = data.clone();
+        for place in 0..data.len() {
+            hurt[place] ^= 0x80;
+            assert_eq!(find(&hurt, b"15.8.0"), model::find(&hurt, b"15.8.0"));
+            hurt[place] = data[place];
+            let cut = &data[..place];
+            assert_eq!(find(cut, b"15.8.0"), model::find(cut, b"15.8.0"));
         }
     }
 }

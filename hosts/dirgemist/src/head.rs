@@ -119,6 +119,18 @@ extern "C" {
         next: *mut usize,
         place: *mut usize,
     ) -> u8;
+    fn dirgemist_head_find(
+        sets: *const u8,
+        sets_length: usize,
+        asked: *const u8,
+        asked_length: usize,
+        count: *mut usize,
+        place: *mut usize,
+        address_start: *mut usize,
+        address_length: *mut usize,
+        value_start: *mut usize,
+        value_length: *mut usize,
+    ) -> u8;
     fn dirgemist_head_value_serial(
         value: *const u8,
         length: usize,
@@ -333,6 +345,7 @@ const UNREAD: Step = Step {
 /// assert_eq!((step.number, &sets[..step.address_length]), (head::DONE, &b"0.0.0"[..]));
 /// assert_eq!(head::next(sets, step.next).number, head::END);
 /// ```
+#[inline]
 pub fn next(sets: &[u8], at: usize) -> Step {
     let mut step = UNREAD;
     // SAFETY: see above.
@@ -367,6 +380,62 @@ pub fn set_after(sets: &[u8], count: usize) -> (usize, Step) {
         )
     };
     (start, step)
+}
+
+/// What a lookup found.
+#[derive(Clone, Copy, Debug, PartialEq, Eq)]
+pub struct Lookup {
+    /// [`DONE`] for a match, 25 for a malformed set before any, or 27 where the sets ended without one.
+    pub number: u8,
+    /// How many sets were read: the position of the match, or the number of good sets.
+    pub count: usize,
+    /// The place of a malformed set.
+    pub place: usize,
+    /// Where the address of the match starts, and how long it is.
+    pub address_start: usize,
+    pub address_length: usize,
+    /// Where its value starts, and how long it is.
+    pub value_start: usize,
+    pub value_length: usize,
+}
+
+/// Finds the first data set with an address, and reads no further.
+///
+/// ```
+/// use dirgemist::head;
+/// let sets = b"0.0.0(Kiln_7 old)\r\n15.8.0(000001.500*kWh)\r\n!\r\n";
+/// let found = head::find(sets, b"15.8.0");
+/// assert_eq!((found.number, found.count), (head::DONE, 2));
+/// let value = &sets[found.value_start..found.value_start + found.value_length];
+/// assert_eq!(head::value_counter(value), (head::DONE, 1_500));
+/// ```
+#[inline]
+pub fn find(sets: &[u8], address: &[u8]) -> Lookup {
+    let mut found = Lookup {
+        number: UNWRITTEN_BYTE,
+        count: UNWRITTEN,
+        place: UNWRITTEN,
+        address_start: UNWRITTEN,
+        address_length: UNWRITTEN,
+        value_start: UNWRITTEN,
+        value_length: UNWRITTEN,
+    };
+    // SAFETY: see above.
+    found.number = unsafe {
+        dirgemist_head_find(
+            sets.as_ptr(),
+            sets.len(),
+            address.as_ptr(),
+            address.len(),
+            &mut found.count,
+            &mut found.place,
+            &mut found.address_start,
+            &mut found.address_length,
+            &mut found.value_start,
+            &mut found.value_length,
+        )
+    };
+    found
 }
 
 /// A function that reads characters back.

@@ -22,6 +22,7 @@ pub mod answer {
     pub const DAMAGED: u8 = 24;
     pub const MALFORMED: u8 = 25;
     pub const SHORT_COPY: u8 = 26;
+    pub const MISSING: u8 = 27;
 }
 
 // Characters and checksum.
@@ -295,6 +296,60 @@ fn set_at_start(rest: &[u8]) -> Option<(usize, usize)> {
     }
     rest[value_length..].strip_prefix(b")\r\n")?;
     Some((address_length, value_length))
+}
+
+/// What a lookup says: how many sets were read, and the set that was found, by where its address and
+/// its value stand, or the place of a bad one.
+#[derive(Clone, Copy, Debug, PartialEq, Eq)]
+pub struct Lookup {
+    pub answer: u8,
+    pub count: usize,
+    pub place: usize,
+    pub address_start: usize,
+    pub address_length: usize,
+    pub value_start: usize,
+    pub value_length: usize,
+}
+
+/// Finds the first data set with an address: all sets are read first, and then looked through.
+pub fn find(sets: &[u8], address: &[u8]) -> Lookup {
+    let (mut all, mut at) = (Vec::new(), 0);
+    let last = loop {
+        match next(sets, at) {
+            step if step.answer == answer::DONE => {
+                all.push((at, step));
+                at = step.next;
+            }
+            stays => break stays,
+        }
+    };
+    let has_it = |(at, step): &(usize, Step)| sets[*at..at + step.address_length] == *address;
+    match all.iter().position(has_it) {
+        Some(before) => {
+            let (at, step) = all[before];
+            Lookup {
+                answer: answer::DONE,
+                count: before + 1,
+                place: 0,
+                address_start: at,
+                address_length: step.address_length,
+                value_start: at + step.address_length + 1,
+                value_length: step.value_length,
+            }
+        }
+        None => Lookup {
+            answer: match last.answer {
+                answer::MALFORMED => answer::MALFORMED,
+                _ => answer::MISSING,
+            },
+            count: all.len(),
+            place: last.place,
+            address_start: 0,
+            address_length: 0,
+            value_start: 0,
+            value_length: 0,
+        },
+    }
 }
 
 // Values, as they stand between the brackets; `None` is 25 with zeros for the value.
@@ -745,6 +800,36 @@ mod tests {
         assert_eq!(next(b"A()\r\n", 6), end(6));
         assert_eq!(next(b"!\r\nA()\r\n", 0), end(0));
         assert_eq!(next(b"A()\r\n!\r\nB()\r\n", 5), end(5));
+    }
+
+    #[test]
+    fn one_register_out_of_a_block() {
+        let data = sample().data();
+        let read = |address: &str| {
+            let found = find(&data, address.as_bytes());
+            let value = found.value_start..found.value_start + found.value_length;
+            (found.answer, found.count, &data[value])
+        };
+        let total = sample().total();
+        let shown = format!("{:06}.{:03}*kWh", total / 1000, total % 1000);
+        assert_eq!(read("15.8.0"), (1, 9, shown.as_bytes()));
+        assert_eq!(read("131.0.24"), (1, 33, &sample().tables[23][..]));
+        assert_eq!(read("131.0.25"), (27, 33, &b""[..]));
+        assert_eq!(read("131.0.2"), (27, 33, &b""[..]));
+        assert_eq!(read(""), (27, 33, &b""[..]));
+    }
+
+    #[test]
+    fn a_bad_set_ends_a_lookup_only_before_the_match() {
+        let answer = |sets: &[u8], address: &[u8]| {
+            let found = find(sets, address);
+            (found.answer, found.count, found.place, found.address_start)
+        };
+        assert_eq!(answer(b"A()\r\nB(1)\r\n?", b"B"), (1, 2, 0, 5));
+        assert_eq!(answer(b"A()\r\nB(1)\r\nB(2)\r\n", b"B"), (1, 2, 0, 5));
+        assert_eq!(answer(b"A()\r\n?B(1)\r\n", b"B"), (25, 1, 5, 0));
+        assert_eq!(answer(b"A()\r\n!\r\nB(1)\r\n", b"B"), (27, 1, 0, 0));
+        assert_eq!(answer(b"", b"B"), (27, 0, 0, 0));
     }
 
     #[test]

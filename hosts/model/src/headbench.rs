@@ -51,6 +51,19 @@ pub fn answer(line: &[u8]) -> Option<String> {
                 "{number} {place} {start} {address} {behind} {value} {next}"
             ))
         }
+        [b"find", address, sets] => {
+            let found = head::find(&hex(sets)?, &hex(address)?);
+            let numbers = [
+                found.count,
+                found.place,
+                found.address_start,
+                found.address_length,
+                found.value_start,
+                found.value_length,
+            ];
+            let shown = numbers.map(|number| format!(" {number}")).concat();
+            Some(format!("{}{shown}", found.answer))
+        }
         _ => None,
     }
 }
@@ -193,6 +206,11 @@ mod tests {
                 "next 18446744073709551615 -",
                 "0 0 0 0 0 0 18446744073709551615",
             ),
+            ("find 42 412831290d0a422832290d0a", "1 2 0 6 1 8 1"),
+            ("find 43 412831290d0a422832290d0a", "27 2 0 0 0 0 0"),
+            ("find 42 412831290d0a4228320d0a", "25 1 6 0 0 0 0"),
+            ("find - -", "27 0 0 0 0 0 0"),
+            ("find 42", "error"),
             ("value counter 3030303030312e3530302a6b5768", "1 1500"),
             ("value date 32342d30322d3239", "1 2024 2 29"),
             ("value time 32333a35393a3630", "25 0 0 0"),

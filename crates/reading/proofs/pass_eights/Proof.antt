@@ -7,8 +7,8 @@ use borrow.Author.Tests.{not-false}
 use lib.ListN.{length, take, drop}
 use Rattle.line.proofs.Runs.{every-weaker}
 use Rattle.line.specs.Runs.{every}
-use Rattle.text.specs.Classes.{between}
 use Rattle.text.specs.Classes.{isValue}
+use Rattle.reading.specs.Sets.{isPlain}
 use Rattle.reading.proofs.Classes.{plain-value}
 use Rattle.reading.proofs.Leading.{eight-more, none-passed}
 use Rattle.reading.proofs.pass_eights.Statement.{statement}
@@ -35,8 +35,8 @@ loop-again c =
     let at-loop = c .before .before .before .before in
     let a = at-loop .before .before .args in
     let i = at-loop .loop .i in
-    let plain : every (between 48 126) (take (i + 8 - i) (drop i (a .s .now))) ≡ true = sym (c .before .all-between .ensures) ∙ not-false _ (c .if1 .left) in
-    let next = every-weaker (between 48 126) isValue plain-value (take (i + 8 - i) (drop i (a .s .now))) plain in
+    let plain : every isPlain (take (i + 8 - i) (drop i (a .s .now))) ≡ true = sym (c .before .all-plain .ensures) ∙ not-false _ (c .if1 .left) in
+    let next = every-weaker isPlain isValue plain-value (take (i + 8 - i) (drop i (a .s .now))) plain in
     (omega arith, omega arith, at-loop .loop .inv .2, eight-more isValue (a .s .now) (a .at) i (at-loop .loop .inv .0) (at-loop .loop .inv .3) next)
 
 returns-2 : tie.Need-returns-2 Inv-loop μ-loop

@@ -3,7 +3,7 @@
 
 use benchmark::fast_head;
 use dirgemist::head as library;
-use model::head::{self, answer, Clock, Registers, Step};
+use model::head::{self, answer, Clock, Lookup, Registers, Step};
 use std::cell::RefCell;
 use std::hint::black_box;
 use std::process::ExitCode;
@@ -13,6 +13,10 @@ use std::time::Instant;
 /// millisecond, so that few are cut in two by another process's turn.
 const CALLS: u32 = 200;
 const BATCHES: usize = 2_001;
+
+/// The address of the total, the ninth of the 33 sets, and that of the last table.
+const TOTAL: &[u8] = b"15.8.0";
+const LAST: &[u8] = b"131.0.24";
 
 /// A meter's registers, each its own.
 fn registers() -> Registers {
@@ -47,6 +51,21 @@ fn library_next(sets: &[u8], at: usize) -> Step {
     }
 }
 
+/// The same of a lookup.
+#[inline(always)]
+fn library_find(sets: &[u8], address: &[u8]) -> Lookup {
+    let found = library::find(sets, address);
+    Lookup {
+        answer: found.number,
+        count: found.count,
+        place: found.place,
+        address_start: found.address_start,
+        address_length: found.address_length,
+        value_start: found.value_start,
+        value_length: found.value_length,
+    }
+}
+
 // The hand-written side behind calls that are not inlined, as the library's are.
 
 #[inline(never)]
@@ -62,6 +81,11 @@ fn fast_part(stripped: &[u8]) -> (u8, usize, usize) {
 #[inline(never)]
 fn fast_next(sets: &[u8], at: usize) -> Step {
     fast_head::next(sets, at)
+}
+
+#[inline(never)]
+fn fast_find(sets: &[u8], address: &[u8]) -> Lookup {
+    fast_head::find(sets, address)
 }
 
 /// Reads all data sets through one reader: the last answer, how many were read, and where it stays.
@@ -127,6 +151,7 @@ fn all_equal(wire: &[u8], block: &[u8], sets: &[u8]) -> bool {
             bits().all(|bit| {
                 let sets = hurt(sets, place, bit);
                 fast_head::next(&sets, place / 36 * 36) == library_next(&sets, place / 36 * 36)
+                    && fast_find(&sets, TOTAL) == library_find(&sets, TOTAL)
             })
         })
 }
@@ -180,6 +205,16 @@ fn main() -> ExitCode {
             black_box(read_all(library_next, black_box(&sets)));
         },
     );
+    let [total, last] = [TOTAL, LAST].map(|address| {
+        medians(
+            || {
+                black_box(fast_find(black_box(&sets), black_box(address)));
+            },
+            || {
+                black_box(library_find(black_box(&sets), black_box(address)));
+            },
+        )
+    });
     println!(
         "{:<28}{:>10}{:>12}{:>8}",
         "name", "rust_ns", "rattle_ns", "ratio"
@@ -189,6 +224,8 @@ fn main() -> ExitCode {
         ("part, data block", part),
         ("33 data sets, each a call", called),
         ("33 data sets, Rust inlined", inlined),
+        ("find the total, ninth of 33", total),
+        ("find the last of 33", last),
     ] {
         println!(
             "{name:<28}{rust:>10.1}{library:>12.1}{:>8.2}",

@@ -1,9 +1,11 @@
 //! Compares the proved head with the model, call by call, on cases good and bad.
 //! `head [seed]` ends with the count of equal cases, or shows the first difference and fails.
 
+mod finding;
 mod proved;
 
-use ::model::head::{self as model, answer, Clock, Command, Kind, Step};
+use ::model::head::{self as model, answer, Clock, Command, Kind, Lookup, Step};
+use finding::{lookups, Reached};
 use proved::Proved;
 use std::fmt::Debug;
 use std::process::ExitCode;
@@ -19,6 +21,7 @@ trait Head {
     fn part(&self, stripped: &[u8]) -> (u8, usize, usize);
     fn next(&self, sets: &[u8], at: usize) -> Step;
     fn set_after(&self, sets: &[u8], count: usize) -> (usize, Step);
+    fn find(&self, sets: &[u8], address: &[u8]) -> Lookup;
     fn value(&self, kind: Kind, value: &[u8]) -> (u8, Vec<u32>);
 }
 
@@ -53,6 +56,8 @@ struct Trial<'h> {
     head: &'h dyn Head,
     chance: Chance,
     cases: u64,
+    /// What the lookups came to.
+    reached: Reached,
     /// The head's buffer, and the model's.
     theirs: Guarded,
     ours: Vec<u8>,
@@ -74,6 +79,7 @@ impl<'h> Trial<'h> {
             head,
             chance: Chance::new(seed),
             cases: 0,
+            reached: Reached::default(),
             theirs: Guarded::new(4_096),
             ours: Vec::new(),
         }
@@ -207,11 +213,12 @@ fn every_text(alphabet: &[u8], longest: u32, mut each: impl FnMut(&[u8]) -> Outc
 
 type Section = fn(&mut Trial) -> Outcome;
 
-const SECTIONS: [(&str, Section); 6] = [
+const SECTIONS: [(&str, Section); 7] = [
     ("commands", commands),
     ("strips", strips),
     ("parts", parts),
     ("data sets", data_sets),
+    ("lookups", lookups),
     ("values", values),
     ("round trips", round_trips),
 ];
@@ -744,12 +751,17 @@ enum Fault {
     PlaceNotGiven,
     TakesValueOf33,
     CountsFromOne,
+    FindsFromZero,
+    FindsBeginnings,
+    FindsPastABadSet,
+    FindsTheLast,
+    FindsPastTheEnd,
     TakesAnyLeapDay,
     KeepsARefusedCounter,
     ZeroCharacters,
 }
 
-const FAULTS: [(Fault, Section); 21] = [
+const FAULTS: [(Fault, Section); 26] = [
     (Fault::WritesBeforeItChecks, commands),
     (Fault::FieldBeforeRoom, commands),
     (Fault::BuildsInRoom63, commands),
@@ -768,6 +780,11 @@ const FAULTS: [(Fault, Section); 21] = [
     (Fault::PlaceNotGiven, data_sets),
     (Fault::TakesValueOf33, data_sets),
     (Fault::CountsFromOne, data_sets),
+    (Fault::FindsFromZero, lookups),
+    (Fault::FindsBeginnings, lookups),
+    (Fault::FindsPastABadSet, lookups),
+    (Fault::FindsTheLast, lookups),
+    (Fault::FindsPastTheEnd, lookups),
     (Fault::TakesAnyLeapDay, values),
     (Fault::KeepsARefusedCounter, values),
     (Fault::ZeroCharacters, values),
@@ -883,6 +900,10 @@ impl Head for Wrong {
             Fault::CountsFromOne => ruled_set_after(sets, count.saturating_sub(1)),
             _ => ruled_set_after(sets, count),
         }
+    }
+
+    fn find(&self, sets: &[u8], address: &[u8]) -> Lookup {
+        finding::wrongly(self.0, sets, address)
     }
 
     fn value(&self, kind: Kind, value: &[u8]) -> (u8, Vec<u32>) {

@@ -1,16 +1,18 @@
 //! The proved head, in the form of the trial. What it reads lies in guarded memory.
 
 use crate::Head;
-use ::model::head::{Command, Kind, Step};
+use ::model::head::{Command, Kind, Lookup, Step};
 use dirgemist::head;
 use std::cell::RefCell;
 use trials::memory::Guarded;
 
-pub struct Proved(RefCell<Guarded>);
+/// Two places to read from, for a call that reads two texts.
+pub struct Proved(RefCell<Guarded>, RefCell<Guarded>);
 
 impl Default for Proved {
     fn default() -> Proved {
-        Proved(RefCell::new(Guarded::new(4_096)))
+        let guarded = || RefCell::new(Guarded::new(4_096));
+        Proved(guarded(), guarded())
     }
 }
 
@@ -75,6 +77,20 @@ impl Head for Proved {
     fn set_after(&self, sets: &[u8], count: usize) -> (usize, Step) {
         let (start, step) = self.on(sets, |sets| head::set_after(sets, count));
         (start, step_of(step))
+    }
+
+    fn find(&self, sets: &[u8], address: &[u8]) -> Lookup {
+        let mut asked = self.1.borrow_mut();
+        let found = self.on(sets, |sets| head::find(sets, asked.copy(address)));
+        Lookup {
+            answer: found.number,
+            count: found.count,
+            place: found.place,
+            address_start: found.address_start,
+            address_length: found.address_length,
+            value_start: found.value_start,
+            value_length: found.value_length,
+        }
     }
 
     fn value(&self, kind: Kind, value: &[u8]) -> (u8, Vec<u32>) {

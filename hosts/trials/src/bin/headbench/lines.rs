@@ -67,6 +67,13 @@ pub fn fixed() -> Vec<Vec<u8>> {
         "next 18446744073709551616 -",
         "next 0 412829",
         "find 41 -",
+        "find - -",
+        "find - 412829",
+        "find 41 412829",
+        "find 41 4128290d0a",
+        "find 41",
+        "find 41 - -",
+        "find 4 -",
         "session any open reads",
         "dump",
         "\0",
@@ -87,14 +94,15 @@ pub fn fixed() -> Vec<Vec<u8>> {
 
 /// A line of some kind.
 pub fn any(chance: &mut Chance) -> Vec<u8> {
-    let line = match chance.weighed(&[40, 12, 6, 12, 18, 6, 8]) {
+    let line = match chance.weighed(&[40, 12, 6, 12, 18, 6, 8, 10]) {
         0 => build(chance),
         1 => strip(chance),
         2 => part(chance),
         3 => next(chance),
         4 => value(chance),
         5 => format!("check {}", hex(&post(chance))),
-        _ => export(chance),
+        6 => export(chance),
+        _ => find(chance),
     };
     let mut line = line.into_bytes();
     if chance.percent(12) {
@@ -240,6 +248,27 @@ fn next(chance: &mut Chance) -> String {
         _ => "0".into(),
     };
     format!("next {at} {}", hex(&data))
+}
+
+/// An address that the data has, or nearly has, in data that may be hurt.
+fn find(chance: &mut Chance) -> String {
+    let mut data = sets(chance);
+    let lines: Vec<&[u8]> = data.split_inclusive(|&byte| byte == b'\n').collect();
+    let mut address = match lines.is_empty() {
+        true => Vec::new(),
+        false => {
+            let line = lines[chance.below(lines.len())];
+            let bracket = line.iter().position(|&byte| byte == b'(');
+            line[..bracket.unwrap_or(0)].to_vec()
+        }
+    };
+    if chance.percent(20) {
+        chance.hurt(&mut address);
+    }
+    if chance.percent(30) {
+        chance.hurt(&mut data);
+    }
+    format!("find {} {}", hex(&address), hex(&data))
 }
 
 fn value(chance: &mut Chance) -> String {

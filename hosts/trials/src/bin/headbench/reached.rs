@@ -29,6 +29,7 @@ const CALLS: &[(&str, &[u8])] = &[
     ("strip", &[1, 24, 26]),
     ("part", &[1, 22, 23]),
     ("next", &[0, 1, 25]),
+    ("find", &[1, 25, 27]),
 ];
 
 /// What must have happened beside that.
@@ -54,6 +55,7 @@ const MORE: &[&str] = &[
     "24 lines exported",
     "place past the end",
     "a filling byte that was written",
+    "a register found behind others",
 ];
 
 #[derive(Default)]
@@ -138,6 +140,7 @@ impl Reached {
             ("build energy", true) if rest[1] == "0" => self.reach("total asked for"),
             ("build table" | "build settable", true) if rest[1] == "24" => self.reach("table 24"),
             ("export", true) if told[1] == "864" => self.reach("24 lines exported"),
+            ("find", true) if told[1] != "1" => self.reach("a register found behind others"),
             ("next", false) => {
                 let at: u64 = rest[0].parse().expect("it was taken");
                 if at > hex_length(rest[1]) as u64 {

@@ -1,0 +1,3 @@
+pub mod Seeking
+pub mod Finding
+pub mod Promised
