@@ -4,7 +4,7 @@ use Prim.Native.Nat.{ℕ}
 use lib.ListN.{length, replicate}
 use Rattle.text.specs.Decimal.{decimal}
 use Rattle.text.specs.Writing.{stored}
-use Rattle.values.specs.Registers.{rowLength}
+use Rattle.values.specs.Edition.{rowLength}
 use Rattle.clock.specs.declared.Clock.{Clock}
 use Rattle.clock.specs.Seconds.{dateOf, timeOf}
 use Rattle.state.specs.declared.Registers.{Registers}

@@ -5,7 +5,6 @@ use mathlib.Core.List.{[], _∷_}
 use Prim.Native.Nat.{ℕ}
 use native.Mathlib.Omega.{arith}
 use Rattle.values.proofs.Fields.{fits-long}
-use Rattle.frames.specs.Commands.{bracketed}
 use Rattle.state.specs.declared.Meter.{Meter}
 use Rattle.receiving.specs.Receivers.{heldText}
 use Rattle.deciding.specs.declared.Verdict.{Verdict}
@@ -36,7 +35,7 @@ module _ (m : Meter) where
   none h = absurd (let z : _≡_ {A = ℕ} 0 1 = cc in omega arith)
 
   pub password-compared : (mark : Bool) (sum : ℕ) → verdict (m .mode) (heldText (m .receiver)) mark sum ≡ Password → passwordGiven m ≡ enteredIn m
-  unfolding Compared enters bracketed
+  unfolding Compared enters
   password-compared mark sum e =
       let r = m .receiver in
       let all =

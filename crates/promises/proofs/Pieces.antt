@@ -12,7 +12,8 @@ use lib.ListN.{length, take, drop, length-take, length-drop}
 use lib.Seq.{length-take-le, take-take, drop-drop, take-all, take-nil}
 use Rattle.line.specs.Runs.{every}
 use Rattle.line.proofs.Runs.{and-left}
-use Rattle.values.specs.Registers.{isAccountCharacter, goodAccount, goodRow, rowLength}
+use Rattle.values.specs.Edition.{rowLength}
+use Rattle.values.specs.Registers.{isAccountCharacter, goodAccount, goodRow}
 use Rattle.text.specs.Classes.{between}
 use Rattle.deciding.specs.Shape.{content}
 use Rattle.deciding.specs.Telling.{inner}

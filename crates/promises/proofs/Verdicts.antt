@@ -130,7 +130,7 @@ pub record Known (mode : ℕ) (h : List ℕ) (P : Verdict → Type 0) : Type 0 w
   pub refuse : (n : ℕ) → FrameNumber n → P (Refuse n)
   pub leave : P Leave
   pub enter : mode ≡ 2 → P Enter
-  pub password : mode ≡ 2 → fits (bracketed (35 ∷ 35 ∷ 35 ∷ 35 ∷ 35 ∷ 35 ∷ 35 ∷ 35 ∷ [])) (content h) ≡ true → P Password
+  pub password : mode ≡ 2 → fits (chars "(########)") (content h) ≡ true → P Password
   pub read : (a : Ask) → answerable a ≡ true → P (Read a)
   pub write : mode ≡ 4 → take 4 h ≡ writeStart → Told (content h) P
 
