@@ -12,7 +12,7 @@ use Rattle.values.specs.Texts.{tableText}
 use Rattle.state.specs.declared.Registers.{Registers}
 use Rattle.state.specs.declared.Meter.{Meter}
 use Rattle.state.specs.WellFormed.{registersGood, wellFormed}
-use Rattle.state.proofs.Facts.{formed}
+use Rattle.state.proofs.Parts.{formed}
 use Rattle.replies.specs.Shown.{total, rowOf}
 use Rattle.replies.specs.Shown as shown
 use Rattle.replies.specs.Block.{factSets, energySets, tableSets, blockSets, blockData}
