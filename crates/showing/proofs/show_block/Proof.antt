@@ -10,9 +10,10 @@ use Rattle.showing.proofs.show_block.Tie as tie
 returns : tie.Need-returns
 returns c =
     let a = c .before .before .before .before .before .before .before .before .before .args in
+    let shown = wantedShown (a .every) (a .address .now) in
     let n = c .before .before .before .before .before .part-check in
     let said = c .before .before .refuse .ensures in
-    rw (block-refused (wantedShown (a .every) (a .address .now)) (a .block .now) (n .result) (n .ensures) (c .before .before .before .before .if1 .taken)) (refusal-shows (a .out .now) (n .result) 0 _ _ (omega arith) (said .0) (said .1))
+    rw (block-refused shown (a .block .now) (n .result) (n .ensures) (c .before .before .before .before .if1 .taken)) (refusal-shows (a .out .now) (n .result) 0 _ _ (omega arith) (said .0) (said .1))
 
 show-wanted-requires : tie.Need-show-wanted-requires
 show-wanted-requires c κs =
@@ -22,9 +23,10 @@ show-wanted-requires c κs =
 returns-2 : tie.Need-returns-2
 returns-2 c =
     let a = c .before .before .before .before .before .before .before .before .before .before .args in
+    let shown = wantedShown (a .every) (a .address .now) in
     let n = c .before .before .before .before .before .before .part-check in
     let part = c .before .before .before .before .part in
-    rw (block-shown (wantedShown (a .every) (a .address .now)) (a .block .now) (n .result) (n .ensures) (c .before .before .before .before .before .if1 .left) _ (part .ensures .1)) (c .before .before .show-wanted .ensures)
+    rw (block-shown shown (a .block .now) (n .result) (n .ensures) (c .before .before .before .before .before .if1 .left) _ (part .ensures .1)) (c .before .before .show-wanted .ensures)
 
 pub show-block-spec : {M : Type 1} → statement M
 show-block-spec = tie.close (tie.spec (λ c κs. search needs) (λ c κs. search needs) (λ c. search needs) returns (λ c κs. search needs) show-wanted-requires (λ c. search needs) returns-2)

@@ -15,10 +15,11 @@ use Rattle.showing.proofs.show_reply.Tie as tie
 returns : tie.Need-returns
 returns c =
     let a = c .before .before .before .before .before .before .before .before .before .before .before .args in
+    let shown = wantedShown (a .every) (a .address .now) in
     let r = c .before .before .before .before .before .before .strip in
     let said = c .before .before .refuse .ensures in
     let s = refusal-shows (a .out .now) (r .result .number) 0 _ _ (omega (arith, c .before .before .before .before .before .before .before .before .before .before .before .pre)) (said .0) (said .1) in
-    rw (reply-refused (wantedShown (a .every) (a .address .now)) (a .reply .now) (r .result) (r .ensures .answer) (c .before .before .before .before .if1 .taken)) s
+    rw (reply-refused shown (a .reply .now) (r .result) (r .ensures .answer) (c .before .before .before .before .if1 .taken)) s
 
 array-share-prefix-plain : tie.Need-array-share-prefix-plain
 array-share-prefix-plain c =
@@ -36,10 +37,11 @@ show-block-requires c κs =
 returns-2 : tie.Need-returns-2
 returns-2 c =
     let a = c .before .before .before .before .before .before .before .before .before .before .before .before .args in
+    let shown = wantedShown (a .every) (a .address .now) in
     let r = c .before .before .before .before .before .before .before .strip in
     let one = c .before .before .before .before .before .if1 .left in
     let s = c .before .before .show-block .ensures in
-    rw (reply-shown (wantedShown (a .every) (a .address .now)) (a .reply .now) (r .result) (r .ensures .answer) one, ← stripped-is (a .reply .now) _ (r .result) _ (r .ensures .answer) (r .ensures .held) one) s
+    rw (reply-shown shown (a .reply .now) (r .result) (r .ensures .answer) one, ← stripped-is (a .reply .now) _ (r .result) _ (r .ensures .answer) (r .ensures .held) one) s
 
 pub show-reply-spec : {M : Type 1} → statement M
 show-reply-spec = tie.close (tie.spec (λ c. search needs) (λ c κs. search needs) (λ c κs. search needs) (λ c. search needs) returns array-share-prefix-plain slice-aggregate-show-block show-block-requires (λ c. search needs) returns-2)
