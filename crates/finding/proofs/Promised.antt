@@ -81,8 +81,9 @@ finds-first s a h =
     let p = points (suc (length s)) s a 0 0 h in
     rw (seek-all s a) (p .number, p .set)
 
--- a match lies behind the place where the search starts, and within the data
+-- a match lies behind the place where the search starts, and within the data; its value stands behind its address and the bracket
 record Lies (s : List ℕ) (at : ℕ) (l : Lookup) : Type 0 where
+  value : l .«value_start» ≡ l .«address_start» + l .«address_length» + 1
   behind : at < endOf l
   within : endOf l ≤ length s
 
@@ -96,14 +97,21 @@ lies (suc more) s a at n h = by-number (eqb (setRead s at .number) 1) refl (λ k
 
     by-address : (b : Bool) → Inside s at (setRead s at) → (later .number ≡ 1 → Lies s (setRead s at .next) later)
         → cond b (matchedAt (n + 1) at (setRead s at)) later .number ≡ 1 → Lies s at (cond b (matchedAt (n + 1) at (setRead s at)) later)
-    by-address true i again k = record { behind = omega (arith, i .next); within = omega (arith, i .next, i .fits) }
-    by-address false i again k = record { behind = omega (arith, i .next, again k .behind); within = again k .within }
+    by-address true i again k = record { value = refl; behind = omega (arith, i .next); within = omega (arith, i .next, i .fits) }
+    by-address false i again k = record { value = again k .value; behind = omega (arith, i .next, again k .behind); within = again k .within }
 
     by-number : (b : Bool) → eqb (setRead s at .number) 1 ≡ b → (later .number ≡ 1 → Lies s (setRead s at .next) later)
         → cond b (cond (sameText (addressAt s at (setRead s at)) a) (matchedAt (n + 1) at (setRead s at)) later) (stopped (setRead s at .number) n at) .number ≡ 1
         → Lies s at (cond b (cond (sameText (addressAt s at (setRead s at)) a) (matchedAt (n + 1) at (setRead s at)) later) (stopped (setRead s at .number) n at))
     by-number true e again k = by-address (sameText (addressAt s at (setRead s at)) a) (inside s at (eqb-true (setRead s at .number) 1 e)) again k
     by-number false e again k = absurd (never (setRead s at .number) n at k)
+
+-- what a match points at is a part of the data
+pub match-within : (s a : List ℕ) → lookup s a .number ≡ 1
+    → (lookup s a .«value_start» ≡ lookup s a .«address_start» + lookup s a .«address_length» + 1) × (endOf (lookup s a) ≤ length s)
+match-within s a h =
+    let z = lies (suc (length s)) s a 0 0 (rw (seek-all s a) at h) in
+    rw (seek-all s a) (z .value, z .within)
 
 module _ (s t a : List ℕ) (end : ℕ) (g : Agree s t end) where
   -- a turn over either data is the same, where the set ends before they part

@@ -19,7 +19,7 @@ use Rattle.reading.specs.Sets.{startsWith3, endAt, malformedAt, setAt, isSet, a
 use Rattle.reading.specs.Whole.{setOf, Found, also, readFrom, readAll}
 use Rattle.reading.proofs.Inside.{Inside, read-inside}
 use Rattle.showing.specs.declared.Shown.{Shown}
-use Rattle.showing.specs.Shown.{Readout, setLine, setLines, foundShown, Shows}
+use Rattle.showing.specs.Shown.{Readout, setLine, setLines, foundShown, setsShown, Shows}
 
 -- the address and the value at a place, as parts that are lent
 module _ (s : List ℕ) (at a v : ℕ) (inside : at + a + 1 + v ≤ length s) where
@@ -35,7 +35,7 @@ module _ (s : List ℕ) (at a v : ℕ) (inside : at + a + 1 + v ≤ length s) wh
   pub value-long : length (take v (drop (at + a + 1) s)) ≡ v
   value-long = length-take-le v (drop (at + a + 1) s) (omega (arith, length-drop (at + a + 1) s))
 
-length-set : (d : DataSet) → length (setLine d) ≡ length (d .address) + length (d .value) + 2
+pub length-set : (d : DataSet) → length (setLine d) ≡ length (d .address) + length (d .value) + 2
 unfolding setLine
 length-set d =
     omega (
@@ -112,10 +112,10 @@ pub record Goes (s out : List ℕ) (at to : ℕ) (after : List ℕ) : Type 0 whe
   pub long : to ≡ length shown
   pub short : to ≤ at
   pub held : after ≡ stored out 0 shown
-  pub same : foundShown (readAll s) ≡ below shown (readFrom (suc left) s at)
+  pub same : setsShown s ≡ below shown (readFrom (suc left) s at)
 
 pub goes-first : (s out : List ℕ) → Goes s out 0 0 out
-unfolding readAll stored
+unfolding setsShown readAll stored
 goes-first s out =
     record {
       left = length s;
@@ -143,7 +143,7 @@ module _ (s out : List ℕ) (at to : ℕ) (after : List ℕ) (g : Goes s out at 
     pub goes-closer : length s - r .next < length s - at
     goes-closer = omega (arith, here .next, here .fits)
 
-    more : (left : ℕ) → g .left ≡ suc left → foundShown (readAll s) ≡ below (g .shown ++ setLine (setOf s at r)) (readFrom (suc left) s (r .next))
+    more : (left : ℕ) → g .left ≡ suc left → setsShown s ≡ below (g .shown ++ setLine (setOf s at r)) (readFrom (suc left) s (r .next))
     more left e =
         rw is
         (g .same
@@ -178,14 +178,14 @@ module _ (s out : List ℕ) (at to : ℕ) (after : List ℕ) (g : Goes s out at 
         }
 
   -- the end
-  ended-is : setRead s at .number ≡ 0 → foundShown (readAll s) ≡ whole (g .shown)
+  ended-is : setRead s at .number ≡ 0 → setsShown s ≡ whole (g .shown)
   unfolding below setLines
   ended-is z =
       g .same
       ∙ ap (below (g .shown)) (read-last (g .left) s at (λ one. (omega arith)))
       ∙ (rw (eq-eqb (setRead s at .number) 0 z) (ap whole (append-nil (g .shown))))
 
-  pub goes-to-end : length s + 42 ≤ length out → setRead s at .number ≡ 0 → Shows (foundShown (readAll s)) out (record { number = 1; length = to }) after
+  pub goes-to-end : length s + 42 ≤ length out → setRead s at .number ≡ 0 → Shows (setsShown s) out (record { number = 1; length = to }) after
   goes-to-end room z =
       rw (ended-is z)
       (record {
@@ -194,12 +194,12 @@ module _ (s out : List ℕ) (at to : ℕ) (after : List ℕ) (g : Goes s out at 
         held = g .held ∙ stored-holding out (g .shown) (omega (arith, g .long, g .short, g .in-data));
       })
 
-  pub goes-past : length s + 42 ≤ length out → length s ≤ at → Shows (foundShown (readAll s)) out (record { number = 1; length = to }) after
+  pub goes-past : length s + 42 ≤ length out → length s ≤ at → Shows (setsShown s) out (record { number = 1; length = to }) after
   goes-past room h = goes-to-end room (past-end s at h)
 
   -- a malformed set
   malformed-is : (setRead s at .number ≡ 0 → ⊥) → (setRead s at .number ≡ 1 → ⊥)
-      → foundShown (readAll s) ≡ stopped (setRead s at .number) (g .shown ++ numberLine (setRead s at .number) (setRead s at .place))
+      → setsShown s ≡ stopped (setRead s at .number) (g .shown ++ numberLine (setRead s at .number) (setRead s at .place))
   unfolding below setLines
   malformed-is z one =
       g .same
@@ -208,10 +208,10 @@ module _ (s out : List ℕ) (at to : ℕ) (after : List ℕ) (g : Goes s out at 
 
   pub goes-wrong : length s + 42 ≤ length out → (r : SetRead) → r ≡ setRead s at → (r .number ≡ 0 → ⊥) → (r .number ≡ 1 → ⊥) → (q : Shown)
       → q ≡ record { number = r .number; length = to + length (numberLine (r .number) (r .place)) } → (last : List ℕ)
-      → last ≡ stored after to (numberLine (r .number) (r .place)) → Shows (foundShown (readAll s)) out q last
+      → last ≡ stored after to (numberLine (r .number) (r .place)) → Shows (setsShown s) out q last
   goes-wrong room r is z one q e last w =
       let line = numberLine (r .number) (r .place) in
-      let all : foundShown (readAll s) ≡ stopped (r .number) (g .shown ++ line) = rw is (malformed-is (rw is at z) (rw is at one)) in
+      let all : setsShown s ≡ stopped (r .number) (g .shown ++ line) = rw is (malformed-is (rw is at z) (rw is at one)) in
       let long : length (g .shown ++ line) ≡ to + length line = length-append (g .shown) line ∙ ap (λ (k : ℕ). k + length line) (sym (g .long)) in
       rw (all, e)
       (record {

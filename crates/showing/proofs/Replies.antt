@@ -14,45 +14,46 @@ use Rattle.text.specs.Writing.{stored, holding}
 use Rattle.text.proofs.Writing.{stored-holding}
 use Rattle.numerals.specs.Numerals.{numberLine}
 use Rattle.numerals.proofs.Widths.{line-few}
-use Rattle.reading.specs.Whole.{readAll}
 use Rattle.blocks.specs.declared.Stripped.{Stripped}
 use Rattle.blocks.specs.Stripping.{strippedOf, strippedInto}
 use Rattle.blocks.specs.Parts.{partOf}
 use Rattle.showing.specs.declared.Shown.{Shown}
-use Rattle.showing.specs.Shown.{foundShown, refusalShown, blockShown, longest, readoutShown, Shows}
+use Rattle.showing.specs.Shown.{Readout, refusalShown, blockShown, longest, replyShown, Shows}
 
 -- a refusal from the front on
-pub refusal-shows : (out : List ℕ) (n : ℕ) (q : Shown) (after : List ℕ) → 42 ≤ length out
-    → q ≡ record { number = n; length = 0 + length (numberLine n 0) } → after ≡ stored out 0 (numberLine n 0) → Shows (refusalShown n) out q after
+pub refusal-shows : (out : List ℕ) (n place : ℕ) (q : Shown) (after : List ℕ) → 42 ≤ length out
+    → q ≡ record { number = n; length = 0 + length (numberLine n place) } → after ≡ stored out 0 (numberLine n place) → Shows (refusalShown n place) out q after
 unfolding refusalShown
-refusal-shows out n q after room e w =
+refusal-shows out n place q after room e w =
     rw e
     (record {
       number = refl;
-      long = zero-add (length (numberLine n 0));
-      held = w ∙ stored-holding out (numberLine n 0) (omega (arith, line-few n 0));
+      long = zero-add (length (numberLine n place));
+      held = w ∙ stored-holding out (numberLine n place) (omega (arith, line-few n place));
     })
 
 pub part-short : (n k : ℕ) (b part : List ℕ) → part ≡ take n (drop k b) → length part ≤ length b
 part-short n k b part e = omega (arith, ap length e, length-take n (drop k b), length-drop k b)
 
-module _ (b : List ℕ) (n : ℕ) (is : n ≡ partOf b .number) where
-  pub block-refused : (n ≡ 1 → ⊥) → blockShown b ≡ refusalShown n
-  unfolding blockShown
-  block-refused h = rw (← is, ne-eqb n 1 h)
+-- whatever is to be shown of the data
+module _ (shown : List ℕ → Readout) where
+  module _ (b : List ℕ) (n : ℕ) (is : n ≡ partOf b .number) where
+    pub block-refused : (n ≡ 1 → ⊥) → blockShown shown b ≡ refusalShown n 0
+    unfolding blockShown
+    block-refused h = rw (← is, ne-eqb n 1 h)
 
-  pub block-shown : n ≡ 1 → (part : List ℕ) → part ≡ take (partOf b .length) (drop (partOf b .start) b) → blockShown b ≡ foundShown (readAll part)
-  unfolding blockShown
-  block-shown h part e = rw (← is, eq-eqb n 1 h, e)
+    pub block-shown : n ≡ 1 → (part : List ℕ) → part ≡ take (partOf b .length) (drop (partOf b .start) b) → blockShown shown b ≡ shown part
+    unfolding blockShown
+    block-shown h part e = rw (← is, eq-eqb n 1 h, e)
 
-module _ (reply : List ℕ) (r : Stripped) (is : r ≡ strippedOf reply (replicate longest 0)) where
-  pub reply-refused : (r .number ≡ 1 → ⊥) → readoutShown reply ≡ refusalShown (r .number)
-  unfolding readoutShown
-  reply-refused h = rw (← is, ne-eqb (r .number) 1 h)
+  module _ (reply : List ℕ) (r : Stripped) (is : r ≡ strippedOf reply (replicate longest 0)) where
+    pub reply-refused : (r .number ≡ 1 → ⊥) → replyShown shown reply ≡ refusalShown (r .number) 0
+    unfolding replyShown
+    reply-refused h = rw (← is, ne-eqb (r .number) 1 h)
 
-  pub reply-shown : r .number ≡ 1 → readoutShown reply ≡ blockShown (map seven reply)
-  unfolding readoutShown
-  reply-shown h = rw (← is, eq-eqb (r .number) 1 h)
+    pub reply-shown : r .number ≡ 1 → replyShown shown reply ≡ blockShown shown (map seven reply)
+    unfolding replyShown
+    reply-shown h = rw (← is, eq-eqb (r .number) 1 h)
 
 -- what was stripped is the characters of the reply
 abbrev answer : Bool → Bool → ℕ → Stripped

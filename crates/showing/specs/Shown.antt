@@ -1,6 +1,7 @@
--- What is shown of a captured reply, and nothing more: each data set of its block on a line; for a refusal its number and the place.
+-- What is shown of a captured reply, and nothing more: each data set of its block on a line, or the first with an address; for a refusal
+-- its number and the place.
 use mathlib.Core.Path.{_≡_}
-use mathlib.Core.Bool.{cond}
+use mathlib.Core.Bool.{Bool, cond}
 use mathlib.Core.List.{List, [], _∷_, _++_, map}
 use Prim.Native.Nat.{ℕ}
 use lib.Dec.{eqb}
@@ -14,6 +15,8 @@ use Rattle.numerals.specs.Numerals.{numberLine}
 use Rattle.blocks.specs.Parts.{partOf}
 use Rattle.blocks.specs.Stripping.{strippedOf}
 use Rattle.reading.specs.Whole.{Found, readAll}
+use Rattle.finding.specs.declared.Lookup.{Lookup}
+use Rattle.finding.specs.Finding.{lookup, pointedAt}
 use Rattle.showing.specs.declared.Shown.{Shown}
 
 -- 1, or the number of the refusal; and the text
@@ -36,23 +39,45 @@ foundShown f =
     cond (eqb (f .number) 0) (record { number = 1; text = setLines (f .sets) })
     (record { number = f .number; text = setLines (f .sets) ++ numberLine (f .number) (f .place) })
 
--- a refusal has place 0
-unfoldable pub refusalShown : ℕ → Readout
-refusalShown number = record { number = number; text = numberLine number 0 }
+-- every data set of some data
+unfoldable pub setsShown : List ℕ → Readout
+setsShown s = foundShown (readAll s)
 
--- a block without a part is refused with 22 or 23
-unfoldable pub blockShown : List ℕ → Readout
-blockShown b =
-    cond (eqb (partOf b .number) 1) (foundShown (readAll (take (partOf b .length) (drop (partOf b .start) b)))) (refusalShown (partOf b .number))
+-- a refusal: its number and its place
+unfoldable pub refusalShown : ℕ → ℕ → Readout
+refusalShown number place = record { number = number; text = numberLine number place }
+
+-- the set that a lookup points at; 25 has the place of the malformed set, 27 has 0
+unfoldable pub lookupShown : List ℕ → Lookup → Readout
+lookupShown s l = cond (eqb (l .number) 1) (record { number = 1; text = setLine (pointedAt s l) }) (refusalShown (l .number) (l .place))
+
+-- the first data set with an address
+unfoldable pub firstShown : List ℕ → List ℕ → Readout
+firstShown a s = lookupShown s (lookup s a)
+
+-- every data set, or the first with an address
+unfoldable pub wantedShown : Bool → List ℕ → List ℕ → Readout
+wantedShown every a = cond every setsShown (firstShown a)
+
+-- what is to be shown of a block's data; a block without a part is refused with 22 or 23
+unfoldable pub blockShown : (List ℕ → Readout) → List ℕ → Readout
+blockShown shown b =
+    cond (eqb (partOf b .number) 1) (shown (take (partOf b .length) (drop (partOf b .start) b))) (refusalShown (partOf b .number) 0)
 
 -- so many bytes of a reply are taken
 abbrev pub longest : ℕ
 longest = 4096
 
--- a longer reply is refused with 26, a damaged one with 24
+-- and of a reply's; a longer reply is refused with 26, a damaged one with 24
+unfoldable pub replyShown : (List ℕ → Readout) → List ℕ → Readout
+replyShown shown reply =
+    cond (eqb (strippedOf reply (replicate longest 0) .number) 1) (blockShown shown (map seven reply)) (refusalShown (strippedOf reply (replicate longest 0) .number) 0)
+
 unfoldable pub readoutShown : List ℕ → Readout
-readoutShown reply =
-    cond (eqb (strippedOf reply (replicate longest 0) .number) 1) (blockShown (map seven reply)) (refusalShown (strippedOf reply (replicate longest 0) .number))
+readoutShown reply = replyShown setsShown reply
+
+unfoldable pub registerShown : List ℕ → List ℕ → Readout
+registerShown reply a = replyShown (firstShown a) reply
 
 -- a buffer begins with the text and is kept past it; its number and its length
 pub record Shows (q : Readout) (out : List ℕ) (r : Shown) (after : List ℕ) : Type 0 where

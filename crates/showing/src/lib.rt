@@ -1,12 +1,11 @@
-// All that is shown of a captured reply, made in a lent buffer: each data set of its block as `address value` on a line; for a refusal its
-// number, a space, the place and LF.
+// All that is shown of a captured reply, made in a lent buffer: each data set of its block as `address value` on a line, or the first with an
+// address; for a refusal its number, a space, the place and LF.
 ghost use mathlib.Core.Path.{_≡_};
 ghost use Prim.Native.Nat.{_+_, _≤_};
 ghost use lib.ListN.{length, take, drop};
 ghost use Rattle.text.specs.Writing.{stored};
 ghost use Rattle.numerals.specs.Numerals.{numberLine};
-ghost use Rattle.reading.specs.Whole.{readAll};
-ghost use Rattle.showing.specs.Shown.{setLine, foundShown, blockShown, readoutShown, Shows};
+ghost use Rattle.showing.specs.Shown.{setLine, setsShown, firstShown, wantedShown, blockShown, replyShown, readoutShown, registerShown, Shows};
 
 // The longest reply that is taken, and room for what is shown of it.
 pub const LONGEST: usize = 4096;
@@ -47,7 +46,7 @@ fn refuse(out: &mut [u8], to: usize, number: u8, place: usize) -> Shown
 // The data sets one by one, up to the end or a malformed one.
 fn show_sets(sets: &[u8], out: &mut [u8]) -> Shown
     requires { ⌜ length (now sets) + 42 ≤ length (now out) ⌝ }
-    ensures { λ r. ⌜ Shows (foundShown (readAll (now (sets .entry)))) (now (out .entry)) r (now (out .exit)) ⌝ }
+    ensures { λ r. ⌜ Shows (setsShown (now (sets .entry))) (now (out .entry)) r (now (out .exit)) ⌝ }
 {
     let mut at = 0;
     let mut to = 0;
@@ -72,23 +71,54 @@ fn show_sets(sets: &[u8], out: &mut [u8]) -> Shown
     }
 }
 
-// What a stripped block holds.
-fn show_block(block: &[u8], out: &mut [u8]) -> Shown
+// The first data set with an address, and nothing behind it.
+fn show_first(sets: &[u8], address: &[u8], out: &mut [u8]) -> Shown
+    requires { ⌜ length (now sets) + 42 ≤ length (now out) ⌝ }
+    ensures { λ r. ⌜ Shows (firstShown (now (address .entry)) (now (sets .entry))) (now (out .entry)) r (now (out .exit)) ⌝ }
+{
+    let found = finding::find(sets, address);
+    let number = found.number;
+    if number != reading::DONE {
+        return refuse(out, 0, number, found.place);
+    }
+    let length = put_set(
+        out,
+        0,
+        sets,
+        found.address_start,
+        found.address_length,
+        found.value_length,
+    );
+    Shown { number: 1, length }
+}
+
+// Every data set, or the first with an address.
+fn show_wanted(sets: &[u8], every: bool, address: &[u8], out: &mut [u8]) -> Shown
+    requires { ⌜ length (now sets) + 42 ≤ length (now out) ⌝ }
+    ensures { λ r. ⌜ Shows (wantedShown every (now (address .entry)) (now (sets .entry))) (now (out .entry)) r (now (out .exit)) ⌝ }
+{
+    if every {
+        return show_sets(sets, out);
+    }
+    show_first(sets, address, out)
+}
+
+// What a stripped block holds of it.
+fn show_block(block: &[u8], every: bool, address: &[u8], out: &mut [u8]) -> Shown
     requires { ⌜ length (now block) + 42 ≤ length (now out) ⌝ }
-    ensures { λ r. ⌜ Shows (blockShown (now (block .entry))) (now (out .entry)) r (now (out .exit)) ⌝ }
+    ensures { λ r. ⌜ Shows (blockShown (wantedShown every (now (address .entry))) (now (block .entry))) (now (out .entry)) r (now (out .exit)) ⌝ }
 {
     let number = blocks::part_check(block);
     if number != blocks::DONE {
         return refuse(out, 0, number, 0);
     }
-    show_sets(blocks::part(block), out)
+    show_wanted(blocks::part(block), every, address, out)
 }
 
-// What a reply holds.
-pub fn show(reply: &[u8], out: &mut [u8]) -> Shown
+// What a reply holds of it.
+fn show_reply(reply: &[u8], every: bool, address: &[u8], out: &mut [u8]) -> Shown
     requires { ⌜ 4138 ≤ length (now out) ⌝ }
-    ensures { λ r. ⌜ Shows (readoutShown (now (reply .entry))) (now (out .entry)) r (now (out .exit)) ⌝ }
-    ensures within { λ r. ⌜ (r .length ≤ length (now (out .exit))) × (r .length ≡ length (take (r .length) (now (out .exit)))) ⌝ }
+    ensures { λ r. ⌜ Shows (replyShown (wantedShown every (now (address .entry))) (now (reply .entry))) (now (out .entry)) r (now (out .exit)) ⌝ }
 {
     let mut plain = [0u8; 4096];
     let stripped = blocks::strip(reply, &mut plain);
@@ -97,5 +127,23 @@ pub fn show(reply: &[u8], out: &mut [u8]) -> Shown
         return refuse(out, 0, number, 0);
     }
     let n = stripped.length;
-    show_block(&plain[..n], out)
+    show_block(&plain[..n], every, address, out)
+}
+
+// Every data set of a reply.
+pub fn show(reply: &[u8], out: &mut [u8]) -> Shown
+    requires { ⌜ 4138 ≤ length (now out) ⌝ }
+    ensures { λ r. ⌜ Shows (readoutShown (now (reply .entry))) (now (out .entry)) r (now (out .exit)) ⌝ }
+    ensures within { λ r. ⌜ (r .length ≤ length (now (out .exit))) × (r .length ≡ length (take (r .length) (now (out .exit)))) ⌝ }
+{
+    show_reply(reply, true, b"", out)
+}
+
+// The first data set of a reply with an address.
+pub fn show_register(reply: &[u8], address: &[u8], out: &mut [u8]) -> Shown
+    requires { ⌜ 4138 ≤ length (now out) ⌝ }
+    ensures { λ r. ⌜ Shows (registerShown (now (reply .entry)) (now (address .entry))) (now (out .entry)) r (now (out .exit)) ⌝ }
+    ensures within { λ r. ⌜ (r .length ≤ length (now (out .exit))) × (r .length ≡ length (take (r .length) (now (out .exit)))) ⌝ }
+{
+    show_reply(reply, false, address, out)
 }

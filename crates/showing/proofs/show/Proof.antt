@@ -1,46 +1,16 @@
--- `showing::show` meets its contract: the number of a refusal, or what the stripped block shows. Assumes nothing.
-use mathlib.Core.Path.{_≡_, sym, ap, _∙_}
-use Prim.Native.Nat.{_≤_}
-use native.Mathlib.Omega.{arith}
-use lib.ListN.{length, length-take}
-use lib.Seq.{length-take-le}
-use Rattle.blocks.specs.declared.Stripped.{Stripped}
-use Rattle.blocks.proofs.Length.{stripped-fits}
+-- `showing::show` meets its contract: every data set is wanted, and what the buffer begins with is within it. Assumes nothing.
 use Rattle.numerals.proofs.Begun.{begun}
-use Rattle.showing.specs.Shown.{blockShown, Readout, Shows}
-use Rattle.showing.proofs.Replies.{refusal-shows, reply-refused, reply-shown, stripped-is}
+use Rattle.showing.specs.Shown.{wantedShown, readoutShown}
 use borrow.Author.Needs.{needs}
 use Rattle.showing.proofs.show.Statement.{statement}
 use Rattle.showing.proofs.show.Tie as tie
 
 returns : tie.Need-returns
+unfolding readoutShown wantedShown
 returns c =
-    let a = c .before .before .before .before .before .before .before .before .before .before .args in
-    let r = c .before .before .before .before .before .before .strip in
-    let said = c .before .before .refuse .ensures in
-    let s = refusal-shows (a .out .now) (r .result .number) _ _ (omega (arith, c .before .before .before .before .before .before .before .before .before .before .pre)) (said .0) (said .1) in
-    (rw (reply-refused (a .reply .now) (r .result) (r .ensures .answer) (c .before .before .before .before .if1 .taken)) s, begun (a .out .now) _ _ (s .long) _ (s .held))
-
-array-share-prefix-plain : tie.Need-array-share-prefix-plain
-array-share-prefix-plain c =
-    rw (c .before .before .strip .ensures .answer, c .before .before .strip .kept .1 .0) (stripped-fits _ _)
-
-slice-aggregate-show-block : tie.Need-slice-aggregate-show-block
-slice-aggregate-show-block c =
-    sym (length-take-le _ _ (rw (c .before .before .before .strip .ensures .answer, c .before .before .before .strip .kept .1 .0) (stripped-fits _ _)))
-
-show-block-requires : tie.Need-show-block-requires
-show-block-requires c κs =
-    let r = c .before .before .before .before .strip in
-    omega (arith, c .before .before .before .before .before .before .before .before .pre, length-take (r .result .length) (r .last .1 .0), r .kept .1 .0)
-
-returns-2 : tie.Need-returns-2
-returns-2 c =
-    let a = c .before .before .before .before .before .before .before .before .before .before .before .args in
-    let r = c .before .before .before .before .before .before .before .strip in
-    let one = c .before .before .before .before .before .if1 .left in
-    let s = c .before .before .show-block .ensures in
-    (rw (reply-shown (a .reply .now) (r .result) (r .ensures .answer) one, ← stripped-is (a .reply .now) _ (r .result) _ (r .ensures .answer) (r .ensures .held) one) s, begun (a .out .now) _ _ (s .long) _ (s .held))
+    let a = c .before .before .before .before .before .before .before .args in
+    let s = c .before .before .show-reply .ensures in
+    (s, begun (a .out .now) _ _ (s .long) _ (s .held))
 
 pub show-spec : {M : Type 1} → statement M
-show-spec = tie.close (tie.spec (λ c. search needs) (λ c κs. search needs) (λ c κs. search needs) (λ c. search needs) returns array-share-prefix-plain slice-aggregate-show-block show-block-requires (λ c. search needs) returns-2)
+show-spec = tie.close (tie.spec (λ c. search needs) (λ c κs. search needs) (λ c. search needs) returns)

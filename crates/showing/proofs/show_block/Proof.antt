@@ -1,6 +1,7 @@
--- `showing::show_block` meets its contract: the number of a refusal, or the data sets of the part. Assumes nothing.
+-- `showing::show_block` meets its contract: the number of a refusal, or what is wanted of the part. Assumes nothing.
 use native.Mathlib.Omega.{arith}
 use Rattle.blocks.specs.Parts.{partOf}
+use Rattle.showing.specs.Shown.{wantedShown}
 use Rattle.showing.proofs.Replies.{refusal-shows, part-short, block-refused, block-shown}
 use borrow.Author.Needs.{needs}
 use Rattle.showing.proofs.show_block.Statement.{statement}
@@ -8,22 +9,24 @@ use Rattle.showing.proofs.show_block.Tie as tie
 
 returns : tie.Need-returns
 returns c =
-    let a = c .before .before .before .before .before .before .before .before .args in
+    let a = c .before .before .before .before .before .before .before .before .before .args in
+    let shown = wantedShown (a .every) (a .address .now) in
     let n = c .before .before .before .before .before .part-check in
     let said = c .before .before .refuse .ensures in
-    rw (block-refused (a .block .now) (n .result) (n .ensures) (c .before .before .before .before .if1 .taken)) (refusal-shows (a .out .now) (n .result) _ _ (omega arith) (said .0) (said .1))
+    rw (block-refused shown (a .block .now) (n .result) (n .ensures) (c .before .before .before .before .if1 .taken)) (refusal-shows (a .out .now) (n .result) 0 _ _ (omega arith) (said .0) (said .1))
 
-show-sets-requires : tie.Need-show-sets-requires
-show-sets-requires c κs =
-    let a = c .before .before .before .before .before .before .args in
-    omega (arith, c .before .before .before .before .before .before .pre, part-short (partOf (a .block .now) .length) (partOf (a .block .now) .start) (a .block .now) _ (c .before .part .ensures .1))
+show-wanted-requires : tie.Need-show-wanted-requires
+show-wanted-requires c κs =
+    let a = c .before .before .before .before .before .before .before .args in
+    omega (arith, c .before .before .before .before .before .before .before .pre, part-short (partOf (a .block .now) .length) (partOf (a .block .now) .start) (a .block .now) _ (c .before .part .ensures .1))
 
 returns-2 : tie.Need-returns-2
 returns-2 c =
-    let a = c .before .before .before .before .before .before .before .before .before .args in
+    let a = c .before .before .before .before .before .before .before .before .before .before .args in
+    let shown = wantedShown (a .every) (a .address .now) in
     let n = c .before .before .before .before .before .before .part-check in
     let part = c .before .before .before .before .part in
-    rw (block-shown (a .block .now) (n .result) (n .ensures) (c .before .before .before .before .before .if1 .left) _ (part .ensures .1)) (c .before .before .show-sets .ensures)
+    rw (block-shown shown (a .block .now) (n .result) (n .ensures) (c .before .before .before .before .before .if1 .left) _ (part .ensures .1)) (c .before .before .show-wanted .ensures)
 
 pub show-block-spec : {M : Type 1} → statement M
-show-block-spec = tie.close (tie.spec (λ c κs. search needs) (λ c κs. search needs) (λ c. search needs) returns (λ c κs. search needs) show-sets-requires (λ c. search needs) returns-2)
+show-block-spec = tie.close (tie.spec (λ c κs. search needs) (λ c κs. search needs) (λ c. search needs) returns (λ c κs. search needs) show-wanted-requires (λ c. search needs) returns-2)

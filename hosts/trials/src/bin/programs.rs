@@ -1,5 +1,6 @@
-//! The trial of the programs themselves: each is started, given a text on its standard input, and
-//! what it writes is compared with what the model says, byte by byte; so is its exit status.
+//! The trial of the programs themselves: each is started, the readout also with an address, given a
+//! text on its standard input, and what it writes is compared with what the model says, byte by
+//! byte; so is its exit status.
 //!
 //!     programs
 //!
@@ -23,9 +24,14 @@ const TEXTS: usize = 3_000;
 /// The longest reply that the readout takes.
 const REPLY: usize = 4_096;
 
-/// A program, what it is given, in pieces of what size, and what it has to say.
+/// Data sets of the reply that addresses are looked up in.
+const SETS: usize = 33;
+
+/// A program, the words that it is started with, what it is given, in pieces of what size, and what
+/// it has to say.
 struct Case {
     program: &'static str,
+    words: Vec<String>,
     input: Vec<u8>,
     pieces: usize,
     said: Vec<u8>,
@@ -47,31 +53,38 @@ fn exported(text: &[u8]) -> (Vec<u8>, i32) {
     }
 }
 
-/// What the readout has to write, and the number of its answer.
-fn read_out(reply: &[u8]) -> (Vec<u8>, u8) {
+/// The data of a reply's block, or the number of the refusal.
+fn data_of(reply: &[u8]) -> Result<Vec<u8>, u8> {
     let mut plain = vec![0; REPLY];
     let (number, length) = head::strip(reply, &mut plain);
     if number != head::answer::DONE {
-        return (pair(number, 0), number);
+        return Err(number);
     }
     let block = &plain[..length];
-    let part = match head::part(block) {
-        Ok(part) => part,
+    Ok(block[head::part(block)?].to_vec())
+}
+
+/// A data set, as the readout shows it.
+fn shown(address: &[u8], value: &[u8]) -> Vec<u8> {
+    [address, b" ", value, b"\n"].concat()
+}
+
+/// What the readout has to write, and the number of its answer.
+fn read_out(reply: &[u8]) -> (Vec<u8>, u8) {
+    let sets = match data_of(reply) {
+        Ok(sets) => sets,
         Err(number) => return (pair(number, 0), number),
     };
-    let sets = &block[part];
     let mut lines = Vec::new();
     let mut at = 0;
     loop {
-        let step = head::next(sets, at);
+        let step = head::next(&sets, at);
         match step.answer {
             head::answer::END => return (lines, head::answer::DONE),
             head::answer::DONE => {
                 let open = at + step.address_length;
-                lines.extend(&sets[at..open]);
-                lines.push(b' ');
-                lines.extend(&sets[open + 1..open + 1 + step.value_length]);
-                lines.push(b'\n');
+                let value = &sets[open + 1..open + 1 + step.value_length];
+                lines.extend(shown(&sets[at..open], value));
                 at = step.next;
             }
             number => {
@@ -80,6 +93,25 @@ fn read_out(reply: &[u8]) -> (Vec<u8>, u8) {
             }
         }
     }
+}
+
+/// What the readout has to write of one address, the number of its answer, and how many sets were
+/// read for it.
+fn looked_up(reply: &[u8], address: &str) -> (Vec<u8>, u8, usize) {
+    let sets = match data_of(reply) {
+        Ok(sets) => sets,
+        Err(number) => return (pair(number, 0), number, 0),
+    };
+    let found = head::find(&sets, address.as_bytes());
+    let said = match found.answer {
+        head::answer::DONE => {
+            let value = &sets[found.value_start..found.value_start + found.value_length];
+            shown(address.as_bytes(), value)
+        }
+        head::answer::MALFORMED => pair(found.answer, found.place),
+        _ => pair(found.answer, 0),
+    };
+    (said, found.answer, found.count)
 }
 
 /// What the delivery to a blank meter has to write.
@@ -115,6 +147,7 @@ fn exporter_in(text: &[u8], pieces: usize) -> Case {
     };
     Case {
         program: "exporter",
+        words: Vec::new(),
         input: text.to_vec(),
         pieces,
         said,
@@ -127,6 +160,7 @@ fn readout(reply: &[u8]) -> Case {
     let (said, number) = read_out(reply);
     Case {
         program: "readout",
+        words: Vec::new(),
         input: reply.to_vec(),
         pieces: usize::MAX,
         said,
@@ -135,10 +169,27 @@ fn readout(reply: &[u8]) -> Case {
     }
 }
 
+/// The readout of one address.
+fn readout_of(reply: &[u8], address: &str) -> Case {
+    let (said, number, count) = looked_up(reply, address);
+    let reaches = match number {
+        head::answer::DONE => format!("register: set {count}"),
+        _ => format!("register: {number}"),
+    };
+    Case {
+        words: vec![address.to_string()],
+        said,
+        status: i32::from(number != head::answer::DONE),
+        reaches,
+        ..readout(reply)
+    }
+}
+
 fn delivering(text: &[u8]) -> Case {
     let (said, status) = delivered(text);
     Case {
         program: "delivering",
+        words: Vec::new(),
         input: text.to_vec(),
         pieces: usize::MAX,
         said,
@@ -253,6 +304,73 @@ fn for_the_readout(cases: &mut Vec<Case>) {
     }
 }
 
+/// Replies and addresses for the readout.
+fn for_one_register(cases: &mut Vec<Case>) {
+    // Two sets have each address, so that the second must not be shown.
+    let sets: Vec<u8> = (0..SETS)
+        .flat_map(|n| {
+            head::line(
+                &format!("15.8.{}", n % (SETS / 2)),
+                &format!("{n:06}.000*kWh"),
+            )
+        })
+        .collect();
+    let data = [&sets[..], LAST].concat();
+    let whole = reply_of(&data);
+    let addresses: Vec<String> = (0..=SETS / 2).map(|n| format!("15.8.{n}")).collect();
+    cases.extend(addresses.iter().map(|address| readout_of(&whole, address)));
+    // What no set has, or can have: part of an address, more than one, none, and 15 to 40 characters.
+    let others = [
+        "", " ", ".", "15.8", "15.8.", "5.8.0", "15.8.00", "15.8.0 ", "15.8.0(", "!", "é",
+    ];
+    cases.extend(others.map(|address| readout_of(&whole, address)));
+    for length in 15..=40 {
+        let long = "A".repeat(length);
+        let line = head::line(&long, "1");
+        cases.push(readout_of(&whole, &long));
+        cases.push(readout_of(&reply_of(&line), &long));
+        cases.push(readout_of(&reply_of(&line), &long[..length - 1]));
+        cases.push(readout_of(&reply_of(&line), &long[..length.min(16)]));
+    }
+    // The first of all sets, one in the middle and the last, each of some length.
+    for count in 1..=33 {
+        let line = |n: usize| head::line(&format!("{n}"), &"7".repeat(n % 33));
+        let reply = reply_of(&(1..=count).flat_map(line).collect::<Vec<u8>>());
+        for wanted in [1, count.div_ceil(2), count, count + 1] {
+            cases.push(readout_of(&reply, &wanted.to_string()));
+        }
+    }
+    // A bad set before the match, in it and behind it.
+    for place in (0..data.len()).step_by(3) {
+        let mut malformed = data.clone();
+        malformed[place] = b'/';
+        let wanted = &addresses[place % addresses.len()];
+        cases.push(readout_of(&reply_of(&malformed), wanted));
+    }
+    let bad: &[u8] = b"A(1)\r\nB(2)\r\n?\r\nC(3)\r\n";
+    cases.extend(["A", "B", "C"].map(|address| readout_of(&reply_of(bad), address)));
+    // Replies that are refused whatever the address: cut, damaged, changed with its parity, too long.
+    for place in (0..whole.len()).step_by(9) {
+        let wanted = &addresses[place % addresses.len()];
+        cases.push(readout_of(&whole[..place], wanted));
+        let mut damaged = whole.clone();
+        damaged[place] ^= 0x10;
+        cases.push(readout_of(&damaged, wanted));
+        damaged[place] = head::with_parity(damaged[place] & 0x7F);
+        cases.push(readout_of(&damaged, wanted));
+    }
+    for length in [REPLY, REPLY + 1] {
+        let filling: Vec<u8> = b"A(1)\r\n"
+            .iter()
+            .copied()
+            .cycle()
+            .take(length - 3)
+            .collect();
+        cases.push(readout_of(&reply_of(&filling), "A"));
+        cases.push(readout_of(&reply_of(&filling), "B"));
+    }
+}
+
 /// Texts for the delivery.
 fn for_the_delivery(cases: &mut Vec<Case>) {
     cases.extend((1..=TABLES).map(|number| delivering(&post_of([number]))));
@@ -295,6 +413,7 @@ fn ran(child: &mut Child, case: &Case) -> Result<Vec<u8>, String> {
 fn held(case: &Case) -> Result<(), String> {
     let mut child = Command::new("hosts/run")
         .arg(case.program)
+        .args(&case.words)
         .stdin(Stdio::piped())
         .stdout(Stdio::piped())
         .stderr(Stdio::piped())
@@ -316,7 +435,7 @@ fn held(case: &Case) -> Result<(), String> {
 
 /// The programs as a shell starts them: command, exit status, whether something stands on standard
 /// error, and what is reached.
-const STARTED: [(&str, i32, bool, &str); 17] = [
+const STARTED: [(&str, i32, bool, &str); 23] = [
     ("./export-post examples/winter.post", 0, false, "status 0"),
     ("./export-post <examples/winter.post", 0, false, "status 0"),
     ("./export-post examples/crafted.post", 1, false, "status 1"),
@@ -356,6 +475,42 @@ const STARTED: [(&str, i32, bool, &str); 17] = [
         true,
         "full",
     ),
+    (
+        "[ \"$(hosts/tool readout 15.8.0 <crates/readout/stdin)\" = '15.8.0 123458.288*kWh' ]",
+        0,
+        false,
+        "status 0",
+    ),
+    (
+        "hosts/tool readout 15.8.5 <crates/readout/stdin",
+        1,
+        false,
+        "status 1",
+    ),
+    (
+        "hosts/tool readout '' <crates/readout/stdin",
+        1,
+        false,
+        "status 1",
+    ),
+    (
+        "hosts/tool readout 15.8.0 15.8.1 <crates/readout/stdin",
+        2,
+        true,
+        "two addresses",
+    ),
+    (
+        "hosts/tool readout '' '' </dev/null",
+        2,
+        true,
+        "two addresses",
+    ),
+    (
+        "hosts/tool readout 15.8.0 <crates/readout/stdin >/dev/full",
+        2,
+        true,
+        "full",
+    ),
     ("hosts/tool readout </", 2, true, "a directory"),
     ("hosts/tool readout <&-", 2, true, "closed input"),
     (
@@ -389,6 +544,8 @@ fn to_reach() -> BTreeSet<String> {
         .map(|place| format!("exporter: place {place}"))
         .chain([1, 2, 24].map(|lines| format!("exporter: {lines} lines")))
         .chain([1, 22, 23, 24, 25, 26].map(|number| format!("readout: {number}")))
+        .chain((1..=33).map(|set| format!("register: set {set}")))
+        .chain([22, 23, 24, 25, 26, 27].map(|number| format!("register: {number}")))
         .chain([1, 20].map(|number| format!("delivering: {number}")))
         .chain(STARTED.iter().map(|case| case.3.to_string()))
         .collect();
@@ -405,6 +562,7 @@ fn main() -> ExitCode {
     let mut cases = Vec::new();
     for_the_exporter(&mut cases);
     for_the_readout(&mut cases);
+    for_one_register(&mut cases);
     for_the_delivery(&mut cases);
     let reached = Mutex::new(BTreeSet::new());
     let wrong = Mutex::new(Vec::new());
@@ -418,7 +576,8 @@ fn main() -> ExitCode {
                         Err(words) => {
                             let start = &case.input[..case.input.len().min(80)];
                             let text = String::from_utf8_lossy(start).into_owned();
-                            let words = format!("{} on {text:?}..: {words}", case.program);
+                            let words =
+                                format!("{} {:?} on {text:?}..: {words}", case.program, case.words);
                             wrong.lock().unwrap().push(words);
                         }
                     }
