@@ -1,0 +1,4 @@
+pub mod Lengths
+pub mod Ranges
+pub mod Asks
+pub mod Ways

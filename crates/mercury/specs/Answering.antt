@@ -26,16 +26,20 @@ quantityAt s at = quantityOf (numberFrom (getD s at 0) (getD s (at + 1) 0) (getD
 unfoldable pub energyOf : List ℕ → Energy
 energyOf s =
     record {
-      active_in = quantityAt s 1;
-      active_out = quantityAt s 5;
-      reactive_in = quantityAt s 9;
-      reactive_out = quantityAt s 13;
+      «active_in» = quantityAt s 1;
+      «active_out» = quantityAt s 5;
+      «reactive_in» = quantityAt s 9;
+      «reactive_out» = quantityAt s 13;
     }
+
+-- the length of a data answer or of a status answer
+unfoldable pub goodLength : ℕ → Bool
+goodLength n = eqb n 19 || eqb n 4
 
 -- 50 length neither that of a data nor of a status answer, 51 CRC, 52 address not ours, 53 status
 unfoldable pub readOf : ℕ → List ℕ → Answer
 readOf address s =
-    cond (eqb (length s) 19 || eqb (length s) 4)
+    cond (goodLength (length s))
     (cond (checks s)
     (cond (eqb (getD s 0 0) address) (cond (eqb (length s) 4) (Status (getD s 1 0)) (Data (energyOf s))) OtherAddress)
     WrongCrc)
@@ -62,7 +66,7 @@ quantityBytes q =
 unfoldable pub answerOf : ℕ → Energy → List ℕ
 answerOf address e =
     withCrc
-    (address ∷ (quantityBytes (e .active_in) ++ (quantityBytes (e .active_out) ++ (quantityBytes (e .reactive_in) ++ quantityBytes (e .reactive_out)))))
+    (address ∷ (quantityBytes (e .«active_in») ++ (quantityBytes (e .«active_out») ++ (quantityBytes (e .«reactive_in») ++ quantityBytes (e .«reactive_out»)))))
 
 -- and the one with a status
 unfoldable pub statusOf : ℕ → ℕ → List ℕ

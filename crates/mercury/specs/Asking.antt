@@ -27,7 +27,7 @@ goodFields array month tariff = goodArray array && (goodMonth array month && leb
 
 -- address, code, array in the high and month in the low four bits, tariff, CRC
 unfoldable pub requestOf : ℕ → ℕ → ℕ → ℕ → List ℕ
-requestOf address array month tariff = withCrc (address ∷ 0x05 ∷ array * 16 + month ∷ tariff ∷ [])
+requestOf address array month tariff = withCrc (address ∷ 0x05 ∷ (array * 16 + month) ∷ tariff ∷ [])
 
 -- 54 for a field out of range, then 55 for a short output, else 1 with the request's length
 unfoldable pub askedIn : List ℕ → Bool → Asked

@@ -2,7 +2,12 @@
 ghost use mathlib.Core.Path.{_≡_};
 ghost use Prim.Native.Nat.{_+_, _*_, _≤_};
 ghost use lib.ListN.{length, getD};
-ghost use Rattle.mercury.specs.Answering.{numberFrom, quantityOf, quantityAt, energyOf, readOf};
+ghost use Rattle.mercury.specs.Answering.{numberFrom, quantityOf, quantityAt, energyOf, goodLength, readOf};
+
+// The lengths of a data answer and of a status answer.
+const DATA: usize = 19;
+
+const STATUS: usize = 4;
 
 // A quantity of energy: four bytes of ones are no number.
 pub enum Quantity {
@@ -63,12 +68,18 @@ fn energy_in(s: &[u8]) -> Energy
     }
 }
 
+// Whether a length is that of a data answer or of a status answer.
+fn good_length(n: usize) -> bool
+    ensures { λ r. ⌜ r ≡ goodLength n ⌝ }
+{
+    (n == DATA) | (n == STATUS)
+}
+
 // Reads the answer of the meter with an address: its length, its CRC and its address are looked at in this order.
 pub fn read(s: &[u8], address: u8) -> Answer
     ensures { λ r. ⌜ r ≡ readOf address (now (s .entry)) ⌝ }
 {
-    let status = s.len() == 4;
-    if !((s.len() == 19) | status) {
+    if !good_length(s.len()) {
         return Answer::WrongLength;
     }
     if !crc::check(s) {
@@ -77,7 +88,7 @@ pub fn read(s: &[u8], address: u8) -> Answer
     if s[0] != address {
         return Answer::OtherAddress;
     }
-    if status {
+    if s.len() == STATUS {
         return Answer::Status(s[1]);
     }
     Answer::Data(energy_in(s))

@@ -21,7 +21,7 @@ pub struct Asked {
 }
 
 // Whether array, month and tariff lie within their ranges: a month goes with the arrays of months, 3 and B hex, and with no other.
-fn good(array: u8, month: u8, tariff: u8) -> bool
+fn in_range(array: u8, month: u8, tariff: u8) -> bool
     ensures { λ r. ⌜ r ≡ goodFields array month tariff ⌝ }
 {
     let ranged = (array <= 5) | ((9 <= array) & (array <= 13));
@@ -38,14 +38,21 @@ fn request(address: u8, array: u8, month: u8, tariff: u8) -> [u8; 6]
     let both = array * 16 + month;
     let fields = [address, ENERGY, both, tariff];
     let c = crc::crc(&fields);
-    [address, ENERGY, both, tariff, (c % 256) as u8, (c / 256) as u8]
+    [
+        address,
+        ENERGY,
+        both,
+        tariff,
+        (c % 256) as u8,
+        (c / 256) as u8,
+    ]
 }
 
 // Builds the request for accumulated energy, or writes nothing.
 pub fn ask(out: &mut [u8], address: u8, array: u8, month: u8, tariff: u8) -> Asked
     ensures { λ r. ⌜ Asks (now (out .entry)) (goodFields array month tariff) (requestOf address array month tariff) r (now (out .exit)) ⌝ }
 {
-    if !good(array, month, tariff) {
+    if !in_range(array, month, tariff) {
         return Asked {
             number: FIELD,
             length: 0,

@@ -23,11 +23,10 @@ unfolding crcFrom
 loop-again c =
     let at-loop = c .before .before .before in
     let s = at-loop .before .before .args .s .now in
-    let i = at-loop .loop .i in
-    (
+    let i = at-loop .loop .i in (
       omega arith,
       ap (λ (n : ℕ). crcFrom n (drop (i + 1) s)) (c .join .ensures)
-      ∙ (rw (left-next i s (c .before .before .loop-test .taken)) at (at-loop .loop .inv .1)),
+          ∙ (rw (left-next i s (c .before .before .loop-test .taken)) at (at-loop .loop .inv .1)),
     )
 
 returns : tie.Need-returns Inv-loop μ-loop

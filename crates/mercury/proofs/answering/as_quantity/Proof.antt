@@ -1,15 +1,16 @@
+-- `mercury::answering::as_quantity` meets its contract. Assumes nothing.
+use borrow.Author.Tests.{eq-eqb, ne-eqb}
+use Rattle.mercury.specs.Answering.{quantityOf}
 use Rattle.mercury.proofs.answering.as_quantity.Statement.{statement}
 use Rattle.mercury.proofs.answering.as_quantity.Tie as tie
-use Rattle.mercury.proofs.answering.as_quantity.Reads as reads
-use Rattle.mercury.proofs.answering.as_quantity.Lts as lts
 
--- src/answering.rt:41:9
 returns : tie.Need-returns
-returns c = ?
+unfolding quantityOf
+returns c = rw (eq-eqb _ _ (c .if1 .taken))
 
--- src/answering.rt:37:1
 returns-2 : tie.Need-returns-2
-returns-2 c = ?
+unfolding quantityOf
+returns-2 c = rw (ne-eqb _ _ (c .if1 .left))
 
 pub as-quantity-spec : {M : Type 1} → statement M
 as-quantity-spec = tie.close (tie.spec returns returns-2)
