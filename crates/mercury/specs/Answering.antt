@@ -1,5 +1,5 @@
 -- Document 02, request 9: what is read of an answer, and the answer that a meter makes.
-use mathlib.Core.Bool.{Bool, cond, not, _||_}
+use mathlib.Core.Bool.{Bool, true, cond, _&&_, _||_}
 use mathlib.Core.List.{List, [], _∷_, _++_}
 use Prim.Native.Nat.{ℕ, _+_, _*_, _/_, _%_}
 use lib.Dec.{eqb, ltb}
@@ -74,5 +74,9 @@ statusOf address code = withCrc (address ∷ code ∷ [])
 
 -- a quantity that a meter can have measured
 unfoldable pub goodQuantity : Quantity → Bool
-goodQuantity NotMeasured = eqb 0 0
+goodQuantity NotMeasured = true
 goodQuantity (Measured n) = ltb n 0xFFFFFFFF
+
+unfoldable pub goodEnergy : Energy → Bool
+goodEnergy e =
+    (goodQuantity (e .«active_in») && goodQuantity (e .«active_out»)) && (goodQuantity (e .«reactive_in») && goodQuantity (e .«reactive_out»))
