@@ -17,7 +17,7 @@ use Rattle.mercury.specs.declared.answering.Energy.{Energy}
 use Rattle.mercury.specs.declared.answering.Answer.{Answer}
 use Rattle.mercury.specs.declared.answering.Answer.the-variants.{Data, Status, WrongLength, WrongCrc, OtherAddress}
 use Rattle.mercury.specs.Asking.{goodFields, requestOf}
-use Rattle.mercury.specs.Answering.{quantityOf, quantityAt, energyOf, goodLength, readOf, numberOf, quantityBytes, answerOf, statusOf, goodQuantity, goodEnergy}
+use Rattle.mercury.specs.Answering.{quantityOf, quantityAt, energyOf, goodLength, readOf, numberOf, quantityBytes, answerOf, answerCode, statusOf, goodQuantity, goodEnergy}
 use Rattle.mercury.proofs.Lengths.{just-nineteen}
 use Rattle.mercury.proofs.Ranges.{fields-le}
 use Rattle.mercury.proofs.Ways.{a-status, some-data}
@@ -114,13 +114,6 @@ isStatus WrongLength = false
 isStatus WrongCrc = false
 isStatus OtherAddress = false
 
-codeIn : Answer → ℕ
-codeIn (Status code) = code
-codeIn (Data e) = 0
-codeIn WrongLength = 0
-codeIn WrongCrc = 0
-codeIn OtherAddress = 0
-
 -- what is read determines the bytes
 module _ (address : ℕ) (s : List ℕ) (bytes : every isByte s ≡ true) where
   inner : Answer
@@ -172,12 +165,12 @@ module _ (address : ℕ) (s : List ℕ) (bytes : every isByte s ≡ true) where
       checks-is s bytes k ∙ ap (λ (i : ℕ). withCrc (take i s)) body ∙ made-of-data len ∙ ap₂ answerOf (eqb-true (getD s 0 0) address a) is
 
   pub status-determines : (code : ℕ) → readOf address s ≡ Status code → s ≡ statusOf address code
-  unfolding isStatus codeIn
+  unfolding isStatus answerCode
   status-determines code r =
       let shown : isStatus (readOf address s) ≡ true = ap isStatus r in
       let (n, k, a) = taken isStatus refl refl refl shown in
       let four : eqb (length s) 4 ≡ true = chosen isStatus (eqb (length s) 4) (Status (getD s 1 0)) (Data (energyOf s)) refl (last isStatus n k a shown) in
-      let is : getD s 1 0 ≡ code = ap codeIn (a-status address s n k a four ∙ r) in
+      let is : getD s 1 0 ≡ code = ap answerCode (a-status address s n k a four ∙ r) in
       let len : length s ≡ 4 = eqb-true (length s) 4 four in
       let body : length s - 2 ≡ 2 = omega arith in
       checks-is s bytes k ∙ ap (λ (i : ℕ). withCrc (take i s)) body ∙ made-of-status len ∙ ap₂ statusOf (eqb-true (getD s 0 0) address a) is

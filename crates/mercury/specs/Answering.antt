@@ -53,6 +53,14 @@ answerNumber WrongCrc = 51
 answerNumber OtherAddress = 52
 answerNumber (Status code) = 53
 
+-- the code of a status; 0 where there is none
+unfoldable pub answerCode : Answer → ℕ
+answerCode (Status code) = code
+answerCode (Data e) = 0
+answerCode WrongLength = 0
+answerCode WrongCrc = 0
+answerCode OtherAddress = 0
+
 -- what stands for a quantity in an answer
 unfoldable pub numberOf : Quantity → ℕ
 numberOf NotMeasured = 0xFFFFFFFF

@@ -2,7 +2,18 @@
 ghost use mathlib.Core.Path.{_≡_};
 ghost use Prim.Native.Nat.{_+_, _*_, _≤_};
 ghost use lib.ListN.{length, getD};
-ghost use Rattle.mercury.specs.Answering.{numberFrom, quantityOf, quantityAt, energyOf, goodLength, readOf};
+ghost use Rattle.mercury.specs.Answering.{numberFrom, quantityOf, quantityAt, energyOf, goodLength, readOf, answerNumber, answerCode};
+
+// The numbers of request 9: read; a length that no answer has; the CRC; another meter's address; a status.
+pub const DONE: u8 = 1;
+
+pub const LENGTH: u8 = 50;
+
+pub const CRC: u8 = 51;
+
+pub const ADDRESS: u8 = 52;
+
+pub const CODE: u8 = 53;
 
 // The lengths of a data answer and of a status answer.
 const DATA: usize = 19;
@@ -23,7 +34,7 @@ pub struct Energy {
     pub reactive_out: Quantity,
 }
 
-// What an answer is. The numbers of request 9 are 1 and 53; 50, 51 and 52 for an answer that is not taken.
+// What an answer is: read, a status, or not taken.
 pub enum Answer {
     Data(Energy),
     Status(u8),
@@ -82,14 +93,43 @@ pub fn read(s: &[u8], address: u8) -> Answer
     if !good_length(s.len()) {
         return Answer::WrongLength;
     }
-    if !crc::check(s) {
+    let checked = crc::check(s);
+    let ours = s[0] == address;
+    let code = s[1];
+    if !checked {
         return Answer::WrongCrc;
     }
-    if s[0] != address {
+    if !ours {
         return Answer::OtherAddress;
     }
     if s.len() == STATUS {
-        return Answer::Status(s[1]);
+        return Answer::Status(code);
     }
     Answer::Data(energy_in(s))
+}
+
+// The number of an answer.
+pub fn number_of(a: Answer) -> u8
+    ensures { λ r. ⌜ r ≡ answerNumber a ⌝ }
+{
+    match a {
+        Answer::Data(_) => DONE,
+        Answer::WrongLength => LENGTH,
+        Answer::WrongCrc => CRC,
+        Answer::OtherAddress => ADDRESS,
+        Answer::Status(_) => CODE,
+    }
+}
+
+// The code of a status; 0 where there is none.
+pub fn code_of(a: Answer) -> u8
+    ensures { λ r. ⌜ r ≡ answerCode a ⌝ }
+{
+    match a {
+        Answer::Status(code) => code,
+        Answer::Data(_) => 0,
+        Answer::WrongLength => 0,
+        Answer::WrongCrc => 0,
+        Answer::OtherAddress => 0,
+    }
 }

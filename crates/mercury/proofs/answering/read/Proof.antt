@@ -12,42 +12,47 @@ use Rattle.mercury.proofs.answering.read.Tie as tie
 returns : tie.Need-returns
 returns c = wrong-length _ _ (sym (c .before .good-length .ensures) ∙ not-true _ (c .if1 .taken))
 
-returns-2 : tie.Need-returns-2
-returns-2 c =
+shared-slice-read-ours : tie.Need-shared-slice-read-ours
+shared-slice-read-ours c =
     let at-check = c .before in
-    let sized = sym (at-check .before .before .good-length .ensures) ∙ not-false _ (at-check .before .if1 .left) in
-    wrong-crc _ _ sized (sym (at-check .check .ensures) ∙ not-true _ (c .if2 .taken))
+    omega (arith, at-least-four _ (sym (at-check .before .before .good-length .ensures) ∙ not-false _ (at-check .before .if1 .left)))
 
-shared-slice-read-if3 : tie.Need-shared-slice-read-if3
-shared-slice-read-if3 c =
+shared-slice-read-code : tie.Need-shared-slice-read-code
+shared-slice-read-code c =
     let at-check = c .before .before in
     omega (arith, at-least-four _ (sym (at-check .before .before .good-length .ensures) ∙ not-false _ (at-check .before .if1 .left)))
 
-returns-3 : tie.Need-returns-3
-returns-3 c =
+returns-2 : tie.Need-returns-2
+returns-2 c =
     let at-check = c .before .before .before in
     let sized = sym (at-check .before .before .good-length .ensures) ∙ not-false _ (at-check .before .if1 .left) in
-    other-address _ _ sized (sym (at-check .check .ensures) ∙ not-false _ (c .before .before .if2 .left)) (ne-eqb _ _ (c .if3 .taken))
+    wrong-crc _ _ sized (sym (at-check .check .ensures) ∙ not-true _ (c .if2 .taken))
+
+returns-3 : tie.Need-returns-3
+returns-3 c =
+    let at-check = c .before .before .before .before in
+    let sized = sym (at-check .before .before .good-length .ensures) ∙ not-false _ (at-check .before .if1 .left) in
+    other-address _ _ sized (sym (at-check .check .ensures) ∙ not-false _ (c .before .if2 .left)) (not-true _ (c .if3 .taken))
 
 returns-4 : tie.Need-returns-4
 returns-4 c =
     let at-check = c .before .before .before .before .before in
     let sized = sym (at-check .before .before .good-length .ensures) ∙ not-false _ (at-check .before .if1 .left) in
-    a-status _ _ sized (sym (at-check .check .ensures) ∙ not-false _ (c .before .before .before .before .if2 .left))
-    (eq-eqb _ _ (c .before .before .if3 .left)) (eq-eqb _ _ (c .before .if4 .taken))
+    a-status _ _ sized (sym (at-check .check .ensures) ∙ not-false _ (c .before .before .if2 .left)) (not-false _ (c .before .if3 .left)) (eq-eqb _ _ (c .if4 .taken))
 
 energy-in-requires : tie.Need-energy-in-requires
 energy-in-requires c κs =
-    let at-check = c .before .before .before .before in
-    omega (arith, just-nineteen _ (sym (at-check .before .before .good-length .ensures) ∙ not-false _ (at-check .before .if1 .left)) (ne-eqb _ _ (c .if4 .left)))
+    let at-check = c .before .before .before .before .before in
+    let sized = sym (at-check .before .before .good-length .ensures) ∙ not-false _ (at-check .before .if1 .left) in
+    omega (arith, just-nineteen _ sized (ne-eqb _ _ (c .if4 .left)))
 
 returns-5 : tie.Need-returns-5
 returns-5 c =
-    let at-check = c .before .before .before .before .before in
+    let at-check = c .before .before .before .before .before .before in
     let sized = sym (at-check .before .before .good-length .ensures) ∙ not-false _ (at-check .before .if1 .left) in
     ap Data (c .energy-in .ensures)
-    ∙ some-data _ _ sized (sym (at-check .check .ensures) ∙ not-false _ (c .before .before .before .before .if2 .left))
-    (eq-eqb _ _ (c .before .before .if3 .left)) (ne-eqb _ _ (c .before .if4 .left))
+    ∙ some-data _ _ sized (sym (at-check .check .ensures) ∙ not-false _ (c .before .before .before .if2 .left)) (not-false _ (c .before .before .if3 .left))
+    (ne-eqb _ _ (c .before .if4 .left))
 
 pub read-spec : {M : Type 1} → statement M
 read-spec =
@@ -56,10 +61,10 @@ read-spec =
     (λ c κs. search needs)
     returns
     (λ c κs. search needs)
+    shared-slice-read-ours
+    shared-slice-read-code
     returns-2
-    shared-slice-read-if3
     returns-3
-    (λ c. search needs)
     returns-4
     energy-in-requires
     returns-5)
