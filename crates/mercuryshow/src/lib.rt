@@ -50,10 +50,14 @@ fn put_energy(out: &mut [u8], e: Energy) -> usize
     ensures next { λ r. ⌜ r ≡ length (energyText e) ⌝ }
     ensures held { λ _. ⌜ now (out .exit) ≡ stored (now (out .entry)) 0 (energyText e) ⌝ }
 {
-    let second = put_line(out, 0, b"A+ ", e.active_in);
-    let third = put_line(out, second, b"A- ", e.active_out);
-    let fourth = put_line(out, third, b"R+ ", e.reactive_in);
-    put_line(out, fourth, b"R- ", e.reactive_out)
+    let a = e.active_in;
+    let b = e.active_out;
+    let c = e.reactive_in;
+    let d = e.reactive_out;
+    let second = put_line(out, 0, b"A+ ", a);
+    let third = put_line(out, second, b"A- ", b);
+    let fourth = put_line(out, third, b"R+ ", c);
+    put_line(out, fourth, b"R- ", d)
 }
 
 fn put_answer(out: &mut [u8], a: Answer) -> usize

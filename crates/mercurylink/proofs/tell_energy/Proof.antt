@@ -6,7 +6,7 @@ use Rattle.mercurylink.proofs.tell_energy.Tie as tie
 
 returns : tie.Need-returns
 unfolding toldEnergy
-returns c = 
+returns c =
     rw (c .before .before .before .before .before .before .before .flag .ensures, c .before .before .before .before .before .before .flag2 .ensures, c .before .before .before .before .before .flag3 .ensures, c .before .before .before .before .flag4 .ensures, c .before .before .before .count .ensures, c .before .before .count2 .ensures, c .before .count3 .ensures, c .count4 .ensures)
 
 pub tell-energy-spec : {M : Type 1} → statement M

@@ -1,62 +1,33 @@
+-- `mercuryshow::put_quantity` meets its contract: a number, or a dash. Assumes nothing.
+use native.Mathlib.Omega.{arith}
+use Rattle.numerals.proofs.Widths.{digits-few}
+use Rattle.mercuryshow.specs.Shown.{quantityText}
 use borrow.Author.Needs.{needs}
 use Rattle.mercuryshow.proofs.put_quantity.Statement.{statement}
 use Rattle.mercuryshow.proofs.put_quantity.Tie as tie
-use Rattle.mercuryshow.proofs.put_quantity.Reads as reads
-use Rattle.mercuryshow.proofs.put_quantity.Lts as lts
-use Rattle.numerals.proofs.put.Reads as put-reads
-use Rattle.text.proofs.put.Reads as put-reads′
 
--- src/lib.rt:31:28
-enum-known-q : tie.Need-enum-known-q
-enum-known-q c = search needs
-
--- src/lib.rt:31:57
-cast-put : tie.Need-cast-put
-cast-put c = search needs
-
--- src/lib.rt:31:34
 put-requires : tie.Need-put-requires
-put-requires c κs = ?
+put-requires c κs = omega (arith, digits-few (c .before .before .q .given .0 .0))
 
--- src/lib.rt:32:44
-enum-told : tie.Need-enum-told
-enum-told c = search needs
-
--- src/lib.rt:32:53
-slice-aggregate-put : tie.Need-slice-aggregate-put
-slice-aggregate-put c = search needs
-
--- src/lib.rt:32:34
-put-requires-2 : tie.Need-put-requires-2
-put-requires-2 c κs = search needs
-
--- src/lib.rt:25:1
-same-length : tie.Need-same-length
-same-length c = search needs
-
--- src/lib.rt:25:1
 returns : tie.Need-returns
-returns c = ?
+unfolding quantityText
+returns c = rw (c .before .before .before .before .before .q .given .1) (c .before .before .put .ensures)
 
--- src/lib.rt:25:1
-same-length-2 : tie.Need-same-length-2
-same-length-2 c = search needs
-
--- src/lib.rt:25:1
 returns-2 : tie.Need-returns-2
-returns-2 c = ?
+unfolding quantityText
+returns-2 c = rw (c .before .before .before .before .before .enum-told .given .1) (c .before .before .put2 .ensures)
 
 pub put-quantity-spec : {M : Type 1} → statement M
 put-quantity-spec =
     tie.close
     (tie.spec
-    enum-known-q
-    cast-put
+    (λ c. search needs)
+    (λ c. search needs)
     put-requires
-    enum-told
-    slice-aggregate-put
-    put-requires-2
-    same-length
+    (λ c. search needs)
+    (λ c. search needs)
+    (λ c κs. search needs)
+    (λ c. search needs)
     returns
-    same-length-2
+    (λ c. search needs)
     returns-2)
