@@ -1,3 +1,4 @@
 pub mod Linear
 pub mod Own
-pub mod Table
+pub mod Counting
+pub mod Split

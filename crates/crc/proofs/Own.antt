@@ -13,37 +13,21 @@ use borrow.Author.Tests.{eq-eqb, eqb-true, le-leb, leb-true, ltb-true}
 use Rattle.line.specs.Runs.{every}
 use Rattle.line.proofs.Runs.{and-both, and-left, and-right, left-next}
 use Rattle.line.proofs.Xor.{xor-assoc}
-use Rattle.crc.specs.Crc.{bitOut, out, joined, crcFrom, crcOf, withCrc, checks, isByte}
-use Rattle.crc.proofs.Linear.{out-high, joined-lt}
-
-pub crc-append : (c : ℕ) (s t : List ℕ) → crcFrom c (s ++ t) ≡ crcFrom (crcFrom c s) t
-unfolding crcFrom
-crc-append c [] t = refl
-crc-append c (b ∷ s) t = crc-append (joined c b) s t
-
-crc-from-lt : (c : ℕ) (s : List ℕ) → c < 65536 → every isByte s ≡ true → crcFrom c s < 65536
-unfolding crcFrom every
-crc-from-lt c [] h e = h
-crc-from-lt c (b ∷ s) h e =
-    crc-from-lt (joined c b) s (joined-lt c b h (ltb-true b 256 (and-left (isByte b) (every isByte s) e))) (and-right (isByte b) (every isByte s) e)
-
--- a CRC has sixteen bits
-pub crc-lt : (s : List ℕ) → every isByte s ≡ true → crcOf s < 65536
-unfolding crcOf
-crc-lt s = crc-from-lt 0xFFFF s (lit< tt)
+use Rattle.crc.specs.Crc.{out, joined, crcFrom, POLYNOMIAL, crcOf, withCrc, checks, isByte}
+use Rattle.crc.proofs.Linear.{out-high, crc-append}
 
 -- the two bytes of a register, joined to it one after the other, leave nothing
-own-bytes : (c : ℕ) → joined (joined c (c % 256)) (c / 256) ≡ 0
-unfolding joined out bitOut
-own-bytes c =
+own-bytes : (p c : ℕ) → joined p (joined p c (c % 256)) (c / 256) ≡ 0
+unfolding joined
+own-bytes p c =
     let halves : c ≡ bitXor (c / 256 * 256) (c % 256) = sym (div-add-mod' c 256) ∙ sym (xor-shifted (c / 256) 8 (c % 256) (mod-lt c (zero-lt-suc 255))) in
     let high : bitXor c (c % 256) ≡ c / 256 * 256 = ap (λ (n : ℕ). bitXor n (c % 256)) halves ∙ xor-assoc (c / 256 * 256) (c % 256) (c % 256) ∙ ap (bitXor (c / 256 * 256)) (xor-self (c % 256)) ∙ xor-zero-r (c / 256 * 256) in
-    ap (λ (n : ℕ). joined (out 8 n) (c / 256)) high ∙ ap (λ (n : ℕ). joined n (c / 256)) (out-high 8 (c / 256)) ∙ ap (out 8) (xor-self (c / 256))
+    ap (λ (n : ℕ). joined p (out p 8 n) (c / 256)) high ∙ ap (λ (n : ℕ). joined p n (c / 256)) (out-high p 8 (c / 256)) ∙ ap (out p 8) (xor-self (c / 256)) ∙ out-high p 8 0
 
 -- the CRC over a message and its own CRC is 0
 pub crc-own : (s : List ℕ) → crcOf (withCrc s) ≡ 0
 unfolding crcOf withCrc crcFrom
-crc-own s = crc-append 0xFFFF s (crcOf s % 256 ∷ crcOf s / 256 ∷ []) ∙ own-bytes (crcOf s)
+crc-own s = crc-append POLYNOMIAL 0xFFFF s (crcOf s % 256 ∷ crcOf s / 256 ∷ []) ∙ own-bytes POLYNOMIAL (crcOf s)
 
 -- a message with its CRC checks
 pub own-checks : (s : List ℕ) → checks (withCrc s) ≡ true

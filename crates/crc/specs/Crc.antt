@@ -7,25 +7,29 @@ use lib.Dec.{eqb, leb, ltb}
 use lib.ListN.{length, getD, take}
 
 -- one bit goes out at the low end; where it is a one, the polynomial comes in
-unfoldable pub bitOut : ℕ → ℕ
-bitOut c = bitXor (c / 2) (c % 2 * 0xA001)
+unfoldable pub bitOut : ℕ → ℕ → ℕ
+bitOut p c = bitXor (c / 2) (c % 2 * p)
 
 -- so many bits
-unfoldable pub out : ℕ → ℕ → ℕ
-out zero c = c
-out (suc n) c = out n (bitOut c)
+unfoldable pub out : ℕ → ℕ → ℕ → ℕ
+out p zero c = c
+out p (suc n) c = out p n (bitOut p c)
 
 -- the register after one more byte, which is joined to its low half
-unfoldable pub joined : ℕ → ℕ → ℕ
-joined c b = out 8 (bitXor c b)
+unfoldable pub joined : ℕ → ℕ → ℕ → ℕ
+joined p c b = out p 8 (bitXor c b)
 
-unfoldable pub crcFrom : ℕ → List ℕ → ℕ
-crcFrom c [] = c
-crcFrom c (b ∷ bs) = crcFrom (joined c b) bs
+-- and after all bytes of a message
+unfoldable pub crcFrom : ℕ → ℕ → List ℕ → ℕ
+crcFrom p c [] = c
+crcFrom p c (b ∷ bs) = crcFrom p (joined p c b) bs
 
--- the CRC of a message
+abbrev pub POLYNOMIAL : ℕ
+POLYNOMIAL = 0xA001
+
+-- the CRC of a message: it starts with sixteen ones
 unfoldable pub crcOf : List ℕ → ℕ
-crcOf = crcFrom 0xFFFF
+crcOf = crcFrom POLYNOMIAL 0xFFFF
 
 -- a message with its CRC behind it, low byte first
 unfoldable pub withCrc : List ℕ → List ℕ

@@ -1,281 +1,28 @@
-// The CRC of the Modbus serial line, by a table of what eight bits come to, and the test of a message that ends with it.
+// The CRC of the Modbus serial line, without a table, and the test of a message that ends with it.
 ghost use mathlib.Core.Path.{_≡_};
-ghost use Prim.Native.Nat.{_+_, _*_, _<_};
-ghost use Rattle.crc.specs.Crc.{out, joined, crcOf, checks};
+ghost use Prim.Native.Nat.{_+_, _*_};
+ghost use Rattle.crc.specs.Crc.{joined, crcOf, checks};
+ghost use Rattle.crc.specs.Splitting.{BARE, evened};
 
-// What is left of each byte after eight bits.
-const EIGHT: [u16; 256] = [
-    0x0000,
-    0xC0C1,
-    0xC181,
-    0x0140,
-    0xC301,
-    0x03C0,
-    0x0280,
-    0xC241,
-    0xC601,
-    0x06C0,
-    0x0780,
-    0xC741,
-    0x0500,
-    0xC5C1,
-    0xC481,
-    0x0440,
-    0xCC01,
-    0x0CC0,
-    0x0D80,
-    0xCD41,
-    0x0F00,
-    0xCFC1,
-    0xCE81,
-    0x0E40,
-    0x0A00,
-    0xCAC1,
-    0xCB81,
-    0x0B40,
-    0xC901,
-    0x09C0,
-    0x0880,
-    0xC841,
-    0xD801,
-    0x18C0,
-    0x1980,
-    0xD941,
-    0x1B00,
-    0xDBC1,
-    0xDA81,
-    0x1A40,
-    0x1E00,
-    0xDEC1,
-    0xDF81,
-    0x1F40,
-    0xDD01,
-    0x1DC0,
-    0x1C80,
-    0xDC41,
-    0x1400,
-    0xD4C1,
-    0xD581,
-    0x1540,
-    0xD701,
-    0x17C0,
-    0x1680,
-    0xD641,
-    0xD201,
-    0x12C0,
-    0x1380,
-    0xD341,
-    0x1100,
-    0xD1C1,
-    0xD081,
-    0x1040,
-    0xF001,
-    0x30C0,
-    0x3180,
-    0xF141,
-    0x3300,
-    0xF3C1,
-    0xF281,
-    0x3240,
-    0x3600,
-    0xF6C1,
-    0xF781,
-    0x3740,
-    0xF501,
-    0x35C0,
-    0x3480,
-    0xF441,
-    0x3C00,
-    0xFCC1,
-    0xFD81,
-    0x3D40,
-    0xFF01,
-    0x3FC0,
-    0x3E80,
-    0xFE41,
-    0xFA01,
-    0x3AC0,
-    0x3B80,
-    0xFB41,
-    0x3900,
-    0xF9C1,
-    0xF881,
-    0x3840,
-    0x2800,
-    0xE8C1,
-    0xE981,
-    0x2940,
-    0xEB01,
-    0x2BC0,
-    0x2A80,
-    0xEA41,
-    0xEE01,
-    0x2EC0,
-    0x2F80,
-    0xEF41,
-    0x2D00,
-    0xEDC1,
-    0xEC81,
-    0x2C40,
-    0xE401,
-    0x24C0,
-    0x2580,
-    0xE541,
-    0x2700,
-    0xE7C1,
-    0xE681,
-    0x2640,
-    0x2200,
-    0xE2C1,
-    0xE381,
-    0x2340,
-    0xE101,
-    0x21C0,
-    0x2080,
-    0xE041,
-    0xA001,
-    0x60C0,
-    0x6180,
-    0xA141,
-    0x6300,
-    0xA3C1,
-    0xA281,
-    0x6240,
-    0x6600,
-    0xA6C1,
-    0xA781,
-    0x6740,
-    0xA501,
-    0x65C0,
-    0x6480,
-    0xA441,
-    0x6C00,
-    0xACC1,
-    0xAD81,
-    0x6D40,
-    0xAF01,
-    0x6FC0,
-    0x6E80,
-    0xAE41,
-    0xAA01,
-    0x6AC0,
-    0x6B80,
-    0xAB41,
-    0x6900,
-    0xA9C1,
-    0xA881,
-    0x6840,
-    0x7800,
-    0xB8C1,
-    0xB981,
-    0x7940,
-    0xBB01,
-    0x7BC0,
-    0x7A80,
-    0xBA41,
-    0xBE01,
-    0x7EC0,
-    0x7F80,
-    0xBF41,
-    0x7D00,
-    0xBDC1,
-    0xBC81,
-    0x7C40,
-    0xB401,
-    0x74C0,
-    0x7580,
-    0xB541,
-    0x7700,
-    0xB7C1,
-    0xB681,
-    0x7640,
-    0x7200,
-    0xB2C1,
-    0xB381,
-    0x7340,
-    0xB101,
-    0x71C0,
-    0x7080,
-    0xB041,
-    0x5000,
-    0x90C1,
-    0x9181,
-    0x5140,
-    0x9301,
-    0x53C0,
-    0x5280,
-    0x9241,
-    0x9601,
-    0x56C0,
-    0x5780,
-    0x9741,
-    0x5500,
-    0x95C1,
-    0x9481,
-    0x5440,
-    0x9C01,
-    0x5CC0,
-    0x5D80,
-    0x9D41,
-    0x5F00,
-    0x9FC1,
-    0x9E81,
-    0x5E40,
-    0x5A00,
-    0x9AC1,
-    0x9B81,
-    0x5B40,
-    0x9901,
-    0x59C0,
-    0x5880,
-    0x9841,
-    0x8801,
-    0x48C0,
-    0x4980,
-    0x8941,
-    0x4B00,
-    0x8BC1,
-    0x8A81,
-    0x4A40,
-    0x4E00,
-    0x8EC1,
-    0x8F81,
-    0x4F40,
-    0x8D01,
-    0x4DC0,
-    0x4C80,
-    0x8C41,
-    0x4400,
-    0x84C1,
-    0x8581,
-    0x4540,
-    0x8701,
-    0x47C0,
-    0x4680,
-    0x8641,
-    0x8201,
-    0x42C0,
-    0x4380,
-    0x8341,
-    0x4100,
-    0x81C1,
-    0x8081,
-    0x4040,
-];
-
-fn eight(b: usize) -> u16
-    requires { ⌜ b < 256 ⌝ }
-    ensures { λ r. ⌜ r ≡ out 8 b ⌝ }
-{
-    EIGHT[b]
-}
-
-// The register after one more byte.
+// The polynomial has the factor x + 1, so that one bit of the CRC is a parity. It is left out of the register while the bytes go in, which
+// are summed beside it: a byte then needs no more than shifts, and parity is worked out once, at the end.
 fn join(c: u16, b: u8) -> u16
-    ensures { λ r. ⌜ r ≡ joined c b ⌝ }
+    ensures { λ r. ⌜ r ≡ joined BARE c b ⌝ }
 {
     let low = (c ^ b as u16) % 256;
-    c / 256 ^ eight(low as usize)
+    c / 256 ^ (low ^ low * 2) * 64
+}
+
+// The register with the bit that was left out, by the exclusive-or of all bytes.
+fn even(c: u16, sum: u8) -> u16
+    ensures { λ r. ⌜ r ≡ evened c sum ⌝ }
+{
+    let low = (c % 256) as u8;
+    let high = (c / 256) as u8;
+    if line::damaged(sum ^ low ^ high) {
+        return c ^ 0xC001;
+    }
+    c
 }
 
 // The CRC of a message of any length.
@@ -283,12 +30,15 @@ pub fn crc(s: &[u8]) -> u16
     ensures { λ r. ⌜ r ≡ crcOf (now (s .entry)) ⌝ }
 {
     let mut c: u16 = 0xFFFF;
+    let mut sum: u8 = 0;
     let mut i = 0;
     while i < s.len() {
-        c = join(c, s[i]);
+        let b = s[i];
+        c = join(c, b);
+        sum = sum ^ b;
         i += 1;
     }
-    c
+    even(c, sum)
 }
 
 fn word(low: u8, high: u8) -> u16
