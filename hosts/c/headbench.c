@@ -6,6 +6,7 @@
 
 #include "dirgemist.h"
 #include "dirgemist_head.h"
+#include "dirgemist_mercury.h"
 
 /* No buffer greater than this is lent. A call compares its room with what goes into it and with
  * nothing else, and no line makes more than BYTES_MOST bytes: in a greater room every answer is the
@@ -98,6 +99,7 @@ static size_t *numbers[NUMBERS];
 static uint8_t *shorts[3];
 static uint16_t *year;
 static uint32_t *wh;
+static uint32_t *quantities[4];
 
 static void *own(size_t size) {
     return placed(guarded(size), size, false);
@@ -112,6 +114,9 @@ static void unwrite(void) {
     }
     memset(year, UNWRITTEN, sizeof *year);
     memset(wh, UNWRITTEN, sizeof *wh);
+    for (size_t at = 0; at < COUNT(quantities); at++) {
+        memset(quantities[at], UNWRITTEN, sizeof *quantities[at]);
+    }
 }
 
 #define TELL(...) \
@@ -158,6 +163,7 @@ BUILD(set_clock, dirgemist_head_write_clock((uint16_t)g[1].number, N(2), N(3), N
 BUILD(set_account, dirgemist_head_write_account(T(1), out, room, length))
 BUILD(set_table, dirgemist_head_write_table(N(1), T(2), out, room, length))
 BUILD(sign_off, dirgemist_head_sign_off(out, room, length))
+BUILD(mercury_ask, dirgemist_mercury_ask(N(1), N(2), N(3), N(4), out, room, length))
 
 /* ---- Values read back: after `value NAME` comes the value. */
 
@@ -251,6 +257,24 @@ static void find(const struct given *g) {
     put('\n');
 }
 
+/* A quantity that was not measured is no number. */
+static void mercury_read(const struct given *g) {
+    unwrite();
+    uint8_t *status = shorts[0], *measured = shorts[1];
+    uint8_t answer = dirgemist_mercury_read(N(0), T(1), status, measured, quantities[0],
+                                            quantities[1], quantities[2], quantities[3]);
+    TELL(answer, *status);
+    for (size_t at = 0; at < COUNT(quantities); at++) {
+        put(' ');
+        if (answer == DIRGEMIST_MERCURY_DONE && (*measured >> at & 1) == 0) {
+            put('-');
+        } else {
+            put_number(*quantities[at]);
+        }
+    }
+    put('\n');
+}
+
 static const struct call calls[] = {
     {"build", "any", 1, {ROOM}, any},
     {"build", "serial", 2, {ROOM, TEXT}, serial},
@@ -272,6 +296,8 @@ static const struct call calls[] = {
     {"value", "counter", 1, {TEXT}, value_counter},
     {"value", "date", 1, {TEXT}, value_date},
     {"value", "time", 1, {TEXT}, value_time},
+    {"mercury", "ask", 5, {ROOM, SHORT, SHORT, SHORT, SHORT}, mercury_ask},
+    {"mercury", "read", 2, {SHORT, TEXT}, mercury_read},
     {"check", "", 1, {TEXT}, check},
     {"export", "", 2, {ROOM, TEXT}, export},
     {"strip", "", 2, {ROOM, TEXT}, strip},
@@ -305,6 +331,9 @@ int main(void) {
     }
     year = own(sizeof *year);
     wh = own(sizeof *wh);
+    for (size_t at = 0; at < COUNT(quantities); at++) {
+        quantities[at] = own(sizeof *quantities[at]);
+    }
     play_all(play);
     return 0;
 }

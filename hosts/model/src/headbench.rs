@@ -2,6 +2,7 @@
 
 use crate::bench::{decimal, exactly, hex, put_hex, FILLING, LINE_MOST};
 use crate::head::{self, answer, Clock, Command, Kind};
+use crate::mercury::{self, Read};
 use crate::post;
 use std::io::{self, BufRead, Write};
 
@@ -32,6 +33,27 @@ pub fn answer(line: &[u8]) -> Option<String> {
             let (reply, mut out) = (hex(reply)?, lent(room)?);
             let (number, length) = head::strip(&reply, &mut out);
             Some(written(number, length, length, &out))
+        }
+        [b"mercury", b"ask", room, address, array, month, tariff] => {
+            let mut out = lent(room)?;
+            let fields = [address, array, month, tariff].map(decimal::<u8>);
+            let [Some(address), Some(array), Some(month), Some(tariff)] = fields else {
+                return None;
+            };
+            let (number, length) = mercury::ask(address, array, month, tariff, &mut out);
+            Some(written(number, length, length, &out))
+        }
+        [b"mercury", b"read", address, answer] => {
+            Some(match mercury::read(decimal(address)?, &hex(answer)?) {
+                Read::Energy(quantities) => {
+                    let shown = quantities.map(|quantity| match quantity {
+                        Some(number) => number.to_string(),
+                        None => "-".into(),
+                    });
+                    format!("{} 0 {}", mercury::answer::DONE, shown.join(" "))
+                }
+                Read::Not { number, status } => format!("{number} {status} 0 0 0 0"),
+            })
         }
         [b"part", stripped] => Some(match head::part(&hex(stripped)?) {
             Ok(part) => format!("{} {} {}", answer::DONE, part.start, part.len()),
@@ -215,6 +237,17 @@ mod tests {
             ("value date 32342d30322d3239", "1 2024 2 29"),
             ("value time 32333a35393a3630", "25 0 0 0"),
             ("value serial -", &format!("25 {}", "00".repeat(10))),
+            ("mercury ask 6 128 3 1 0", "1 6 800531002c75"),
+            ("mercury ask 5 128 3 1 0", "55 0 -"),
+            ("mercury ask 0 128 4 1 0", "54 0 -"),
+            ("mercury ask 6 256 0 0 0", "error"),
+            (
+                "mercury read 128 800000700affffffff0000e803000000003f0f",
+                "1 0 2672 - 1000 0",
+            ),
+            ("mercury read 1 01000020", "53 0 0 0 0 0"),
+            ("mercury read 0 01000020", "52 0 0 0 0 0"),
+            ("mercury read 0 -", "50 0 0 0 0 0"),
             ("build any 18446744073709551616", "error"),
             ("build energy 64 256", "error"),
             ("build any 64 ", "error"),

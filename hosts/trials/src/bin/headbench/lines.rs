@@ -2,6 +2,7 @@
 
 use model::bench::{put_hex, LINE_MOST};
 use model::head::{block, on_the_wire};
+use model::mercury::{closed, energy};
 use model::post::{text_of, Table};
 use trials::chance::Chance;
 use trials::head_words::{ACCOUNT, ADDRESS, DIGITS, VALUE, ZONES};
@@ -66,6 +67,16 @@ pub fn fixed() -> Vec<Vec<u8>> {
         "next 18446744073709551615 -",
         "next 18446744073709551616 -",
         "next 0 412829",
+        "mercury ask 6 128 3 1 0",
+        "mercury ask 6 128 3 1",
+        "mercury ask 6 256 3 1 0",
+        "mercury ask 18446744073709551615 0 13 0 4",
+        "mercury read 128 -",
+        "mercury read 256 -",
+        "mercury read 128",
+        "mercury read 128 800000700affffffff0000e803000000003f0f",
+        "mercury tell 128 -",
+        "mercury",
         "find 41 -",
         "find - -",
         "find - 412829",
@@ -94,7 +105,7 @@ pub fn fixed() -> Vec<Vec<u8>> {
 
 /// A line of some kind.
 pub fn any(chance: &mut Chance) -> Vec<u8> {
-    let line = match chance.weighed(&[40, 12, 6, 12, 18, 6, 8, 10]) {
+    let line = match chance.weighed(&[40, 12, 6, 12, 18, 6, 8, 10, 10]) {
         0 => build(chance),
         1 => strip(chance),
         2 => part(chance),
@@ -102,7 +113,8 @@ pub fn any(chance: &mut Chance) -> Vec<u8> {
         4 => value(chance),
         5 => format!("check {}", hex(&post(chance))),
         6 => export(chance),
-        _ => find(chance),
+        7 => find(chance),
+        _ => mercury(chance),
     };
     let mut line = line.into_bytes();
     if chance.percent(12) {
@@ -314,6 +326,38 @@ fn export(chance: &mut Chance) -> String {
     let text = post(chance);
     let needed = text.len() / 36 * 36;
     format!("export {} {}", room(chance, needed), hex(&text))
+}
+
+/// A Mercury meter, asked or answering.
+fn mercury(chance: &mut Chance) -> String {
+    let address = chance.byte();
+    if chance.percent(40) {
+        let room = room(chance, 6);
+        let array = chance.one_of(&[0, 3, 3, 5, 6, 9, 11, 11, 13, 14]);
+        let month = match chance.below(3) {
+            0 => 0,
+            _ => short(chance, 0, 13),
+        };
+        let tariff = short(chance, 0, 5);
+        return format!("mercury ask {room} {address} {array} {month} {tariff}");
+    }
+    let from = match chance.below(8) {
+        0 => chance.byte(),
+        _ => address,
+    };
+    let mut answer = match chance.below(5) {
+        0 => closed(vec![from, chance.byte() & 7]),
+        1 => (0..chance.below(30)).map(|_| chance.byte()).collect(),
+        _ => energy(
+            from,
+            [(); 4].map(|()| (!chance.one_in(4)).then(|| chance.bits() as u32 >> chance.below(32))),
+        ),
+    };
+    if chance.one_in(5) && !answer.is_empty() {
+        let place = chance.below(answer.len());
+        answer[place] ^= 1 << chance.below(8);
+    }
+    format!("mercury read {address} {}", hex(&answer))
 }
 
 /// One thing wrong with a line; now and then it stays a line.

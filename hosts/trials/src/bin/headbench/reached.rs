@@ -24,6 +24,8 @@ const CALLS: &[(&str, &[u8])] = &[
     ("value counter", &[1, 25]),
     ("value date", &[1, 25]),
     ("value time", &[1, 25]),
+    ("mercury ask", &[1, 54, 55]),
+    ("mercury read", &[1, 50, 51, 52, 53]),
     ("check", &[1, 20]),
     ("export", &[1, 20, 21]),
     ("strip", &[1, 24, 26]),
@@ -56,6 +58,7 @@ const MORE: &[&str] = &[
     "place past the end",
     "a filling byte that was written",
     "a register found behind others",
+    "a quantity that was not measured",
 ];
 
 #[derive(Default)]
@@ -110,7 +113,7 @@ impl Reached {
     fn answered(&mut self, words: &[&str], told: &str) {
         let told: Vec<&str> = told.split(' ').collect();
         let (call, rest) = match words[0] {
-            "build" | "value" => (words[..2].join(" "), &words[2..]),
+            "build" | "value" | "mercury" => (words[..2].join(" "), &words[2..]),
             _ => (words[0].to_string(), &words[1..]),
         };
         self.reach(&format!("{call}: {}", told[0]));
@@ -141,6 +144,9 @@ impl Reached {
             ("build table" | "build settable", true) if rest[1] == "24" => self.reach("table 24"),
             ("export", true) if told[1] == "864" => self.reach("24 lines exported"),
             ("find", true) if told[1] != "1" => self.reach("a register found behind others"),
+            ("mercury read", true) if told.contains(&"-") => {
+                self.reach("a quantity that was not measured");
+            }
             ("next", false) => {
                 let at: u64 = rest[0].parse().expect("it was taken");
                 if at > hex_length(rest[1]) as u64 {

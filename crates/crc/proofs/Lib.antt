@@ -1,0 +1,4 @@
+pub mod Linear
+pub mod Own
+pub mod Counting
+pub mod Split
