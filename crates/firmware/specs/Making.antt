@@ -1,4 +1,4 @@
--- A meter made, and a record tested, as C asks for it.
+-- A meter made, a record tested, and its total shown, as C asks for it.
 use mathlib.Core.Bool.{cond}
 use Prim.Native.Nat.{ℕ}
 use Rattle.clock.specs.Seconds.{dateOf, timeOf}
@@ -7,6 +7,7 @@ use Rattle.state.specs.declared.Made.{Made}
 use Rattle.state.specs.declared.Meter.{Meter}
 use Rattle.state.specs.WellFormed.{wellFormed}
 use Rattle.state.specs.Making.{blankMeter}
+use Rattle.firmware.specs.declared.Shown.{Shown}
 
 abbrev pub clockOf : ℕ → ℕ → ℕ → ℕ → ℕ → ℕ → Clock
 clockOf year month day hour minute second = record { date = dateOf year month day; time = timeOf hour minute second }
@@ -17,3 +18,7 @@ badMade = record { number = 15; meter = blankMeter }
 -- a well-formed record, or 14
 unfoldable pub checkedAs : Meter → ℕ
 checkedAs m = cond (wellFormed m) 1 14
+
+-- the total of a well-formed record with 1, or 0 with 14
+unfoldable pub shownAs : Meter → Shown
+shownAs m = cond (wellFormed m) (record { number = 1; total = m .registers .counters .total }) (record { number = 14; total = 0 })

@@ -21,7 +21,7 @@ use Rattle.frames.specs.Frames.{closed, frameOf}
 use Rattle.frames.specs.Commands.{bracketed, setTable}
 use Rattle.frames.specs.Session.{signOn}
 use Rattle.state.specs.declared.Meter.{Meter}
-use Rattle.state.specs.WellFormed.{limit, firstGood, heldGood, markGood, receiverGood, below, zonesGood, tablesGood, factsGood, factoryGood, registersGood, wellFormed}
+use Rattle.state.specs.WellFormed.{limit, firstGood, heldGood, markGood, receiverGood, below, zonesGood, sumOf, total, tablesGood, factsGood, factoryGood, registersGood, wellFormed}
 use Rattle.state.specs.Making.{madeOf}
 use Rattle.state.specs.Setting.{counterOf}
 use Rattle.receiving.specs.Hearing.{hearing, listening, confirming, framing}
@@ -40,7 +40,8 @@ use Rattle.meter.specs.declared.Event.the-variants.{Character, Silence, Tick, P
 use Rattle.meter.specs.Life.{eventOf, met, refusal, happened}
 use Rattle.settling.specs.declared.Heard.{Heard}
 use Rattle.settling.specs.Settling.{heardAs, heardBy, heardOf, settles}
-use Rattle.firmware.specs.Making.{checkedAs}
+use Rattle.firmware.specs.declared.Shown.{Shown}
+use Rattle.firmware.specs.Making.{checkedAs, shownAs}
 use Rattle.firmware.specs.declared.Reply.{Reply}
 use Rattle.mistakes.specs.Samples.{serial, account, password, twos, newMeter, heldIn}
 use Rattle.mistakes.specs.Events.{told, toldAll, toldMet, shortPassword, shortTried, signedOn, restarted, Receiving, Passing, Happening, Settling, Lent}
@@ -56,7 +57,7 @@ kindOf PowerUp = 4
 kindOf Unknown = 5
 
 pub events : Receiving × Passing × Happening × Settling × Lent
-unfolding ones damagedAt seven sent bccOf every stored holding between isDigit isLetter isPrintable matching sameText decimal valueFrom valueOf numberAt layoutText pattern agrees fits leap thirty daysIn realDate realTime realClock goodDigits isAccountCharacter goodAccount goodRow goodTable tableText tableRead closed frameOf bracketed setTable signOn limit firstGood heldGood markGood receiverGood tablesGood factsGood registersGood wellFormed hearing listening confirming framing startGood bareShape content framedShape enclosed inner tableTold toldBy entry bareVerdict framedVerdict shapeVerdict verdict speedOf fallen tried acted signsOnBy symbol lineEnded confirmed heard taken character serial account password twos newMeter heldIn told toldAll toldMet shortPassword shortTried signedOn restarted daysBefore dayNumber weekday nextSecond tableFor zoneIn counted afterSilence silence tick pulse powerUp heardAs heardBy heardOf settles eventOf met refusal happened madeOf checkedAs kindOf below zonesGood factoryGood
+unfolding ones damagedAt seven sent bccOf every stored holding between isDigit isLetter isPrintable matching sameText decimal valueFrom valueOf numberAt layoutText pattern agrees fits leap thirty daysIn realDate realTime realClock goodDigits isAccountCharacter goodAccount goodRow goodTable tableText tableRead closed frameOf bracketed setTable signOn limit firstGood heldGood markGood receiverGood tablesGood factsGood registersGood wellFormed hearing listening confirming framing startGood bareShape content framedShape enclosed inner tableTold toldBy entry bareVerdict framedVerdict shapeVerdict verdict speedOf fallen tried acted signsOnBy symbol lineEnded confirmed heard taken character serial account password twos newMeter heldIn told toldAll toldMet shortPassword shortTried signedOn restarted daysBefore dayNumber weekday nextSecond tableFor zoneIn counted afterSilence silence tick pulse powerUp heardAs heardBy heardOf settles eventOf met refusal happened madeOf checkedAs shownAs kindOf below zonesGood sumOf total factoryGood
 events = (
   record {
     receive = (seen (λ (a : Answer). a .number) refl, seen (λ (a : Answer). getD (a .next .registers .tables) 144 0) refl);
@@ -91,5 +92,6 @@ events = (
     dirgemist-meter-meet-lent = (seen (λ (m : Meter). getD (m .registers .tables) 144 0) refl, byte 0 refl);
     «dirgemist_meter_make» = (number refl, byte 0 refl);
     «dirgemist_meter_check» = (number refl, number refl);
+    «dirgemist_meter_total» = (seen (λ (s : Shown). s .number) refl, seen (λ (s : Shown). s .number) refl);
   },
 )

@@ -71,6 +71,7 @@ setting =
       «with_row» = (byte 144 refl, byte 145 refl);
       «row_start» = (number refl, number refl);
       «with_zones» = (seen (λ (c : Counters). counterOf c 1) refl, seen (λ (c : Counters). counterOf c 2) refl);
+      «with_total» = (seen (λ (c : Counters). c .total) refl, seen (λ (c : Counters). c .total) refl);
       «zone_place» = (number refl, number refl);
       «counter_of» = (number refl, number refl);
     }
@@ -82,4 +83,5 @@ tariff =
       «table_for» = (number refl, number refl);
       «zone_in» = (number refl, number refl);
       count = (seen (λ (c : Counters). counterOf c 2) refl, seen (λ (c : Counters). counterOf c 1) refl);
+      count-total = (seen (λ (c : Counters). c .total) refl, seen (λ (c : Counters). c .total) refl);
     }

@@ -11,14 +11,14 @@ use Rattle.state.specs.declared.Meter.{Meter}
 use Rattle.replies.specs.Fixed.{accepted, refused, identification}
 use Rattle.receiving.specs.Receivers.{restartedReceiver}
 use Rattle.state.specs.Making.{emptyReceiver, noCounters, madeOf}
-use Rattle.state.specs.Setting.{withHeld, withMark, withReceiver, inMode, withAttempts, withRegisters, withClock, withCounters, withZones}
+use Rattle.state.specs.Setting.{withHeld, withMark, withReceiver, inMode, withAttempts, withRegisters, withClock, withCounters, withZones, withTotal}
 use Rattle.meter.specs.Outcomes.{Outcome, answerOf, speedOf, silent, unheard, saying, nak, ack}
 use Rattle.meter.specs.Character.{symbol, character}
 use Rattle.meter.specs.Events.{silence, tick, pulse, powerUp}
 use Rattle.meter.specs.declared.Event.the-variants.{Character, Silence, Tick, Pulse, Unknown}
 use Rattle.meter.specs.Life.{eventOf, met, refusal, happened}
 use Rattle.settling.specs.Settling.{goesOn, refuses, settles}
-use Rattle.firmware.specs.Making.{checkedAs}
+use Rattle.firmware.specs.Making.{checkedAs, shownAs}
 use Rattle.firmware.specs.Replies.{replyOf}
 use Rattle.mistakes.specs.RuledOut.{RuledOut}
 use Rattle.mistakes.specs.Samples.{clockAt, serial, account, password, twos, newMeter, heldIn}
@@ -131,3 +131,6 @@ pub record Lent : Type 0 where
       × RuledOut (madeOf serial account (take 7 password) (clockAt 2000 1 1 12 0 0) .meter .registers .account) account
   -- a malformed state passed; a new one refused
   pub «dirgemist_meter_check» : RuledOut (checkedAs (withAttempts newMeter 4)) 1 × RuledOut (checkedAs newMeter) 14
+  -- the total of a malformed state shown; none shown of a good one
+  pub «dirgemist_meter_total» : RuledOut (shownAs (withRegisters newMeter (withCounters (newMeter .registers) (withTotal noCounters 1)))) (record { number = 1; total = 1 })
+      × RuledOut (shownAs newMeter) (record { number = 14; total = 0 })

@@ -14,7 +14,7 @@ use Rattle.receiving.specs.Hearing.{hearing}
 use Rattle.receiving.specs.Receivers.{lastHeld, keptReceiver, restartedReceiver}
 use Rattle.deciding.specs.declared.Verdict.the-variants.{Password, WriteTable}
 use Rattle.deciding.specs.Verdict.{verdict}
-use Rattle.state.specs.Setting.{withHeld, withMark, withReceiver, inMode, withAttempts, withRegisters, withClock, withAccount, withTables, withCounters, withZones, zonePlace, counterOf, rowStart, withRow}
+use Rattle.state.specs.Setting.{withHeld, withMark, withReceiver, inMode, withAttempts, withRegisters, withClock, withAccount, withTables, withCounters, withZones, withTotal, zonePlace, counterOf, rowStart, withRow}
 use Rattle.tariff.specs.Zones.{tableFor, zoneIn, counted}
 use Rattle.mistakes.specs.RuledOut.{RuledOut}
 use Rattle.mistakes.specs.Samples.{serial, twos, newMeter, used, heldIn}
@@ -49,6 +49,8 @@ pub record Setting : Type 0 where
   -- the old counters; the first of the new ones alone
   pub «with_zones» : RuledOut (withZones noCounters (1 ∷ 2 ∷ 4 ∷ 8 ∷ [])) noCounters
       × RuledOut (withZones noCounters (1 ∷ 2 ∷ 4 ∷ 8 ∷ [])) (withZones noCounters (1 ∷ 0 ∷ 0 ∷ 0 ∷ []))
+  -- the old total; a total in a counter's place
+  pub «with_total» : RuledOut (withTotal noCounters 5) noCounters × RuledOut (withTotal noCounters 5) (withZones noCounters (5 ∷ 0 ∷ 0 ∷ 0 ∷ []))
   -- a place too far on; the first zone's for the last
   pub «zone_place» : RuledOut (zonePlace 1) 1 × RuledOut (zonePlace 4) 0
   -- the counter of the zone before; of the zone behind
@@ -64,3 +66,6 @@ pub record Tariff : Type 0 where
   -- the next zone's counter; 1,000,000,000 Wh and no return to 0
   pub count : RuledOut (counted noCounters 2 5) (withZones noCounters (0 ∷ 0 ∷ 5 ∷ 0 ∷ []))
       × RuledOut (counted (withZones noCounters (999999999 ∷ 0 ∷ 0 ∷ 0 ∷ [])) 1 1) (withZones noCounters (1000000000 ∷ 0 ∷ 0 ∷ 0 ∷ []))
+  -- the total of before the pulse; a total that does not roll over
+  pub count-total : RuledOut (counted noCounters 2 5) (withZones noCounters (0 ∷ 5 ∷ 0 ∷ 0 ∷ []))
+      × RuledOut (counted (withTotal (withZones noCounters (999999999 ∷ 0 ∷ 0 ∷ 0 ∷ [])) 999999999) 1 1) (withTotal noCounters 1000000000)

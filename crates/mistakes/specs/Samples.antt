@@ -10,7 +10,7 @@ use Rattle.clock.specs.Seconds.{dateOf, timeOf}
 use Rattle.state.specs.declared.Registers.{Registers}
 use Rattle.state.specs.declared.Meter.{Meter}
 use Rattle.state.specs.Making.{emptyReceiver, noCounters, factsOf, meterOf}
-use Rattle.state.specs.Setting.{withHeld, withReceiver, withCounters, withTables, withZones, withRow, inMode}
+use Rattle.state.specs.Setting.{withHeld, withReceiver, withCounters, withTables, withZones, withTotal, withRow, inMode}
 
 abbrev pub clockAt : ℕ → ℕ → ℕ → ℕ → ℕ → ℕ → Clock
 clockAt y m d h n s = record { date = dateOf y m d; time = timeOf h n s }
@@ -41,7 +41,7 @@ newMeter = meterOf (factsOf serial password) account noon
 -- 1, 2, 4 and 8 Wh, and table 8 all '2'
 unfoldable pub used : Registers
 unfolding newMeter
-used = withTables (withCounters (newMeter .registers) (withZones noCounters (1 ∷ 2 ∷ 4 ∷ 8 ∷ []))) (withRow (newMeter .registers .tables) 8 twos)
+used = withTables (withCounters (newMeter .registers) (withTotal (withZones noCounters (1 ∷ 2 ∷ 4 ∷ 8 ∷ [])) 15)) (withRow (newMeter .registers .tables) 8 twos)
 
 -- in a mode, holding some characters
 unfoldable pub heldIn : ℕ → List ℕ → Meter

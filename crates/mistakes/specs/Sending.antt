@@ -12,13 +12,13 @@ use Rattle.frames.specs.Frames.{sealed, frameOf, bareFrame, blockOf, onWire}
 use Rattle.frames.specs.Commands.{P0, P1, bracketed}
 use Rattle.state.specs.Sizes.{rowLength, tables, replyRoom}
 use Rattle.state.specs.WellFormed.{limit, wellFormed}
-use Rattle.state.specs.Making.{emptyReceiver, factsOf, meterOf, blankMeter, madeOf}
+use Rattle.state.specs.Making.{emptyReceiver, noCounters, factsOf, meterOf, blankMeter, madeOf}
 use Rattle.datasets.specs.Sets.{dataSet, linesOf, lineOf, timeSet, dateSet, serialSet, accountSet, energySet, tableSet}
 use Rattle.replies.specs.declared.Ask.the-variants.{Energy, Table}
 use Rattle.replies.specs.Answers.{askedData}
 use Rattle.replies.specs.Block.{blockSets, blockData}
 use Rattle.replies.specs.Fixed.{identification, passwordAsk, accepted, refused}
-use Rattle.state.specs.Setting.{withMark, withReceiver, withAttempts, withRegisters, withAccount, withTables}
+use Rattle.state.specs.Setting.{withMark, withReceiver, withAttempts, withRegisters, withAccount, withTables, withCounters, withZones, withTotal}
 use Rattle.mistakes.specs.RuledOut.{RuledOut}
 use Rattle.mistakes.specs.Samples.{noon, serial, account, password, twos, newMeter, used}
 
@@ -38,6 +38,9 @@ pub record States : Type 0 where
   -- the tables not looked at; a mark on an empty receiver
   pub «is_well_formed» : RuledOut (wellFormed (withRegisters newMeter (withTables (newMeter .registers) (replicate (tables * rowLength) 53)))) true
       × RuledOut (wellFormed (withReceiver newMeter (withMark emptyReceiver 1))) true
+  -- a total that is off by one; a sum that is not rolled over
+  pub is-well-formed-total : RuledOut (wellFormed (withRegisters newMeter (withCounters (newMeter .registers) (withTotal noCounters 1)))) true
+      × RuledOut (wellFormed (withRegisters newMeter (withCounters (newMeter .registers) (withTotal (withZones noCounters (999999999 ∷ 1 ∷ 0 ∷ 0 ∷ [])) 1000000000)))) true
   -- one failed attempt at the start; an account of zeros
   pub blank : RuledOut blankMeter (withAttempts blankMeter 1)
       × RuledOut blankMeter (withRegisters blankMeter (withAccount (blankMeter .registers) (replicate 10 48)))

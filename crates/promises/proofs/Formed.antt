@@ -5,7 +5,7 @@ use mathlib.Core.Logic.{_⊎_, inl, inr}
 use mathlib.Core.List.{List, [], _∷_}
 use Prim.Native.Nat.{ℕ, zero, suc, _+_, _-_, _*_, _%_, _<_, _≤_}
 use native.Mathlib.Omega.{arith}
-use borrow.Author.Tests.{le-leb, lt-ltb, ne-eqb, eqb-false}
+use borrow.Author.Tests.{le-leb, lt-ltb, ltb-true, eq-eqb, ne-eqb, eqb-true, eqb-false}
 use lib.Dec.{eqb, leb, ltb}
 use lib.ListN.{length, drop, getD, set, length-set}
 use lib.Seq.{drop-nil, drop-set-lt, getD-set-other}
@@ -26,10 +26,11 @@ use Rattle.state.specs.declared.Receiver.{Receiver}
 use Rattle.state.specs.declared.Counters.{Counters}
 use Rattle.state.specs.declared.Registers.{Registers}
 use Rattle.state.specs.declared.Meter.{Meter}
-use Rattle.state.specs.WellFormed.{limit, firstGood, markGood, heldGood, receiverGood, below, zonesGood, countersGood, tablesGood, registersGood, wellFormed, marked}
+use Rattle.state.specs.WellFormed.{limit, firstGood, markGood, heldGood, receiverGood, below, zonesGood, sumOf, total, countersGood, tablesGood, registersGood, wellFormed, marked}
 use Rattle.state.specs.Making.{emptyReceiver}
-use Rattle.state.proofs.Parts.{Formed, formed, well-formed, FormedRegisters, formed-registers, registers-good, FormedReceiver, formed-receiver, receiver-good}
-use Rattle.state.specs.Setting.{withReceiver, inMode, withAttempts, withRegisters, withClock, withAccount, withTables, withCounters, withRow, rowStart, zonePlace, counterOf}
+use Rattle.state.proofs.Parts.{Formed, formed, well-formed, FormedRegisters, formed-registers, registers-good, FormedReceiver, formed-receiver, receiver-good, total-is-sum}
+use Rattle.state.proofs.Totals.{grows-alike}
+use Rattle.state.specs.Setting.{withReceiver, inMode, withAttempts, withRegisters, withClock, withAccount, withTables, withCounters, withZones, withTotal, withRow, rowStart, zonePlace, counterOf}
 use Rattle.tariff.specs.Zones.{zoneIn, grown, counted}
 use Rattle.receiving.specs.declared.Hearing.{Hearing}
 use Rattle.receiving.specs.declared.Hearing.the-variants.{Drop, Hold, Restart, Empty, Line, Confirm, Frame, TooLong}
@@ -173,16 +174,31 @@ counters-good : (g : Registers) (c : Counters) → FormedRegisters g → counter
 counters-good g c f k =
     registers-good (withCounters g c) (record { facts = f .facts; account = f .account; clock = f .clock; counters = k; tables = f .tables })
 
--- a pulse leaves every counter below 1,000,000,000
-counted-good : (c : Counters) (zone wh : ℕ) → countersGood c ≡ true → countersGood (counted c zone wh) ≡ true
-unfolding zonesGood counted
-counted-good c zone wh h =
-    let all = and-right (eqb (length (c .zones)) 4) (every (below counterEnd) (c .zones)) h in
-    rw (length-set (c .zones) (zonePlace zone) (grown (counterOf c zone) wh), and-left (eqb (length (c .zones)) 4) (every (below counterEnd) (c .zones)) h)
-    (every-set (below counterEnd) (c .zones) (zonePlace zone) (grown (counterOf c zone) wh) all (small (counterOf c zone)))
+-- a pulse leaves every counter below 1,000,000,000, and the total their sum
+grown-good : (c : Counters) (zone wh : ℕ) → countersGood c ≡ true → zonePlace zone < 4
+    → countersGood (withTotal (withZones c (set (c .zones) (zonePlace zone) (grown (counterOf c zone) wh))) (grown (c .total) wh)) ≡ true
+unfolding zonesGood total
+grown-good c zone wh h few =
+    let i = zonePlace zone in
+    let next = set (c .zones) i (grown (counterOf c zone) wh) in
+    let zones = and-left (zonesGood (c .zones)) (eqb (c .total) (total c)) h in
+    let four = and-left (eqb (length (c .zones)) 4) (every (below counterEnd) (c .zones)) zones in
+    let all = and-right (eqb (length (c .zones)) 4) (every (below counterEnd) (c .zones)) zones in
+    let there : i < length (c .zones) = omega (arith, few, eqb-true (length (c .zones)) 4 four) in
+    let kept : grown (c .total) wh ≡ sumOf next % counterEnd = rw (total-is-sum c h) (sym (grows-alike (c .zones) i wh there)) in
+    let good = every-set (below counterEnd) (c .zones) i (grown (counterOf c zone) wh) all (small (counterOf c zone)) in
+    and-both (zonesGood next) (eqb (grown (c .total) wh) (sumOf next % counterEnd))
+    (rw (length-set (c .zones) i (grown (counterOf c zone) wh), four) good)
+    (eq-eqb (grown (c .total) wh) (sumOf next % counterEnd) kept)
   where
     small : (n : ℕ) → below counterEnd (grown n wh) ≡ true
     small n = unfold below in (lt-ltb (grown n wh) counterEnd (omega arith))
+
+counted-good : (c : Counters) (zone wh : ℕ) → countersGood c ≡ true → countersGood (counted c zone wh) ≡ true
+unfolding counted
+counted-good c zone wh h =
+    choice.told (λ (k : Counters). countersGood k ≡ true) (ltb (zonePlace zone) 4)
+    (λ e. grown-good c zone wh h (ltb-true (zonePlace zone) 4 e)) (λ e. h)
 
 -- ---- a character
 

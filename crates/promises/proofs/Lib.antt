@@ -7,3 +7,4 @@ pub mod Malformed
 pub mod Formed
 pub mod Beginning
 pub mod Life
+pub mod Adding

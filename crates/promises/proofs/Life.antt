@@ -17,7 +17,7 @@ use Rattle.promises.proofs.Malformed.{character-never-14, silence-never
 use Rattle.promises.proofs.Formed.{character-stays, silence-stays, tick-stays, pulse-stays, power-up-stays}
 use Rattle.promises.proofs.Beginning.{made-well-formed}
 
-met-stays : (m : Meter) (room : ℕ) (e : Event) → wellFormed m ≡ true → wellFormed (met m room e .next) ≡ true
+pub met-stays : (m : Meter) (room : ℕ) (e : Event) → wellFormed m ≡ true → wellFormed (met m room e .next) ≡ true
 unfolding met
 met-stays m room (Character b) h = character-stays m h room b
 met-stays m room Silence h = silence-stays m h room

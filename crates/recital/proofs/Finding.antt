@@ -11,17 +11,17 @@ use Rattle.values.specs.Registers.{goodTable}
 use Rattle.values.specs.Texts.{tableText}
 use Rattle.state.specs.declared.Registers.{Registers}
 use Rattle.state.specs.declared.Meter.{Meter}
-use Rattle.state.specs.WellFormed.{registersGood, wellFormed}
+use Rattle.state.specs.WellFormed.{total, registersGood, wellFormed}
 use Rattle.values.specs.declared.Energy.the-variants.{Total}
 use Rattle.values.specs.Registers.{energyNo}
 use Rattle.state.proofs.Parts.{formed}
-use Rattle.replies.specs.Shown.{total, rowOf}
+use Rattle.replies.specs.Shown.{rowOf}
 use Rattle.replies.specs.Shown as shown
 use Rattle.replies.specs.Block.{factSets, energySets, tableSets, blockSets, blockData}
 use Rattle.reading.specs.Whole.{Found, readAll}
 use Rattle.finding.specs.Finding.{among, position, firstWith}
 use Rattle.finding.proofs.Promised.{count-is, finds-first}
-use Rattle.recital.specs.Recital.{Register, energy, row, ReadsAs}
+use Rattle.recital.specs.Recital.{Register, energy, row, ReadsAs, counts}
 use Rattle.recital.specs.Finding.{FoundAs, totalAddress, lastRowAddress, FoundInBlock}
 use Rattle.recital.proofs.Recital.{block-read}
 use Rattle.recital.proofs.Registers.{own-energy-reads, row-reads}
@@ -38,7 +38,7 @@ module _ (g : Registers) (good : registersGood g ≡ true) where
   total-there = (refl, refl)
 
   total-reads : ReadsAs (energy 0 (total (g .counters))) (firstWith totalAddress (blockSets 24 g))
-  unfolding firstWith totalAddress sameText matching decimal blockSets factSets energySets shown.energy energyNo
+  unfolding firstWith totalAddress sameText matching decimal blockSets factSets energySets shown.energy counts energyNo
   total-reads = own-energy-reads g good Total
 
   last-there : (among lastRowAddress (blockSets 24 g) ≡ true) × (position lastRowAddress (blockSets 24 g) ≡ 33)

@@ -12,11 +12,10 @@ use Rattle.replies.specs.declared.Ask.{Ask}
 use Rattle.replies.specs.declared.Ask.the-variants as ask
 use Rattle.replies.specs.Answers.{askedData}
 use Rattle.replies.specs.Block.{blockData}
-use Rattle.replies.specs.Shown as shown
 use Rattle.commands.specs.Messages.{Message}
 use Rattle.dialogue.specs.Messages.{obeyed, outcomeOf}
 use Rattle.promises.specs.Writes.{answerable}
-use Rattle.recital.specs.Recital.{answerSays}
+use Rattle.recital.specs.Recital.{counts, answerSays}
 use Rattle.recital.specs.Learnt.{Learns, Answers}
 use Rattle.recital.proofs.Recital.{block-reads-back, answer-block-reads-back}
 
@@ -25,7 +24,7 @@ module _ (m : Meter) (f : wellFormed m ≡ true) where
   learns x a h e = record { content = askedData (m .registers) a; reply = e; reads = answer-block-reads-back m f a h }
 
   pub answers-learnt : Answers m
-  unfolding outcomeOf obeyed answerSays answerable shown.energy energyNo
+  unfolding outcomeOf obeyed answerSays answerable counts energyNo
   answers-learnt =
       record {
         block = λ y h e. record { content = blockData editionTables (m .registers); reply = rw e; reads = block-reads-back m f };

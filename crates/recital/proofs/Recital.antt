@@ -37,7 +37,7 @@ use Rattle.deciding.specs.Verdict.{verdict}
 use Rattle.meter.specs.Acting.{acted}
 use Rattle.promises.specs.Writes.{answerable}
 use Rattle.promises.proofs.Verdicts.{read-answerable}
-use Rattle.recital.specs.Recital.{Register, row, Recites, tableNumbers, rows, blockSays, answerSays, ReadsBack}
+use Rattle.recital.specs.Recital.{Register, row, Recites, tableNumbers, rows, blockSays, answerSays, ReadsBack, counts}
 use Rattle.recital.proofs.Registers.{and-then, and-none, own-energy-reads, serial-reads, account-reads, date-reads, time-reads, row-reads}
 
 -- what a meter shows may stand in a block
@@ -84,7 +84,7 @@ numbers-good tables (suc n) h =
     (unfold goodTable between in (rw (le-leb 1 (suc n) (omega arith), le-leb (suc n) tables h)))
 
 block-recites : (g : Registers) → registersGood g ≡ true → Recites (blockSets editionTables g) (blockSays g)
-unfolding blockSets factSets energySets blockSays shown.energy energyNo
+unfolding blockSets factSets energySets blockSays shown.energy counts energyNo
 block-recites g good =
     let all = rw (← tables-are (g .tables) editionTables) at (rows-read g good (tableNumbers editionTables) (numbers-good editionTables editionTables (lit≤ tt))) in
     and-then _ _ _ _ (serial-reads g good)

@@ -1,5 +1,5 @@
 -- Each data set of well-formed registers reads as its register. Assumes nothing.
-use mathlib.Core.Path.{_≡_, refl}
+use mathlib.Core.Path.{_≡_, refl, subst}
 use mathlib.Core.Bool.{true, _&&_}
 use mathlib.Core.List.{List, [], _∷_}
 use Prim.Native.Nat.{ℕ, zero, suc, _-_, _*_, _≤_, _<_}
@@ -18,16 +18,15 @@ use Rattle.values.specs.Registers.{goodRow, goodTable, energyNo}
 use Rattle.values.proofs.RoundTrip.{date-reads-back, time-reads-back, counter-reads-back}
 use Rattle.values.proofs.Serials.{serial-reads-back, account-reads-back, row-reads-back}
 use Rattle.state.specs.Sizes.{tables, rowLength, counterEnd}
-use Rattle.state.specs.declared.Counters.{Counters}
 use Rattle.state.specs.declared.Registers.{Registers}
-use Rattle.state.specs.WellFormed.{countersGood, tablesGood, registersGood}
-use Rattle.state.specs.Setting.{rowStart}
-use Rattle.state.proofs.Parts.{formed-registers, formed-facts, counter-small}
+use Rattle.state.specs.WellFormed.{tablesGood, registersGood}
+use Rattle.state.specs.Setting.{rowStart, counterOf}
+use Rattle.state.proofs.Parts.{formed-registers, formed-facts, counter-small, total-is-sum, total-small}
 use Rattle.datasets.specs.Sets.{DataSet, timeSet, dateSet, serialSet, accountSet, energySet, tableSet}
-use Rattle.replies.specs.Shown.{total, rowOf}
+use Rattle.replies.specs.Shown.{rowOf}
 use Rattle.replies.specs.Shown as shown
 use Rattle.replies.proofs.Sizes.{row-long}
-use Rattle.recital.specs.Recital.{Register, serial, date, time, account, energy, row, ReadsAs, Recites}
+use Rattle.recital.specs.Recital.{Register, serial, date, time, account, energy, row, ReadsAs, Recites, counts}
 
 -- one data set more
 pub and-then : (x : Register) (d : DataSet) (xs : List Register) (ds : List DataSet) → ReadsAs x d → Recites ds xs → Recites (d ∷ ds) (x ∷ xs)
@@ -37,16 +36,6 @@ and-then x d xs ds h hs = (h, hs)
 pub and-none : Recites [] []
 unfolding Recites
 and-none = tt
-
--- every counter lies below 1,000,000,000, and so does the total
-total-small : (c : Counters) → total c < counterEnd
-unfolding total
-total-small c = omega arith
-
-pub energy-small : (c : Counters) → countersGood c ≡ true → (e : Energy) → shown.energy c e < counterEnd
-unfolding shown.energy
-energy-small c h Total = total-small c
-energy-small c h (Zone z) = counter-small c h (z .0)
 
 pub energy-reads : (n wh : ℕ) → wh < counterEnd → ReadsAs (energy n wh) (energySet n wh)
 unfolding ReadsAs
@@ -74,8 +63,17 @@ module _ (g : Registers) (good : registersGood g ≡ true) where
       let t = g .clock .time in
       (refl, time-reads-back t (and-right (realDate (d .year) (d .month) (d .day)) (realTime (t .hour) (t .minute) (t .second)) (formed-registers g good .clock)))
 
-  pub own-energy-reads : (e : Energy) → ReadsAs (energy (energyNo e) (shown.energy (g .counters) e)) (energySet (energyNo e) (shown.energy (g .counters) e))
-  own-energy-reads e = energy-reads (energyNo e) (shown.energy (g .counters) e) (energy-small (g .counters) (formed-registers g good .counters) e)
+  -- the total that is shown is the one that is kept, and that is the sum
+  pub own-energy-reads : (e : Energy) → ReadsAs (energy (energyNo e) (counts (g .counters) e)) (energySet (energyNo e) (shown.energy (g .counters) e))
+  unfolding counts shown.energy
+  own-energy-reads Total =
+      let c = g .counters in
+      let h = formed-registers g good .counters in
+      subst (λ (wh : ℕ). ReadsAs (energy (energyNo Total) wh) (energySet (energyNo Total) (c .total))) (total-is-sum c h)
+      (energy-reads (energyNo Total) (c .total) (total-small c h))
+  own-energy-reads (Zone z) =
+      let wh = counterOf (g .counters) (z .0) in
+      energy-reads (energyNo (Zone z)) wh (counter-small (g .counters) (formed-registers g good .counters) (z .0))
 
   -- the row of a table that is there
   pub row-good : (n : ℕ) → goodTable tables n ≡ true → goodRow (rowOf (g .tables) n) ≡ true

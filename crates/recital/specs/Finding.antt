@@ -3,7 +3,8 @@ use mathlib.Core.Path.{_≡_}
 use mathlib.Core.List.{List, [], _∷_}
 use Prim.Native.Nat.{ℕ}
 use Rattle.state.specs.declared.Registers.{Registers}
-use Rattle.replies.specs.Shown.{total, rowOf}
+use Rattle.state.specs.WellFormed.{total}
+use Rattle.replies.specs.Shown.{rowOf}
 use Rattle.replies.specs.Block.{blockData}
 use Rattle.finding.specs.Finding.{lookup, pointedAt}
 use Rattle.recital.specs.Recital.{Register, energy, row, ReadsAs}

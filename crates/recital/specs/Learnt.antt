@@ -11,7 +11,8 @@ use Rattle.frames.specs.Frames.{blockOf}
 use Rattle.state.specs.Sizes.{tables}
 use Rattle.state.specs.declared.Meter.{Meter}
 use Rattle.state.specs.Setting.{counterOf}
-use Rattle.replies.specs.Shown.{total, rowOf}
+use Rattle.state.specs.WellFormed.{total}
+use Rattle.replies.specs.Shown.{rowOf}
 use Rattle.commands.specs.Building.{goodChoice}
 use Rattle.commands.specs.Spoken.{readClock, readSerial, readAccount, readTotal, readZone, readTable}
 use Rattle.commands.specs.Messages.{Message, confirm, command}

@@ -10,18 +10,21 @@ use Rattle.text.specs.Writing.{holding}
 use Rattle.clock.specs.declared.Date.{Date}
 use Rattle.clock.specs.declared.Time.{Time}
 use Rattle.values.specs.Edition.{editionTables, counterDigits, counterDecimals}
+use Rattle.values.specs.declared.Energy.{Energy}
+use Rattle.values.specs.declared.Energy.the-variants.{Total, Zone}
 use Rattle.values.specs.Registers.{energyNo}
 use Rattle.values.specs.Texts.{tableText}
 use Rattle.values.specs.Reading.{dateRead, timeRead, counterRead}
 use Rattle.values.specs.Serials.{serialRead, accountRead, rowRead}
 use Rattle.frames.specs.Frames.{blockOf, onWire}
+use Rattle.state.specs.declared.Counters.{Counters}
 use Rattle.state.specs.declared.Registers.{Registers}
+use Rattle.state.specs.WellFormed.{total}
 use Rattle.state.specs.Setting.{counterOf}
 use Rattle.datasets.specs.Sets.{DataSet}
 use Rattle.replies.specs.declared.Ask.{Ask}
 use Rattle.replies.specs.declared.Ask.the-variants as ask
-use Rattle.replies.specs.Shown.{total, rowOf}
-use Rattle.replies.specs.Shown as shown
+use Rattle.replies.specs.Shown.{rowOf}
 use Rattle.blocks.specs.Stripping.{strippedOf, strippedInto}
 use Rattle.blocks.specs.Parts.{partOf}
 use Rattle.reading.specs.Whole.{readAll}
@@ -67,12 +70,17 @@ blockSays g =
     ∷ energy 3 (counterOf (g .counters) 3) ∷ energy 4 (counterOf (g .counters) 4)
     ∷ energy 0 (total (g .counters)) ∷ rows (g .tables) (tableNumbers editionTables)
 
+-- the sum of the four counters, or one of them; a total that a meter keeps is no register of its own
+unfoldable pub counts : Counters → Energy → ℕ
+counts c Total = total c
+counts c (Zone z) = counterOf c (z .0)
+
 -- the answers to R1
 unfoldable pub answerSays : Registers → Ask → List Register
 answerSays g ask.Clock = time (g .clock .time) ∷ date (g .clock .date) ∷ []
 answerSays g ask.Serial = serial (g .facts .serial) ∷ []
 answerSays g ask.Account = account (g .account) ∷ []
-answerSays g (ask.Energy e) = energy (energyNo e) (shown.energy (g .counters) e) ∷ []
+answerSays g (ask.Energy e) = energy (energyNo e) (counts (g .counters) e) ∷ []
 answerSays g (ask.Table t) = row (t .0) (rowOf (g .tables) (t .0)) ∷ []
 
 -- a block with this content, as a meter sends it: it strips, its part is the content, and that reads to its end as these registers

@@ -31,7 +31,7 @@ use Rattle.datasets.proofs.Characters.{Within, within}
 use Rattle.datasets.proofs.Good.{time-good, date-good, serial-good, account-good, energy-good, table-good, good-append, lines-shown}
 use Rattle.replies.specs.declared.Ask.{Ask}
 use Rattle.replies.specs.declared.Ask.the-variants as ask
-use Rattle.replies.specs.Shown.{Lengths, rowOf, total, energy}
+use Rattle.replies.specs.Shown.{Lengths, rowOf, energy}
 use Rattle.replies.specs.Answers.{askedSets, askedData}
 use Rattle.replies.specs.Block.{factSets, energySets, tableSets, blockSets, blockData}
 use Rattle.replies.specs.Fixed.{identification, passwordAsk, accepted, refused}
@@ -114,7 +114,7 @@ energies-good g =
       energy-good 2 (counterOf c 2),
       energy-good 3 (counterOf c 3),
       energy-good 4 (counterOf c 4),
-      energy-good 0 (total c),
+      energy-good 0 (c .total),
     )
 
 pub block-good : (tables : ℕ) (g : Registers) → registersGood g ≡ true → goodSets (blockSets tables g) ≡ true

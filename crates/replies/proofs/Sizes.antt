@@ -24,7 +24,7 @@ use Rattle.datasets.specs.Sets.{DataSet, linesOf, lineOf, tableSet, timeSet, da
 use Rattle.datasets.proofs.Lengths.{lines-append, lines-cons, time-line, date-line, serial-line, account-line, energy-line, table-line}
 use Rattle.replies.specs.declared.Ask.{Ask}
 use Rattle.replies.specs.declared.Ask.the-variants as ask
-use Rattle.replies.specs.Shown.{Lengths, rowOf, total, energy}
+use Rattle.replies.specs.Shown.{Lengths, rowOf, energy}
 use Rattle.replies.specs.Answers.{askedSets, askedData}
 use Rattle.replies.specs.Block.{factSets, energySets, tableSets, blockSets, blockData}
 
@@ -61,16 +61,16 @@ pub energies-long : (c : Counters) → length (linesOf (energySets c)) ≡ 120
 unfolding energySets linesOf
 energies-long c =
     rw (
-      lines-cons (energySet 1 (counterOf c 1)) (energySet 2 (counterOf c 2) ∷ energySet 3 (counterOf c 3) ∷ energySet 4 (counterOf c 4) ∷ energySet 0 (total c) ∷ []),
-      lines-cons (energySet 2 (counterOf c 2)) (energySet 3 (counterOf c 3) ∷ energySet 4 (counterOf c 4) ∷ energySet 0 (total c) ∷ []),
-      lines-cons (energySet 3 (counterOf c 3)) (energySet 4 (counterOf c 4) ∷ energySet 0 (total c) ∷ []),
-      lines-cons (energySet 4 (counterOf c 4)) (energySet 0 (total c) ∷ []),
-      lines-cons (energySet 0 (total c)) [],
+      lines-cons (energySet 1 (counterOf c 1)) (energySet 2 (counterOf c 2) ∷ energySet 3 (counterOf c 3) ∷ energySet 4 (counterOf c 4) ∷ energySet 0 (c .total) ∷ []),
+      lines-cons (energySet 2 (counterOf c 2)) (energySet 3 (counterOf c 3) ∷ energySet 4 (counterOf c 4) ∷ energySet 0 (c .total) ∷ []),
+      lines-cons (energySet 3 (counterOf c 3)) (energySet 4 (counterOf c 4) ∷ energySet 0 (c .total) ∷ []),
+      lines-cons (energySet 4 (counterOf c 4)) (energySet 0 (c .total) ∷ []),
+      lines-cons (energySet 0 (c .total)) [],
       energy-line 1 (counterOf c 1),
       energy-line 2 (counterOf c 2),
       energy-line 3 (counterOf c 3),
       energy-line 4 (counterOf c 4),
-      energy-line 0 (total c),
+      energy-line 0 (c .total),
     )
 
 pub tables-long : (rows : List ℕ) (n : ℕ) → n * rowLength ≤ length rows → length (linesOf (tableSets rows n)) ≡ n * 36

@@ -7,7 +7,7 @@ use Rattle.state.specs.declared.Counters.{Counters}
 use Rattle.state.specs.declared.Registers.{Registers}
 use Rattle.state.specs.Setting.{counterOf}
 use Rattle.datasets.specs.Sets.{DataSet, linesOf, timeSet, dateSet, serialSet, accountSet, energySet, tableSet}
-use Rattle.replies.specs.Shown.{total, rowOf}
+use Rattle.replies.specs.Shown.{rowOf}
 
 -- serial, date, time, account
 unfoldable pub factSets : List ℕ → Clock → List ℕ → List DataSet
@@ -17,7 +17,7 @@ factSets serial clock account = serialSet serial ∷ dateSet (clock .date) ∷ t
 unfoldable pub energySets : Counters → List DataSet
 energySets c =
     energySet 1 (counterOf c 1) ∷ energySet 2 (counterOf c 2) ∷ energySet 3 (counterOf c 3) ∷ energySet 4 (counterOf c 4)
-    ∷ energySet 0 (total c) ∷ []
+    ∷ energySet 0 (c .total) ∷ []
 
 -- tables 01 to n
 unfoldable pub tableSets : List ℕ → ℕ → List DataSet

@@ -1,26 +1,18 @@
 -- What the registers show: the energies, and the row of a table. And how long the registers are.
 use mathlib.Core.Path.{_≡_}
-use mathlib.Core.List.{List, [], _∷_}
-use Prim.Native.Nat.{ℕ, _+_, _*_, _%_}
+use mathlib.Core.List.{List}
+use Prim.Native.Nat.{ℕ, _*_}
 use lib.ListN.{length, take, drop}
 use Rattle.values.specs.declared.Energy.{Energy}
 use Rattle.values.specs.declared.Energy.the-variants.{Total, Zone}
-use Rattle.state.specs.Sizes.{rowLength, counterEnd}
+use Rattle.state.specs.Sizes.{rowLength}
 use Rattle.state.specs.Setting.{counterOf, rowStart}
 use Rattle.state.specs.declared.Counters.{Counters}
 use Rattle.state.specs.declared.Registers.{Registers}
 
-unfoldable pub sumOf : List ℕ → ℕ
-sumOf [] = 0
-sumOf (wh ∷ rest) = wh + sumOf rest
-
--- the sum of the zones modulo 1,000,000,000
-unfoldable pub total : Counters → ℕ
-total c = sumOf (c .zones) % counterEnd
-
--- the total, or a zone's counter
+-- the total as it is kept, or a zone's counter
 unfoldable pub energy : Counters → Energy → ℕ
-energy c Total = total c
+energy c Total = c .total
 energy c (Zone z) = counterOf c (z .0)
 
 -- the characters of a table

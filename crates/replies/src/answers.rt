@@ -1,12 +1,12 @@
 // The data sets that R1 asks for.
 ghost use mathlib.Core.Path.{_≡_};
 ghost use mathlib.Core.List.{[], _∷_};
-ghost use Prim.Native.Nat.{_+_, _≤_, _<_};
+ghost use Prim.Native.Nat.{_+_, _≤_};
 ghost use lib.ListN.{length};
 ghost use Rattle.state.specs.Sizes.{tables};
 ghost use Rattle.text.specs.Writing.{stored};
 ghost use Rattle.datasets.specs.Sets.{lineOf, linesOf, timeSet, dateSet, tableSet};
-ghost use Rattle.replies.specs.Shown.{Lengths, total, energy, rowOf};
+ghost use Rattle.replies.specs.Shown.{Lengths, energy, rowOf};
 ghost use Rattle.replies.specs.Answers.{askedData};
 use crate::Ask;
 use clock::Clock;
@@ -17,28 +17,12 @@ use values::Energy;
 use values::ROW_LENGTH;
 use values::TableNo;
 
-fn wide(wh: u32) -> u64
-    ensures { λ r. ⌜ r ≡ wh ⌝ }
-    ensures small { λ r. ⌜ r < 4294967296 ⌝ }
-{
-    wh as u64
-}
-
-// The sum of the counters modulo 1,000,000,000.
-pub fn total_of(c: Counters) -> u32
-    ensures { λ r. ⌜ r ≡ total c ⌝ }
-{
-    let z = c.zones;
-    let sum = wide(z[0]) + wide(z[1]) + wide(z[2]) + wide(z[3]);
-    (sum % state::COUNTER_END as u64) as u32
-}
-
 // The total, or the counter of a zone.
 fn energy_of(c: Counters, e: Energy) -> u32
     ensures { λ r. ⌜ r ≡ energy c e ⌝ }
 {
     match e {
-        Energy::Total => total_of(c),
+        Energy::Total => c.total,
         Energy::Zone(z) => state::setting::counter_of(c, z),
     }
 }

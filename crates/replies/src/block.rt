@@ -7,7 +7,6 @@ ghost use Rattle.state.specs.Sizes.{tables, rowLength};
 ghost use Rattle.datasets.specs.Sets.{linesOf};
 ghost use Rattle.replies.specs.Shown.{Lengths};
 ghost use Rattle.replies.specs.Block.{factSets, energySets, tableSets, blockData};
-use crate::answers::total_of;
 use clock::Clock;
 use state::Counters;
 use state::Registers;
@@ -40,7 +39,7 @@ fn put_energies(buf: &mut [u8], at: usize, c: Counters) -> usize
     let q = datasets::put_energy_set(buf, p, Energy::Zone(ZoneNo(2)), zones[1]);
     let r = datasets::put_energy_set(buf, q, Energy::Zone(ZoneNo(3)), zones[2]);
     let s = datasets::put_energy_set(buf, r, Energy::Zone(ZoneNo(4)), zones[3]);
-    datasets::put_energy_set(buf, s, Energy::Total, total_of(c))
+    datasets::put_energy_set(buf, s, Energy::Total, c.total)
 }
 
 // Tables 01 to 24.

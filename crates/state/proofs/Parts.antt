@@ -19,7 +19,7 @@ use Rattle.state.specs.declared.Counters.{Counters}
 use Rattle.state.specs.declared.Registers.{Registers}
 use Rattle.state.specs.declared.Meter.{Meter}
 use Rattle.state.specs.Sizes.{heldPlaces, rowLength, tables, counterEnd}
-use Rattle.state.specs.WellFormed.{limit, firstGood, markGood, heldGood, receiverGood, below, zonesGood, countersGood, tablesGood, factsGood, factoryGood, registersGood, wellFormed}
+use Rattle.state.specs.WellFormed.{limit, firstGood, markGood, heldGood, receiverGood, below, zonesGood, total, countersGood, tablesGood, factsGood, factoryGood, registersGood, wellFormed}
 use Rattle.state.specs.Setting.{zonePlace, counterOf}
 
 -- what is asked only after two tests have passed, and what has failed before it
@@ -155,4 +155,14 @@ zones-small (wh ∷ zones) h (suc i) = zones-small zones (and-right (ltb wh coun
 
 pub counter-small : (c : Counters) → countersGood c ≡ true → (n : ℕ) → counterOf c n < counterEnd
 unfolding zonesGood
-counter-small c h n = zones-small (c .zones) (and-right (eqb (length (c .zones)) 4) (every (below counterEnd) (c .zones)) h) (zonePlace n)
+counter-small c h n =
+    let zones = and-left (zonesGood (c .zones)) (eqb (c .total) (total c)) h in
+    zones-small (c .zones) (and-right (eqb (length (c .zones)) 4) (every (below counterEnd) (c .zones)) zones) (zonePlace n)
+
+-- the total that is kept is the sum of the four modulo 1,000,000,000, and so below it
+pub total-is-sum : (c : Counters) → countersGood c ≡ true → c .total ≡ total c
+total-is-sum c h = eqb-true (c .total) (total c) (and-right (zonesGood (c .zones)) (eqb (c .total) (total c)) h)
+
+pub total-small : (c : Counters) → countersGood c ≡ true → c .total < counterEnd
+unfolding total
+total-small c h = rw (total-is-sum c h) (omega arith)

@@ -18,7 +18,7 @@ abbrev pub emptyReceiver : Receiver
 emptyReceiver = record { held = replicate heldPlaces 0; count = 0; mark = 0 }
 
 abbrev pub noCounters : Counters
-noCounters = record { zones = replicate 4 0 }
+noCounters = record { zones = replicate 4 0; total = 0 }
 
 abbrev pub factsOf : List ℕ → List ℕ → Facts
 factsOf serial password = record { serial = serial; password = password }

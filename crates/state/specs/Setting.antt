@@ -55,7 +55,10 @@ abbrev pub counterOf : Counters → ℕ → ℕ
 counterOf c n = getD (c .zones) (zonePlace n) 0
 
 abbrev pub withZones : Counters → List ℕ → Counters
-withZones c zones = record { zones = zones }
+withZones c zones = record { zones = zones; total = c .total }
+
+abbrev pub withTotal : Counters → ℕ → Counters
+withTotal c total = record { zones = c .zones; total = total }
 
 -- where the row of a table starts, and the tables with that row anew
 abbrev pub rowStart : ℕ → ℕ

@@ -1,7 +1,7 @@
 -- Document 01, "The state": what is well-formed. A state outside these ranges is malformed.
 use mathlib.Core.Bool.{Bool, true, false, cond, not, _&&_, _||_}
-use mathlib.Core.List.{List}
-use Prim.Native.Nat.{ℕ, _*_}
+use mathlib.Core.List.{List, [], _∷_}
+use Prim.Native.Nat.{ℕ, _+_, _*_, _%_}
 use lib.Dec.{eqb, leb, ltb}
 use lib.ListN.{length, drop, getD}
 use Rattle.line.specs.Runs.{every}
@@ -49,8 +49,17 @@ below end n = ltb n end
 unfoldable pub zonesGood : List ℕ → Bool
 zonesGood zones = eqb (length zones) 4 && every (below counterEnd) zones
 
+unfoldable pub sumOf : List ℕ → ℕ
+sumOf [] = 0
+sumOf (wh ∷ rest) = wh + sumOf rest
+
+-- the sum of the four modulo 1,000,000,000
+unfoldable pub total : Counters → ℕ
+total c = sumOf (c .zones) % counterEnd
+
+-- [4]: the total that is kept is that sum
 abbrev pub countersGood : Counters → Bool
-countersGood c = zonesGood (c .zones)
+countersGood c = zonesGood (c .zones) && eqb (c .total) (total c)
 
 -- so many tables of 24 characters '1' to '4'
 unfoldable pub tablesGood : ℕ → List ℕ → Bool

@@ -1,10 +1,10 @@
 // The meter's state: what it is made of, what is well-formed, and how a new one is made.
 ghost use mathlib.Core.Path.{_≡_};
-ghost use Prim.Native.Nat.{_≤_};
+ghost use Prim.Native.Nat.{_≤_, _<_};
 ghost use lib.ListN.{length};
 ghost use Rattle.line.specs.Runs.{every};
 ghost use Rattle.state.specs.Sizes.{tables, heldPlaces};
-ghost use Rattle.state.specs.WellFormed.{limit, firstGood, heldGood, receiverGood, below, zonesGood, countersGood, tablesGood, factsGood, factoryGood, registersGood, wellFormed};
+ghost use Rattle.state.specs.WellFormed.{limit, firstGood, heldGood, receiverGood, below, zonesGood, total, countersGood, tablesGood, factsGood, factoryGood, registersGood, wellFormed};
 ghost use Rattle.state.specs.Making.{factsOf, meterOf, blankMeter, madeOf};
 use clock::Clock;
 use clock::Date;
@@ -41,10 +41,11 @@ pub struct Facts {
     pub password: [u8; 8],
 }
 
-// The zones' counters in Wh.
+// The zones' counters in Wh, and their sum modulo 1,000,000,000.
 #[repr(C)]
 pub struct Counters {
     pub zones: [u32; 4],
+    pub total: u32,
 }
 
 // What a refused frame never changes.
@@ -145,11 +146,27 @@ fn zones_good(s: &[u32]) -> bool
     (s.len() == 4) & all_below(s, COUNTER_END)
 }
 
+fn wide(wh: u32) -> u64
+    ensures { λ r. ⌜ r ≡ wh ⌝ }
+    ensures small { λ r. ⌜ r < 4294967296 ⌝ }
+{
+    wh as u64
+}
+
+// The sum of the zones modulo 1,000,000,000; the one place where they are added up.
+fn total_of(c: Counters) -> u32
+    ensures { λ r. ⌜ r ≡ total c ⌝ }
+{
+    let z = c.zones;
+    let sum = wide(z[0]) + wide(z[1]) + wide(z[2]) + wide(z[3]);
+    (sum % COUNTER_END as u64) as u32
+}
+
 fn counters_good(c: Counters) -> bool
     ensures { λ r. ⌜ r ≡ countersGood c ⌝ }
 {
     let zones = c.zones;
-    zones_good(&zones)
+    zones_good(&zones) & (c.total == total_of(c))
 }
 
 fn tables_good(s: &[u8]) -> bool
@@ -210,7 +227,10 @@ fn meter_of(facts: Facts, account: [u8; 10], clock: Clock) -> Meter
             facts,
             account,
             clock,
-            counters: Counters { zones: [0; 4] },
+            counters: Counters {
+                zones: [0; 4],
+                total: 0,
+            },
             tables: [b'1'; ALL_ROWS],
         },
     }

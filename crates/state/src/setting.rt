@@ -4,7 +4,7 @@ ghost use Prim.Native.Nat.{_≤_};
 ghost use lib.ListN.{length};
 ghost use Rattle.state.specs.Sizes.{rowLength, tables};
 ghost use Rattle.state.specs.Making.{emptyReceiver};
-ghost use Rattle.state.specs.Setting.{withHeld, withMark, withReceiver, inMode, withAttempts, withRegisters, withAccount, withClock, withCounters, withTables, withZones, withRow, rowStart, zonePlace, counterOf};
+ghost use Rattle.state.specs.Setting.{withHeld, withMark, withReceiver, inMode, withAttempts, withRegisters, withAccount, withClock, withCounters, withTables, withZones, withTotal, withRow, rowStart, zonePlace, counterOf};
 use crate::ALL_ROWS;
 use crate::Counters;
 use crate::HELD_PLACES;
@@ -115,6 +115,14 @@ pub fn with_zones(c: Counters, zones: [u32; 4]) -> Counters
 {
     let mut next = c;
     next.zones = zones;
+    next
+}
+
+pub fn with_total(c: Counters, total: u32) -> Counters
+    ensures { λ x. ⌜ x ≡ withTotal c total ⌝ }
+{
+    let mut next = c;
+    next.total = total;
     next
 }
 

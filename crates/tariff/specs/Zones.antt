@@ -9,7 +9,7 @@ use Rattle.clock.specs.declared.Date.{Date}
 use Rattle.state.specs.declared.Counters.{Counters}
 use Rattle.state.specs.declared.Registers.{Registers}
 use Rattle.state.specs.Sizes.{counterEnd}
-use Rattle.state.specs.Setting.{rowStart, zonePlace, counterOf, withZones}
+use Rattle.state.specs.Setting.{rowStart, zonePlace, counterOf, withZones, withTotal}
 
 unfoldable pub tableFor : Date → ℕ
 tableFor d = cond (ltb (weekday d) 5) (d .month) (12 + d .month)
@@ -21,6 +21,9 @@ zoneIn g = getD (g .tables) (rowStart (tableFor (g .clock .date)) + g .clock .ti
 abbrev pub grown : ℕ → ℕ → ℕ
 grown counter wh = (counter + wh) % counterEnd
 
--- the counter of a zone, 1 to 4
+-- the counter of a zone, 1 to 4, and with it the total; another zone has none
 unfoldable pub counted : Counters → ℕ → ℕ → Counters
-counted c zone wh = withZones c (set (c .zones) (zonePlace zone) (grown (counterOf c zone) wh))
+counted c zone wh =
+    cond (ltb (zonePlace zone) 4)
+    (withTotal (withZones c (set (c .zones) (zonePlace zone) (grown (counterOf c zone) wh))) (grown (c .total) wh))
+    c

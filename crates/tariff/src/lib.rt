@@ -51,7 +51,7 @@ fn grow(counter: u32, wh: u32) -> u32
     (counter + wh) % COUNTER_END
 }
 
-// The counters after a pulse in a zone.
+// The counters after a pulse in a zone, and their total with them.
 pub fn count(c: Counters, zone: ZoneNo, wh: u32) -> Counters
     requires { ⌜ (countersGood c ≡ true) × (wh ≤ 1000000) ⌝ }
     ensures { λ r. ⌜ r ≡ counted c (zone .0) wh ⌝ }
@@ -60,7 +60,8 @@ pub fn count(c: Counters, zone: ZoneNo, wh: u32) -> Counters
     let i = state::setting::zone_place(zone);
     if i < 4 {
         zones[i] = grow(zones[i], wh);
-        return state::setting::with_zones(c, zones);
+        let next = state::setting::with_zones(c, zones);
+        return state::setting::with_total(next, grow(c.total, wh));
     }
     c
 }

@@ -1,14 +1,14 @@
--- `replies::answers::total_of` meets its contract: the sum of four fits 64 bits. Assumes nothing.
+-- `state::total_of` meets its contract: the sum of four fits 64 bits. Assumes nothing.
 use mathlib.Core.Path.{_≡_, ap}
 use mathlib.Core.List.{List, [], _∷_}
 use Prim.Native.Nat.{ℕ, _+_, _%_}
 use native.Mathlib.Omega.{arith}
 use lib.ListN.{length, getD}
 use Rattle.state.specs.Sizes.{counterEnd}
-use Rattle.replies.specs.Shown.{sumOf, total}
+use Rattle.state.specs.WellFormed.{sumOf, total}
 use borrow.Author.Needs.{needs}
-use Rattle.replies.proofs.answers.total_of.Statement.{statement}
-use Rattle.replies.proofs.answers.total_of.Tie as tie
+use Rattle.state.proofs.total_of.Statement.{statement}
+use Rattle.state.proofs.total_of.Tie as tie
 
 -- four in a row, added up
 four-added : (s : List ℕ) → length s ≡ 4 → ((getD s 0 0 + getD s 1 0) + getD s 2 0) + getD s 3 0 ≡ sumOf s
