@@ -49,46 +49,46 @@ module _ (s : List ℕ) (end : ℕ) where
   stray-if true k e = λ h. absurd (omega arith)
   stray-if false k e = λ h. sym e
 
--- windows of w columns from 0, b and d on
-module _ (s : List ℕ) (w b d : ℕ) where
+-- windows of 16 columns from 0, b and d on
+module _ (s : List ℕ) (b d : ℕ) where
   -- no column before this one strays in the first n of each window, and this one does
   pub record Least (n column : ℕ) : Type 0 where
-    pub in-line : column ≤ d + w
-    pub one : column < d + w → columnFits s column ≡ false
-    pub first : (i : ℕ) → i < n → column ≤ straying (columnFits s i) i (d + w)
-    pub second : (i : ℕ) → i < n → column ≤ straying (columnFits s (b + i)) (b + i) (d + w)
-    pub third : (i : ℕ) → i < n → column ≤ straying (columnFits s (d + i)) (d + i) (d + w)
+    pub in-line : column ≤ d + 16
+    pub one : column < d + 16 → columnFits s column ≡ false
+    pub first : (i : ℕ) → i < n → column ≤ straying (columnFits s i) i (d + 16)
+    pub second : (i : ℕ) → i < n → column ≤ straying (columnFits s (b + i)) (b + i) (d + 16)
+    pub third : (i : ℕ) → i < n → column ≤ straying (columnFits s (d + i)) (d + i) (d + 16)
 
-  pub least-none : Least 0 (d + w)
+  pub least-none : Least 0 (d + 16)
   least-none =
       record { in-line = omega arith; one = λ h. absurd (omega arith); first = λ i h. absurd (omega arith); second = λ i h. absurd (omega arith); third = λ i h. absurd (omega arith) }
 
   -- the next column of each window
   module _ (n column : ℕ) (f g h : Bool) (p : f ≡ columnFits s n) (q : g ≡ columnFits s (b + n)) (r : h ≡ columnFits s (d + n)) (l : Least n column) where
     abbrev now-least : ℕ
-    now-least = smaller (smaller column (straying f n (d + w))) (smaller (straying g (b + n) (d + w)) (straying h (d + n) (d + w)))
+    now-least = smaller (smaller column (straying f n (d + 16))) (smaller (straying g (b + n) (d + 16)) (straying h (d + n) (d + 16)))
 
-    to-left : now-least ≤ smaller column (straying f n (d + w))
-    to-left = smaller-left (smaller column (straying f n (d + w))) (smaller (straying g (b + n) (d + w)) (straying h (d + n) (d + w)))
+    to-left : now-least ≤ smaller column (straying f n (d + 16))
+    to-left = smaller-left (smaller column (straying f n (d + 16))) (smaller (straying g (b + n) (d + 16)) (straying h (d + n) (d + 16)))
 
-    to-right : now-least ≤ smaller (straying g (b + n) (d + w)) (straying h (d + n) (d + w))
-    to-right = smaller-right (smaller column (straying f n (d + w))) (smaller (straying g (b + n) (d + w)) (straying h (d + n) (d + w)))
+    to-right : now-least ≤ smaller (straying g (b + n) (d + 16)) (straying h (d + n) (d + 16))
+    to-right = smaller-right (smaller column (straying f n (d + 16))) (smaller (straying g (b + n) (d + 16)) (straying h (d + n) (d + 16)))
 
     no-more : now-least ≤ column
-    no-more = omega (arith, to-left, smaller-left column (straying f n (d + w)))
+    no-more = omega (arith, to-left, smaller-left column (straying f n (d + 16)))
 
     pub least-more : Least (n + 1) now-least
     least-more =
         record {
           in-line = omega (arith, no-more, l .in-line);
-          one = unfold Stray in (stray-smaller s (d + w) _ _ (stray-smaller s (d + w) _ _ (l .one) (stray-if s (d + w) f n p)) (stray-smaller s (d + w) _ _ (stray-if s (d + w) g (b + n) q) (stray-if s (d + w) h (d + n) r)));
-          first = below-more _ n (λ i k. omega (arith, no-more, l .first i k)) (rw (← p) (omega (arith, to-left, smaller-right column (straying f n (d + w)))));
-          second = below-more _ n (λ i k. omega (arith, no-more, l .second i k)) (rw (← q) (omega (arith, to-right, smaller-left (straying g (b + n) (d + w)) (straying h (d + n) (d + w)))));
-          third = below-more _ n (λ i k. omega (arith, no-more, l .third i k)) (rw (← r) (omega (arith, to-right, smaller-right (straying g (b + n) (d + w)) (straying h (d + n) (d + w)))));
+          one = unfold Stray in (stray-smaller s (d + 16) _ _ (stray-smaller s (d + 16) _ _ (l .one) (stray-if s (d + 16) f n p)) (stray-smaller s (d + 16) _ _ (stray-if s (d + 16) g (b + n) q) (stray-if s (d + 16) h (d + n) r)));
+          first = below-more _ n (λ i k. omega (arith, no-more, l .first i k)) (rw (← p) (omega (arith, to-left, smaller-right column (straying f n (d + 16)))));
+          second = below-more _ n (λ i k. omega (arith, no-more, l .second i k)) (rw (← q) (omega (arith, to-right, smaller-left (straying g (b + n) (d + 16)) (straying h (d + n) (d + 16)))));
+          third = below-more _ n (λ i k. omega (arith, no-more, l .third i k)) (rw (← r) (omega (arith, to-right, smaller-right (straying g (b + n) (d + 16)) (straying h (d + n) (d + 16)))));
         }
 
   -- where the windows leave no gap, all columns before their end were seen
-  pub least-all : (column : ℕ) → b ≤ w → d ≤ b + w → Least w column → StraysFirst s (d + w) column
+  pub least-all : (column : ℕ) → b ≤ 16 → d ≤ b + 16 → Least 16 column → StraysFirst s (d + 16) column
   least-all column u v l =
       record {
         in-line = l .in-line;
@@ -97,10 +97,10 @@ module _ (s : List ℕ) (w b d : ℕ) where
             ⊎-elim
             (λ x.
             ⊎-elim
-            (λ y. ap (columnFits s) (omega arith) ∙ below-fits (columnFits s (d + (j - d))) (d + (j - d)) (d + w) column (l .third (j - d) (omega (arith, l .in-line))) (omega arith))
-            (λ y. ap (columnFits s) (omega arith) ∙ below-fits (columnFits s (b + (j - b))) (b + (j - b)) (d + w) column (l .second (j - b) (omega arith)) (omega arith))
+            (λ y. ap (columnFits s) (omega arith) ∙ below-fits (columnFits s (d + (j - d))) (d + (j - d)) (d + 16) column (l .third (j - d) (omega (arith, l .in-line))) (omega arith))
+            (λ y. ap (columnFits s) (omega arith) ∙ below-fits (columnFits s (b + (j - b))) (b + (j - b)) (d + 16) column (l .second (j - b) (omega arith)) (omega arith))
             (le-or-lt d j))
-            (λ x. below-fits (columnFits s j) j (d + w) column (l .first j x) h) (le-or-lt w j);
+            (λ x. below-fits (columnFits s j) j (d + 16) column (l .first j x) h) (le-or-lt 16 j);
         stops = l .one;
       }
 

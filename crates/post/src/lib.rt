@@ -57,7 +57,7 @@ fn smaller(a: u8, b: u8) -> u8
     a
 }
 
-// The first column from a place on that strays, of those that three windows of a width hold, and their end where none does. All are seen at
+// The first column from a place on that strays, of those that three windows of 16 hold, and their end where none does. All are seen at
 // once. The last window has bounds of its own: a copy that one window alone reads need not stand in memory.
 fn stray_in(
     low: &[u8; 36],
@@ -66,17 +66,16 @@ fn stray_in(
     ceiling: &[u8; 36],
     text: &[u8],
     at: usize,
-    width: u8,
     second: u8,
     third: u8,
 ) -> usize
-    requires { ⌜ (now low ≡ lowest) × (now high ≡ highest) × (now floor ≡ lowest) × (now ceiling ≡ highest) × (second ≤ width) × (third ≤ second + width) × (third + width ≤ 36) × (at + third + width ≤ length (now text)) × (second ≤ third) ⌝ }
-    ensures { λ r. ⌜ StraysFirst (drop at (now (text .entry))) (third + width) r ⌝ }
+    requires { ⌜ (now low ≡ lowest) × (now high ≡ highest) × (now floor ≡ lowest) × (now ceiling ≡ highest) × (second ≤ 16) × (third ≤ second + 16) × (third ≤ 20) × (at + third + 16 ≤ length (now text)) × (second ≤ third) ⌝ }
+    ensures { λ r. ⌜ StraysFirst (drop at (now (text .entry))) (third + 16) r ⌝ }
 {
-    let end = third + width;
+    let end = third + 16;
     let mut column: u8 = end;
     let mut j: u8 = 0;
-    while j < width {
+    while j < 16 {
         let i = j as usize;
         let first = straying(column_fits(low, high, text, at, i), j, end);
         let next = straying(
@@ -104,35 +103,28 @@ fn stray_at(text: &[u8], at: usize) -> usize
     let high = HIGHEST;
     let floor = LOWEST;
     let ceiling = HIGHEST;
-    stray_in(&low, &high, &floor, &ceiling, text, at, 16, 16, 20)
+    stray_in(&low, &high, &floor, &ceiling, text, at, 16, 20)
 }
 
-// The same in a text shorter than a line that three windows hold: the last ends where the text does.
-fn late_stray(s: &[u8], width: u8) -> usize
-    requires { ⌜ (width ≤ length (now s)) × (length (now s) ≤ 3 * width) × (length (now s) < 36) ⌝ }
+// The same in a text shorter than a line that holds a window: the last ends where the text does.
+fn late_stray(s: &[u8]) -> usize
+    requires { ⌜ (16 ≤ length (now s)) × (length (now s) < 36) ⌝ }
     ensures { λ r. ⌜ FirstStray (now (s .entry)) r ⌝ }
 {
     let low = LOWEST;
     let high = HIGHEST;
-    let third = (s.len() - width as usize) as u8;
-    stray_in(
-        &low,
-        &high,
-        &low,
-        &high,
-        s,
-        0,
-        width,
-        smaller(width, third),
-        third,
-    )
+    let third = (s.len() - 16) as u8;
+    stray_in(&low, &high, &low, &high, s, 0, smaller(16, third), third)
 }
 
-// The same, column by column.
-fn each_stray(s: &[u8]) -> usize
+// The first column that strays in a text shorter than a line.
+fn first_stray(s: &[u8]) -> usize
     requires { ⌜ length (now s) < 36 ⌝ }
     ensures { λ r. ⌜ FirstStray (now (s .entry)) r ⌝ }
 {
+    if 16 <= s.len() {
+        return late_stray(s);
+    }
     let low = LOWEST;
     let high = HIGHEST;
     let mut j = 0;
@@ -143,23 +135,6 @@ fn each_stray(s: &[u8]) -> usize
         j += 1;
     }
     j
-}
-
-// The first column that strays in a text shorter than a line: in windows as wide as it has room for.
-fn first_stray(s: &[u8]) -> usize
-    requires { ⌜ length (now s) < 36 ⌝ }
-    ensures { λ r. ⌜ FirstStray (now (s .entry)) r ⌝ }
-{
-    if 16 <= s.len() {
-        return late_stray(s, 16);
-    }
-    if 8 <= s.len() {
-        return late_stray(s, 8);
-    }
-    if 4 <= s.len() {
-        return late_stray(s, 4);
-    }
-    each_stray(s)
 }
 
 // The number of the line that stands at a place, below another, from its first stray column; 0 where none does that may come next.

@@ -11,34 +11,31 @@ use Rattle.post.proofs.late_stray.Statement.{statement}
 use Rattle.post.proofs.late_stray.Tie as tie
 
 -- no gap below the last window
-close : (width third : ℕ) → third ≤ width + width → third ≤ smaller width third + width
-close width third h = ⊎-elim (λ e. omega arith) (λ e. omega arith) (smaller-one width third)
+close : (third : ℕ) → third ≤ 20 → third ≤ smaller 16 third + 16
+close third h = ⊎-elim (λ e. omega arith) (λ e. omega arith) (smaller-one 16 third)
 
 stray-in-requires : tie.Need-stray-in-requires
 unfolding lowest highest
 stray-in-requires c κs =
-    let start = c .before .before .before .before .before .before in
-    let p = start .pre in
-    let w = start .args .width in
-    let n = length (start .args .s .now) - w in (
+    let p = c .before .before .before .before .before .before .pre in
+    let n = length (c .before .before .before .before .before .before .args .s .now) - 16 in
+    let h : n ≤ 20 = omega (arith, p .1) in (
       refl,
       refl,
       refl,
       refl,
-      rw (c .smaller .ensures) (smaller-left w n),
-      rw (c .smaller .ensures) (close w n (omega (arith, p .1))),
-      omega (arith, p .0, p .2),
+      rw (c .smaller .ensures) (smaller-left 16 n),
+      rw (c .smaller .ensures) (close n h),
+      h,
       omega (arith, p .0),
-      rw (c .smaller .ensures) (smaller-right w n),
+      rw (c .smaller .ensures) (smaller-right 16 n),
     )
 
 returns : tie.Need-returns
 returns c =
-    let start = c .before .before .before .before .before .before .before in
-    let p = start .pre in
-    let s = start .args .s .now in
-    let w = start .args .width in
-    first-of s (length s - w + w) (c .stray-in .result) (omega (arith, p .0, p .2)) (omega (arith, p .0)) (λ h. omega arith) (c .stray-in .ensures)
+    let p = c .before .before .before .before .before .before .before .pre in
+    let s = c .before .before .before .before .before .before .before .args .s .now in
+    first-of s (length s - 16 + 16) (c .stray-in .result) (omega (arith, p .1)) (omega (arith, p .0)) (λ h. omega arith) (c .stray-in .ensures)
 
 pub late-stray-spec : {M : Type 1} → statement M
 late-stray-spec = tie.close (tie.spec (λ c. search needs) (λ c. search needs) (λ c κs. search needs) stray-in-requires returns)

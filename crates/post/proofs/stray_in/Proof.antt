@@ -9,16 +9,16 @@ use Rattle.post.proofs.stray_in.Statement.{statement}
 use Rattle.post.proofs.stray_in.Tie as tie
 
 abbrev Inv-loop : tie.InvT-loop
-Inv-loop low high floor ceiling text at width second third end column₀ j₀ column j = (end ≡ third + width) × (j ≤ width) × (Least (drop at text) width second third j column)
+Inv-loop low high floor ceiling text at second third end column₀ j₀ column j = (end ≡ third + 16) × (j ≤ 16) × (Least (drop at text) second third j column)
 
 abbrev μ-loop : tie.MeasureT-loop
-μ-loop low high floor ceiling text at width second third end column₀ j₀ column j = width - j
+μ-loop low high floor ceiling text at second third end column₀ j₀ column j = 16 - j
 
 add-end : tie.Need-add-end Inv-loop μ-loop
 add-end c = omega (arith, c .before .pre .6)
 
 loop-holds : tie.Need-loop-holds Inv-loop μ-loop
-loop-holds c = (refl, omega arith, least-none _ _ _ _)
+loop-holds c = (refl, omega arith, least-none _ _ _)
 
 column-fits-requires : tie.Need-column-fits-requires Inv-loop μ-loop
 column-fits-requires c κs =
@@ -54,19 +54,19 @@ loop-again c =
     let f = (c .before .before .before .before .before .before .before .before .column-fits) in
     let g = (c .before .before .before .before .before .before .column-fits2) in
     let h = (c .before .before .before .before .column-fits3) in
-    let e : c .smaller3 .result ≡ smaller (smaller (l .column) (straying (f .result) (l .j) (a .third + a .width))) (smaller (straying (g .result) (a .second + l .j) (a .third + a .width)) (straying (h .result) (a .third + l .j) (a .third + a .width))) =
+    let e : c .smaller3 .result ≡ smaller (smaller (l .column) (straying (f .result) (l .j) (a .third + 16))) (smaller (straying (g .result) (a .second + l .j) (a .third + 16)) (straying (h .result) (a .third + l .j) (a .third + 16))) =
     rw (c .smaller3 .ensures, c .before .smaller2 .ensures, c .before .before .smaller .ensures, c .before .before .before .before .before .before .before .straying .ensures, c .before .before .before .before .before .straying2 .ensures, c .before .before .before .straying3 .ensures) in (
       l .inv .0,
       omega (arith, c .before .before .before .before .before .before .before .before .before .loop-test .taken),
-      rw e (least-more (drop (a .at) (a .text .now)) (a .width) (a .second) (a .third) (l .j) (l .column) (f .result) (g .result) (h .result) (f .ensures) (g .ensures) (h .ensures) (l .inv .2)),
+      rw e (least-more (drop (a .at) (a .text .now)) (a .second) (a .third) (l .j) (l .column) (f .result) (g .result) (h .result) (f .ensures) (g .ensures) (h .ensures) (l .inv .2)),
     )
 
 returns : tie.Need-returns Inv-loop μ-loop
 returns c =
     let l = c .before .loop in
     let a = (c .before .before .before .args) in
-    let e : l .j ≡ a .width = omega arith in
-    least-all (drop (a .at) (a .text .now)) (a .width) (a .second) (a .third) (l .column) (c .before .before .before .pre .4) (c .before .before .before .pre .5) (rw e at (l .inv .2))
+    let e : l .j ≡ 16 = omega arith in
+    least-all (drop (a .at) (a .text .now)) (a .second) (a .third) (l .column) (c .before .before .before .pre .4) (c .before .before .before .pre .5) (rw e at (l .inv .2))
 
 pub stray-in-spec : {M : Type 1} → statement M
 stray-in-spec = tie.close (tie.spec Inv-loop μ-loop add-end loop-holds (λ c. omega arith) column-fits-requires (λ c κs. tt) add-column-fits column-fits-requires-2 add-straying (λ c κs. tt) add-column-fits-2 column-fits-requires-3 add-straying-2 (λ c κs. tt) (λ c κs. tt) (λ c κs. tt) (λ c κs. tt) (λ c. omega arith) (λ c. omega arith) loop-again (λ c. omega arith) returns)
