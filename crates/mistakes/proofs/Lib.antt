@@ -8,3 +8,4 @@ pub mod Commands
 pub mod Replying
 pub mod Posts
 pub mod Deliveries
+pub mod Mercury

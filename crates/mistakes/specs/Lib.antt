@@ -8,3 +8,4 @@ pub mod Events
 pub mod Commands
 pub mod Replying
 pub mod Posts
+pub mod Mercury
