@@ -10,7 +10,7 @@ use lib.Count.{ones}
 use lib.Bits.{bitOr, bitAnd, bitXor, xor-lt, or-shr, or-zero-l, or-add-and, and-le-r}
 use lib.Dec.{eqb, lit<}
 use Rattle.line.specs.Characters.{damagedAt, undamagedAt, seven}
-use Rattle.line.specs.Balance.{balanceOf, turned}
+use Rattle.line.specs.Balance.{balanceOf, turned, folded}
 use Rattle.line.proofs.Runs.{and-left, and-right, allBelow, below-all}
 
 -- the top bit evens the seven data bits; with the byte's own it says whether the ones of the byte are even
@@ -34,6 +34,14 @@ balance-evens b h = eqb-true _ _ (and-left (evens b) (strays b) (balanced b h))
 pub stray-counts : (b : ℕ) → b < 256 → bitXor (balanceOf b) b / 128 ≡ ones b % 2
 unfolding balances strays
 stray-counts b h = eqb-true _ _ (and-right (evens b) (strays b) (balanced b h))
+
+-- the fold leaves what the count does, by the same kind of test
+folds : ℕ → Bool
+folds b = eqb (folded b % 2) (ones b % 2)
+
+pub folded-counts : (b : ℕ) → b < 256 → folded b % 2 ≡ ones b % 2
+unfolding folds ones
+folded-counts b h = eqb-true _ _ (below-all 256 folds refl b h)
 
 -- the product is that of two bytes
 pub turned-lt : (b : ℕ) → b < 256 → turned b < 256

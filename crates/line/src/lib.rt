@@ -21,18 +21,13 @@ pub const CR: u8 = 0x0D;
 
 pub const NAK: u8 = 0x15;
 
-// A byte whose top bit evens the seven data bits of `b`. No ones are counted: a product has that bit, which the proof tries of all 256.
-fn balance(b: u8) -> u8
-    ensures { λ r. ⌜ r ≡ balanceOf b ⌝ }
-{
-    ((b as u16 * (b ^ 0x66) as u16 + 0x30) % 256) as u8
-}
-
-// Whether a wire byte is damaged: its top bit is not the one that evens the others.
+// Whether a wire byte is damaged: folded upon itself down to one bit, it leaves a one.
 pub fn damaged(b: u8) -> bool
     ensures { λ r. ⌜ r ≡ damagedAt b ⌝ }
 {
-    (balance(b) ^ b) / 128 != 0
+    let four = b ^ b / 16;
+    let two = four ^ four / 4;
+    (two ^ two / 2) % 2 != 0
 }
 
 // The seven data bits of a wire byte.
@@ -40,6 +35,14 @@ pub fn character(b: u8) -> u8
     ensures { λ r. ⌜ r ≡ seven b ⌝ }
 {
     b % 128
+}
+
+// A byte whose top bit evens the seven data bits of `b`. A product has that bit, which the proof tries of all 256 bytes: over a run it is
+// faster than to fold each, where a processor does many at once.
+fn balance(b: u8) -> u8
+    ensures { λ r. ⌜ r ≡ balanceOf b ⌝ }
+{
+    ((b as u16 * (b ^ 0x66) as u16 + 0x30) % 256) as u8
 }
 
 // The wire byte of a character.
