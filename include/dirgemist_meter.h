@@ -55,9 +55,11 @@ struct dirgemist_receiver {
     uint8_t mark;
 };
 
-/* The zones' counters in Wh, each under 1,000,000,000. */
+/* The zones' counters in Wh, each under 1,000,000,000, and their total: the sum of the four modulo
+ * 1,000,000,000. Any other total is not well-formed. */
 struct dirgemist_counters {
     uint32_t zones[4];
+    uint32_t total;
 };
 
 /* What a meter has for life: texts without an end mark. */
@@ -126,6 +128,10 @@ uint8_t dirgemist_meter_make(struct dirgemist_meter *meter, const uint8_t *seria
 /* Whether the record is well-formed: 1, or 14. It is only read. */
 uint8_t dirgemist_meter_check(const struct dirgemist_meter *meter);
 
+/* The total for a display: 1, and *total is what the record keeps; or 14, and *total is 0. The record
+ * is only read, and nothing is added up but for the test that it is well-formed. */
+uint8_t dirgemist_meter_total(const struct dirgemist_meter *meter, uint32_t *total);
+
 /* What has happened, with its value. Returns the answer's number; *meter becomes the next state,
  * the reply's bytes, with parity, stand at the front of the room bytes at reply, *length is their
  * number and *speed the speed identifier, 0 (300 baud) or 5 (9600): the reply's where there is one,
@@ -165,8 +171,8 @@ static inline uint8_t dirgemist_meter_tick(struct dirgemist_meter *meter, uint8_
     return dirgemist_meter_note(meter, DIRGEMIST_TICK, 0, speed);
 }
 
-/* So many Wh were used: the counter of the zone that day and hour name grows by them, and rolls
- * over at 1,000,000,000. 13, 14, or 1. */
+/* So many Wh were used: the counter of the zone that day and hour name grows by them, and the total
+ * too; each rolls over at 1,000,000,000. 13, 14, or 1. */
 static inline uint8_t dirgemist_meter_pulse(struct dirgemist_meter *meter, uint32_t wh,
                                             uint8_t *speed) {
     return dirgemist_meter_note(meter, DIRGEMIST_PULSE, wh, speed);

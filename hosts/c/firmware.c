@@ -16,18 +16,19 @@ _Static_assert(sizeof(struct dirgemist_clock) == 8, "clock");
 _Static_assert(sizeof(struct dirgemist_receiver) == 65, "receiver");
 _Static_assert(offsetof(struct dirgemist_receiver, count) == 63, "count's place");
 _Static_assert(offsetof(struct dirgemist_receiver, mark) == 64, "mark's place");
-_Static_assert(sizeof(struct dirgemist_counters) == 16, "counters");
+_Static_assert(sizeof(struct dirgemist_counters) == 20, "counters");
+_Static_assert(offsetof(struct dirgemist_counters, total) == 16, "total's place");
 _Static_assert(sizeof(struct dirgemist_facts) == 18, "facts");
 _Static_assert(offsetof(struct dirgemist_facts, password) == 10, "password's place");
 _Static_assert(offsetof(struct dirgemist_registers, facts) == 0, "facts' place");
 _Static_assert(offsetof(struct dirgemist_registers, account) == 18, "account's place");
 _Static_assert(offsetof(struct dirgemist_registers, clock) == 28, "clock's place");
 _Static_assert(offsetof(struct dirgemist_registers, counters) == 36, "counters' place");
-_Static_assert(offsetof(struct dirgemist_registers, tables) == 52, "tables' place");
-_Static_assert(sizeof(struct dirgemist_registers) == 628, "registers");
+_Static_assert(offsetof(struct dirgemist_registers, tables) == 56, "tables' place");
+_Static_assert(sizeof(struct dirgemist_registers) == 632, "registers");
 _Static_assert(offsetof(struct dirgemist_meter, receiver) == 2, "receiver's place");
 _Static_assert(offsetof(struct dirgemist_meter, registers) == 68, "registers' place");
-_Static_assert(sizeof(struct dirgemist_meter) == 696, "meter");
+_Static_assert(sizeof(struct dirgemist_meter) == 700, "meter");
 
 #define ROOM DIRGEMIST_REPLY_ROOM
 
@@ -49,6 +50,7 @@ static uint8_t with_parity(uint8_t character) {
 static uint8_t *reply;
 static size_t *length;
 static uint8_t *speed;
+static uint32_t *total;
 static uint8_t filled[ROOM];
 
 /* Whether two records hold the same state; what lies between the fields is not looked at. */
@@ -290,9 +292,11 @@ static int is_formed(const struct dirgemist_meter *meter) {
     const struct dirgemist_date *date = &have->clock.date;
     const struct dirgemist_time *time = &have->clock.time;
     uint8_t mark;
-    uint32_t counters[4];
+    uint32_t counters[4], kept;
+    uint64_t sum = 0;
     memcpy(&mark, &held->mark, 1);
     memcpy(counters, &have->counters, sizeof counters);
+    memcpy(&kept, &have->counters.total, sizeof kept);
     if (meter->mode > 4 || meter->attempts > 3 || held->count > most[meter->mode] || mark > 1) {
         return 0;
     }
@@ -308,7 +312,9 @@ static int is_formed(const struct dirgemist_meter *meter) {
     int zones = 1;
     for (int zone = 0; zone < 4; zone++) {
         zones &= counters[zone] <= 999999999;
+        sum += counters[zone];
     }
+    zones &= kept == sum % 1000000000;
     int leap = date->year % 4 == 0;
     return account && zones && all_within(held->held, 63, 0, 127)
            && all_within(held->held + held->count, 63 - held->count, 0, 0)
@@ -335,6 +341,11 @@ static void takes_anything(struct dirgemist_meter *meter, long *formed) {
         memcpy(&before, bytes, sizeof made);
         uint8_t checked = dirgemist_meter_check(meter);
         expect(checked == (is_formed(meter) ? 1 : 14), "the check's number");
+        uint32_t kept;
+        *total = 99;
+        memcpy(&kept, &before.registers.counters.total, sizeof kept);
+        expect(dirgemist_meter_total(meter, total) == checked, "the total's number");
+        expect(*total == (checked == 1 ? kept : 0), "the total");
         expect(memcmp(&before, meter, sizeof before) == 0, "the check only reads");
         uint8_t kind = (uint8_t)(any() % 5);
         uint32_t value = kind == DIRGEMIST_PULSE ? any() % 1000001 : any() % 256;
@@ -355,6 +366,7 @@ int main(void) {
     reply = exactly(ROOM);
     length = exactly(sizeof *length);
     speed = exactly(sizeof *speed);
+    total = exactly(sizeof *total);
     memset(filled, 0x5A, ROOM);
     long formed = 0;
     makes(meter);
@@ -362,6 +374,7 @@ int main(void) {
     passes(meter);
     refuses(meter);
     takes_anything(meter, &formed);
+    give_back(total, sizeof *total);
     give_back(speed, sizeof *speed);
     give_back(length, sizeof *length);
     give_back(reply, ROOM);

@@ -142,6 +142,12 @@ pub fn well_formed(meter: &Meter) -> bool {
     for counter in meter.counters {
         counters &= counter < COUNTER_END;
     }
+    // Four full counters fit u32; what does not fit has failed above.
+    let sum = meter
+        .counters
+        .iter()
+        .fold(0, |sum: u32, &wh| sum.wrapping_add(wh));
+    counters &= meter.total == sum % COUNTER_END;
     (most < 4)
         & receiver_good(meter)
         & account
@@ -532,8 +538,7 @@ fn account(meter: &Meter, to: &mut [u8]) {
 fn energy(meter: &Meter, number: usize, to: &mut [u8]) {
     let wh = match meter.counters.get(number) {
         Some(&wh) => wh,
-        // Four full counters fit u32.
-        None => meter.counters.iter().sum::<u32>() % COUNTER_END,
+        None => meter.total,
     };
     let mut three = |at: usize, value: u32| {
         to[at] = b'0' + (value / 100) as u8;
@@ -668,6 +673,10 @@ pub fn pulse(meter: &mut Meter, wh: u32) -> Answer {
     *counter += wh;
     if *counter >= COUNTER_END {
         *counter -= COUNTER_END;
+    }
+    meter.total += wh;
+    if meter.total >= COUNTER_END {
+        meter.total -= COUNTER_END;
     }
     answer(1, speed(meter), 0)
 }

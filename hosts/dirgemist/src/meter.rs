@@ -66,11 +66,12 @@ pub struct Facts {
     pub password: [u8; 8],
 }
 
-/// The zones' counters in Wh.
+/// The zones' counters in Wh, and their sum modulo 1,000,000,000.
 #[repr(C)]
 #[derive(Clone, Copy, Debug, PartialEq, Eq)]
 pub struct Counters {
     pub zones: [u32; 4],
+    pub total: u32,
 }
 
 /// What the meter knows and counts.
@@ -96,8 +97,8 @@ pub struct Meter {
 }
 
 // The layout is C's; hosts/c/firmware.c holds the header to the same figures.
-const _: () = assert!(size_of::<Receiver>() == 65 && size_of::<Registers>() == 628);
-const _: () = assert!(size_of::<Meter>() == 696);
+const _: () = assert!(size_of::<Receiver>() == 65 && size_of::<Registers>() == 632);
+const _: () = assert!(size_of::<Meter>() == 700);
 
 /// What can happen to a meter.
 #[derive(Clone, Copy, Debug, PartialEq, Eq)]
@@ -153,6 +154,7 @@ extern "C" {
         second: u8,
     ) -> u8;
     fn dirgemist_meter_check(meter: *const Meter) -> u8;
+    fn dirgemist_meter_total(meter: *const Meter, total: *mut u32) -> u8;
     fn dirgemist_meter_meet(
         meter: *mut Meter,
         kind: u8,
@@ -194,6 +196,14 @@ impl Meter {
     pub fn check(&self) -> u8 {
         // SAFETY: the record has the library's layout and is only read.
         unsafe { dirgemist_meter_check(self) }
+    }
+
+    /// The total for a display with 1, or 0 with 14.
+    pub fn total(&self) -> (u8, u32) {
+        let mut total = u32::MAX;
+        // SAFETY: both pointers are those of live borrows.
+        let number = unsafe { dirgemist_meter_total(self, &mut total) };
+        (number, total)
     }
 
     /// Lets something happen; the record becomes the next state.

@@ -55,6 +55,8 @@ pub struct Meter {
     pub attempts: u8,
     pub clock: Clock,
     pub counters: [u32; 4],
+    /// The four added up, as it is kept.
+    pub total: u32,
     pub tables: [[u8; 24]; 24],
 }
 
@@ -253,6 +255,7 @@ impl Meter {
             attempts: 0,
             clock: Clock::FIRST,
             counters: [0; 4],
+            total: 0,
             tables: [[b'1'; 24]; 24],
         }
     }
@@ -312,6 +315,7 @@ impl Meter {
             && self.facts_good()
             && self.attempts <= 3
             && self.counters.iter().all(|&counter| counter < COUNTER_END)
+            && self.total == total_of(&self.counters)
             && self
                 .tables
                 .iter()
@@ -596,9 +600,7 @@ impl Meter {
     /// Zone 1 to 4, or 0 for the sum of the four.
     fn energy_line(&self, zone: u8) -> String {
         let wh = match zone {
-            0 => {
-                self.counters.iter().map(|&wh| u64::from(wh)).sum::<u64>() % u64::from(COUNTER_END)
-            }
+            0 => u64::from(self.total),
             _ => u64::from(self.counters[usize::from(zone) - 1]),
         };
         format!("15.8.{zone}({:06}.{:03}*kWh)\r\n", wh / 1000, wh % 1000)
@@ -685,12 +687,19 @@ impl Meter {
         let zone = self.tables[table - 1][usize::from(self.clock.hour)] - b'1';
         let counter = &mut self.counters[usize::from(zone)];
         *counter = (*counter + wh) % COUNTER_END;
+        self.total = total_of(&self.counters);
         Answer {
             number: 1,
             speed: self.speed(),
             length: 0,
         }
     }
+}
+
+/// What the total of these counters is.
+pub fn total_of(counters: &[u32; 4]) -> u32 {
+    let sum: u64 = counters.iter().map(|&wh| u64::from(wh)).sum();
+    (sum % u64::from(COUNTER_END)) as u32
 }
 
 /// Nothing but digits.

@@ -35,6 +35,7 @@ pub fn record_of(meter: &model::meter::Meter) -> Meter {
             clock: clock_of(&meter.clock),
             counters: Counters {
                 zones: meter.counters,
+                total: meter.total,
             },
             tables: meter.tables,
         },

@@ -1,7 +1,7 @@
 //! What a head can say, good and nearly good, in characters without parity.
 
 use crate::chance::Chance;
-use model::meter::{bcc, days_in_month, Clock, Meter, ETX, PLACES, SOH, STX};
+use model::meter::{bcc, days_in_month, total_of, Clock, Meter, ETX, PLACES, SOH, STX};
 
 /// SOH, command, STX and data if there are any, ETX and the true BCC.
 pub fn frame(command: &[u8], data: Option<&[u8]>) -> Vec<u8> {
@@ -133,6 +133,7 @@ pub fn state(chance: &mut Chance, mode: u8) -> Meter {
     for zone in 0..4 {
         meter.counters[zone] = counter(chance);
     }
+    meter.total = total_of(&meter.counters);
     for table in 0..24 {
         meter.tables[table] = row(chance);
     }

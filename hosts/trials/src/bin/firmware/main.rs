@@ -21,13 +21,14 @@ use wrong::{Wrong, FAULTS};
 const SEED: u64 = 1;
 const EVENTS: u64 = 500_000;
 /// The events that a wrong meter may pass at most before it is found out.
-const PATIENCE: u64 = 60_000;
+const PATIENCE: u64 = 100_000;
 
 /// A meter under trial: the proved one, or a wrong one that the trial must find out.
 trait Firmware {
     fn make(&mut self, facts: &Facts) -> u8;
     fn put(&mut self, meter: &Meter);
     fn check(&mut self) -> u8;
+    fn total(&mut self) -> (u8, u32);
     fn meet(&mut self, kind: u8, value: u32, reply: &mut [u8]) -> Answer;
     fn record(&self) -> library::Meter;
 }
@@ -107,6 +108,14 @@ impl Pair<'_> {
             let model = &self.model;
             return Err(format!(
                 "check of {model:?}: wanted {wanted}, given {given}"
+            ));
+        }
+        let shown = self.firmware.total();
+        let total = if wanted == 1 { self.model.total } else { 0 };
+        if shown != (wanted, total) {
+            let model = &self.model;
+            return Err(format!(
+                "total of {model:?}: wanted {wanted} {total}, given {shown:?}"
             ));
         }
         self.same_record("check")

@@ -217,17 +217,24 @@ fn broken(chance: &mut Chance) -> Meter {
         meter = holding(meter, &frame[..frame.len() - 1], true);
     }
     let odd = chance.byte();
-    match chance.below(12) {
+    match chance.below(15) {
         0 => meter.mode = odd,
         1 => meter.attempts = odd,
         2 => meter.count = odd,
-        3 | 4 => meter.mark = chance.one_of(&[1, 2, 2, 3, 255]),
+        3 | 4 | 13 => meter.mark = chance.one_of(&[1, 2, 2, 3, 255]),
         5 => meter.held[chance.below(PLACES)] = odd,
         6 => meter.serial[chance.below(10)] = odd,
         7 => meter.account[chance.below(10)] = chance.one_of(&[odd, b'-']),
         8 => meter.password[chance.below(8)] = odd,
         9 => meter.clock.day = odd,
         10 => meter.counters[chance.below(4)] = chance.bits() as u32,
+        11 => meter.total = meter.total.wrapping_add(chance.one_of(&[1, u32::MAX])),
+        12 => {
+            meter.total = meter
+                .counters
+                .iter()
+                .fold(0, |sum, wh| sum.wrapping_add(*wh))
+        }
         _ => meter.tables[chance.below(24)][chance.below(24)] = odd,
     }
     meter
@@ -253,6 +260,7 @@ fn any_bytes(chance: &mut Chance) -> Meter {
             second: chance.byte(),
         },
         counters: [0; 4].map(|_| chance.bits() as u32),
+        total: chance.bits() as u32,
         tables: [[0; 24]; 24].map(|row| row.map(|_| chance.byte())),
     }
 }
@@ -266,7 +274,7 @@ fn facts(chance: &mut Chance) -> Facts {
         clock: clock(chance),
     };
     let odd = chance.byte();
-    match chance.below(14) {
+    match chance.below(15) {
         0 => facts.serial[chance.below(10)] = odd,
         1 => facts.account[chance.below(10)] = odd,
         2 => facts.password[chance.below(8)] = odd,

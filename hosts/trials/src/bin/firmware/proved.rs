@@ -43,6 +43,10 @@ impl Firmware for Proved {
         self.memory.place(self.record).check()
     }
 
+    fn total(&mut self) -> (u8, u32) {
+        self.memory.place(self.record).total()
+    }
+
     fn meet(&mut self, kind: u8, value: u32, reply: &mut [u8]) -> Answer {
         let record = self.memory.place(self.record);
         let answer = record.told(kind, value, reply);

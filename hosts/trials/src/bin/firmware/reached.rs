@@ -5,7 +5,7 @@ use model::meter::{data_bits, BLOCK, ROOM};
 use std::collections::{BTreeMap, BTreeSet};
 
 /// What must have happened at least once.
-pub const AIMS: [&str; 82] = [
+pub const AIMS: [&str; 85] = [
     "character: 0",
     "character: 1",
     "character: 2",
@@ -66,6 +66,8 @@ pub const AIMS: [&str; 82] = [
     "count over its limit",
     "bad clock",
     "bad counter",
+    "total off by one",
+    "total not rolled over",
     "bad table",
     "bad serial",
     "bad account",
@@ -83,6 +85,7 @@ pub const AIMS: [&str; 82] = [
     "room exact",
     "room greater",
     "counter rolls over",
+    "total rolls over",
     "zone 1 to 4 counted",
     "leap day reached",
     "end of a year",
@@ -215,6 +218,10 @@ impl Reached {
             meter.counters.iter().any(|&c| c > 999_999_999),
             "bad counter",
         );
+        let sum: u64 = meter.counters.iter().map(|&wh| u64::from(wh)).sum();
+        let (total, rest) = (u64::from(meter.total), sum % 1_000_000_000);
+        self.when(total + 1 == rest || rest + 1 == total, "total off by one");
+        self.when(total == sum && sum != rest, "total not rolled over");
         let zones = meter.tables.as_flattened();
         self.when(
             zones.iter().any(|zone| !b"1234".contains(zone)),
@@ -269,6 +276,7 @@ impl Reached {
                     self.when(rolled, "counter rolls over");
                 }
                 self.when(self.zones == [true; 4], "zone 1 to 4 counted");
+                self.when(after.total < before.total, "total rolls over");
             }
             _ => self.when(before.attempts > 0, "attempts cleared by power-up"),
         }

@@ -1,7 +1,7 @@
 //! The trial's own trial: meters that are the model but for one fault.
 
 use crate::{library, made, record_of, ruled, Answer, Facts, Firmware, Meter};
-use model::meter::{data_bits, with_parity, ETX, ROOM, SOH};
+use model::meter::{data_bits, total_of, with_parity, ETX, ROOM, SOH};
 
 #[derive(Clone, Copy, Debug, PartialEq, Eq)]
 pub enum Fault {
@@ -31,10 +31,13 @@ pub enum Fault {
     MakesOfShortFacts,
     MakesOfAnyClock,
     ChecksNoTable,
+    ChecksNoTotal,
+    KeepsTheTotal,
+    RunsTheTotalOn,
     TickNeedsRoom,
 }
 
-pub const FAULTS: [Fault; 27] = [
+pub const FAULTS: [Fault; 30] = [
     Fault::TakesAMarkOfTwo,
     Fault::MalformedBeforeRoom,
     Fault::RoomBeforeThePulse,
@@ -61,6 +64,9 @@ pub const FAULTS: [Fault; 27] = [
     Fault::MakesOfShortFacts,
     Fault::MakesOfAnyClock,
     Fault::ChecksNoTable,
+    Fault::ChecksNoTotal,
+    Fault::KeepsTheTotal,
+    Fault::RunsTheTotalOn,
     Fault::TickNeedsRoom,
 ];
 
@@ -134,10 +140,20 @@ impl Firmware for Wrong {
         if self.fault == Some(Fault::ChecksNoTable) {
             meter.tables = Meter::blank().tables;
         }
+        if self.fault == Some(Fault::ChecksNoTotal) {
+            meter.total = total_of(&meter.counters);
+        }
         if meter.well_formed() {
             1
         } else {
             14
+        }
+    }
+
+    fn total(&mut self) -> (u8, u32) {
+        match self.check() {
+            1 => (1, self.meter.total),
+            number => (number, 0),
         }
     }
 
@@ -194,6 +210,10 @@ impl Firmware for Wrong {
                         *after = 999_999_999;
                     }
                 }
+            }
+            Some(Fault::KeepsTheTotal) if kind == 3 => self.meter.total = before.total,
+            Some(Fault::RunsTheTotalOn) if kind == 3 && self.meter.total < before.total => {
+                self.meter.total += 1_000_000_000;
             }
             Some(Fault::LosesTheLeapDay) if leaps => {
                 self.meter.clock.month = 3;

@@ -349,7 +349,7 @@ impl Aim<'_> {
         let mode = chance.below(5) as u8;
         let mut meter = state(chance, mode);
         for _ in 0..chance.one_of(&[1, 1, 1, 2, 4]) {
-            match chance.below(12) {
+            match chance.below(13) {
                 0 => meter.mode = chance.between(5, 255) as u8,
                 1 => meter.count = chance.byte(),
                 2 => meter.held[chance.below(PLACES)] = chance.byte(),
@@ -360,6 +360,7 @@ impl Aim<'_> {
                 7 => meter.attempts = chance.between(3, 255) as u8,
                 8 => meter.clock = any_clock(chance),
                 9 => meter.counters[chance.below(4)] = chance.bits() as u32,
+                10 => meter.total = meter.total.wrapping_add(1 + chance.bits() as u32 % 2),
                 _ => meter.tables[chance.below(24)][chance.below(24)] = chance.byte(),
             }
         }

@@ -83,8 +83,14 @@ impl Shown {
             let (changed, row) = self.row;
             tables += &hex(if table == changed { row } else { ALL_ONES }.bytes());
         }
+        let sum: u64 = self
+            .counters
+            .split(' ')
+            .map(|wh| wh.parse::<u64>().unwrap())
+            .sum();
+        let total = sum % 1_000_000_000;
         format!(
-            "{} {count} {} {held} {} {} {} {} {} {} {tables}",
+            "{} {count} {} {held} {} {} {} {} {} {} {tables} {total}",
             self.mode,
             self.mark,
             hex(self.serial.bytes()),

@@ -107,6 +107,7 @@ const AIMS: &[&str] = &[
     "pulse of 1,000,001",
     "pulse of 4,294,967,295",
     "pulse over the roll-over",
+    "total over the roll-over",
     "pulse to exactly 0",
     "pulse, Monday to Friday",
     "pulse, Saturday",
@@ -160,6 +161,8 @@ const RANGES: &[&str] = &[
     "counter 2",
     "counter 3",
     "counter 4",
+    "total",
+    "total not rolled over",
     "table",
 ];
 
@@ -595,6 +598,9 @@ impl Reached {
         let weekend = day == 0 || day == 6;
         let table = usize::from(before.clock.month) - 1 + if weekend { 12 } else { 0 };
         self.tables_used[table] += 1;
+        if after.total < before.total {
+            self.reach("total over the roll-over");
+        }
         for zone in 0..4 {
             if after.counters[zone] != before.counters[zone] {
                 self.zones[zone] += 1;
@@ -759,6 +765,11 @@ fn broken_ranges(meter: &Meter) -> Vec<&'static str> {
     must(meter.counters[1] < COUNTER_END, "counter 2");
     must(meter.counters[2] < COUNTER_END, "counter 3");
     must(meter.counters[3] < COUNTER_END, "counter 4");
+    let sum: u64 = meter.counters.iter().map(|&wh| u64::from(wh)).sum();
+    let kept = sum % u64::from(COUNTER_END) == u64::from(meter.total);
+    let whole = u64::from(meter.total) == sum;
+    must(kept || whole, "total");
+    must(kept || !whole, "total not rolled over");
     let zone = |c: &u8| matches!(c, b'1'..=b'4');
     must(meter.tables.iter().flatten().all(zone), "table");
     broken

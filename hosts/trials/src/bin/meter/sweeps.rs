@@ -3,7 +3,7 @@
 use crate::player::{wire, Player};
 use crate::reached::Reached;
 use model::bench::{dump, LINE_MOST};
-use model::meter::{days_in_month, Clock, Meter, ETX, LF, PLACES, SOH, STX};
+use model::meter::{days_in_month, total_of, Clock, Meter, ETX, LF, PLACES, SOH, STX};
 use trials::chance::Chance;
 use trials::program::Played;
 use trials::words::*;
@@ -376,6 +376,7 @@ fn reads(chance: &mut Chance, player: &mut Player) {
                 let part = chance.between(1, 3) as u32;
                 meter.counters = [999_999_999, 999_999_999, 999_999_999, part];
                 meter.counters[chance.below(3)] = chance.below(4) as u32;
+                meter.total = total_of(&meter.counters);
             }
             player.set(&meter);
             for ask in ["T()", "L()", "K()", "E0()", "E1()", "E2()", "E3()", "E4()"] {
@@ -623,9 +624,29 @@ fn broken_states(chance: &mut Chance, player: &mut Player) {
     }
     for zone in 0..4 {
         for counter in [1_000_000_000, 1_000_000_001, u32::MAX] {
-            breakings.push((4, Box::new(move |meter, _| meter.counters[zone] = counter)));
+            breakings.push((
+                4,
+                Box::new(move |meter, _| {
+                    meter.counters[zone] = counter;
+                    meter.total = total_of(&meter.counters);
+                }),
+            ));
         }
     }
+    for off in [1, u32::MAX, 500_000_000] {
+        breakings.push((
+            4,
+            Box::new(move |meter, _| meter.total = meter.total.wrapping_add(off)),
+        ));
+    }
+    // The sum as it is, where it has to roll over.
+    breakings.push((
+        4,
+        Box::new(|meter, _| {
+            meter.counters = [999_999_999, 1, 0, 0];
+            meter.total = 1_000_000_000;
+        }),
+    ));
     for table in 0..24 {
         for hour in [0, 1, 11, 22, 23] {
             breakings.push((
@@ -656,6 +677,7 @@ fn broken_states(chance: &mut Chance, player: &mut Player) {
         let mut meter = state(chance, mode);
         meter.attempts = 3;
         meter.counters = [999_999_999; 4];
+        meter.total = total_of(&meter.counters);
         for (year, month, day) in [(2000, 1, 1), (2099, 12, 31), (2000, 2, 29), (2099, 2, 28)] {
             meter.clock = Clock {
                 year,
@@ -789,6 +811,7 @@ fn rooms(chance: &mut Chance, player: &mut Player) {
 fn calendar(chance: &mut Chance, player: &mut Player) {
     let mut meter = state(chance, 4);
     meter.counters = [0; 4];
+    meter.total = 0;
     player.set(&meter);
     for year in 2000..=2099_u16 {
         for month in 1..=12 {
