@@ -92,6 +92,7 @@ static const struct field state[] = {
     STATE(NUMBER, "C3", registers.counters.zones[2]),
     STATE(NUMBER, "C4", registers.counters.zones[3]),
     STATE(BYTES, "TABLES", registers.tables),
+    STATE(NUMBER, "SPEED", speed),
 };
 
 /* ---- What a meter is made from: a row for each word of `new`. Those past NEEDED may be left out,

@@ -34,6 +34,7 @@ struct Shown {
     counters: &'static str,
     /// Table and row, where not all '1'.
     row: (usize, &'static str),
+    speed: u8,
 }
 
 /// The meter of these scripts, just made. Its date is a Thursday.
@@ -48,6 +49,7 @@ const MADE: Shown = Shown {
     clock: "2024 2 29 8 5 9",
     counters: "0 0 0 0",
     row: (1, ALL_ONES),
+    speed: 0,
 };
 
 const BLANK: Shown = Shown {
@@ -58,7 +60,11 @@ const BLANK: Shown = Shown {
     ..MADE
 };
 
-const PROGRAMMING: Shown = Shown { mode: 4, ..MADE };
+const PROGRAMMING: Shown = Shown {
+    mode: 4,
+    speed: 5,
+    ..MADE
+};
 
 fn hex(bytes: impl IntoIterator<Item = u8>) -> String {
     bytes
@@ -84,7 +90,7 @@ impl Shown {
             tables += &hex(if table == changed { row } else { ALL_ONES }.bytes());
         }
         format!(
-            "{} {count} {} {held} {} {} {} {} {} {} {tables}",
+            "{} {count} {} {held} {} {} {} {} {} {} {tables} {}",
             self.mode,
             self.mark,
             hex(self.serial.bytes()),
@@ -93,6 +99,7 @@ impl Shown {
             self.attempts,
             self.clock,
             self.counters,
+            self.speed,
         )
     }
 }
@@ -165,7 +172,7 @@ impl Fixed {
         self.wire(bytes, speed, 0, speed, "")
     }
 
-    /// A whole frame; what is said in modes 2 to 4 goes at speed 5.
+    /// A whole frame of a session at 9600 baud.
     fn frame(self, text: &str, number: u8, reply: &str) -> Fixed {
         self.send(text, 5, number, 5, reply)
     }
@@ -319,11 +326,19 @@ fn facts() -> Vec<Fixed> {
             .dump(MADE),
         Fixed::confirming("BCC of P0 (0000) is 60")
             .send("\x06051\r\n", 0, 1, 5, "\x01P0\x02(0000)\x03\x60")
-            .dump(Shown { mode: 2, ..MADE }),
+            .dump(Shown {
+                mode: 2,
+                speed: 5,
+                ..MADE
+            }),
         Fixed::asked("BCC of P1 () is 61, on the wire e1")
             .quiet("\x01P1\x02()\x03", 5)
             .line("byte e1", "1 5 1 06")
-            .dump(Shown { mode: 3, ..MADE }),
+            .dump(Shown {
+                mode: 3,
+                speed: 5,
+                ..MADE
+            }),
         Fixed::programming("table 01 in all '1' has BCC 06")
             .set(twos(1))
             .frame(&all_ones("01", "\x06"), 1, ACK)
@@ -351,6 +366,7 @@ fn facts() -> Vec<Fixed> {
         Fixed::reading("1,500 Wh in T1")
             .set(Shown {
                 mode: 3,
+                speed: 5,
                 counters: "1500 0 0 0",
                 ..MADE
             })
@@ -454,7 +470,11 @@ fn signing_on() -> Vec<Fixed> {
             .dump(MADE)
             .ask()
             .quiet_wire("0183", 5)
-            .dump(Shown { mode: 2, ..MADE }),
+            .dump(Shown {
+                mode: 2,
+                speed: 5,
+                ..MADE
+            }),
         Fixed::listening("a damaged '/' or LF does not count")
             .quiet_wire("af3f218d8a", 0)
             .dump(Shown {
@@ -504,7 +524,9 @@ fn confirming() -> Vec<Fixed> {
     vec![
         wrong("choice '2' is wrong", "\x06052\r\n"),
         wrong("choice '6' is wrong", "\x06056\r\n"),
-        wrong("speed '0' is wrong", "\x06001\r\n"),
+        wrong("speed '1' is wrong", "\x06011\r\n"),
+        wrong("speed '4' is wrong", "\x06041\r\n"),
+        wrong("speed '6' is wrong", "\x06061\r\n"),
         wrong("NAK in place of ACK is wrong", "\x15051\r\n"),
         wrong("LF CR is wrong", "\x06051\n\r"),
         wrong(
@@ -515,6 +537,25 @@ fn confirming() -> Vec<Fixed> {
             "six are collected whatever the first: SOH",
             "\x01\x01\x01\x01\x01\x01",
         ),
+        Fixed::confirming("a head that stays slow: its whole session at 300 baud")
+            .send("\x06001\r\n", 0, 1, 0, ASK_PASSWORD)
+            .dump(Shown { mode: 2, ..MADE })
+            .send(RIGHT, 0, 1, 0, ACK)
+            .dump(Shown { mode: 4, ..MADE })
+            .line("tick", "1 0")
+            .send("\x01B0\x03\x72", 0, 4, 0, NAK)
+            .send("\x01B0\x03\x71", 0, 1, 0, ACK)
+            .dump(Shown {
+                clock: "2024 2 29 8 5 10",
+                ..MADE
+            }),
+        Fixed::confirming("a slow head's wrong password: the NAK out of mode 2 at 300 baud")
+            .send("\x06001\r\n", 0, 1, 0, ASK_PASSWORD)
+            .send(WRONG, 0, 10, 0, NAK)
+            .dump(Shown {
+                attempts: 1,
+                ..MADE
+            }),
         Fixed::confirming("damage counts as one of the six, the first too")
             .wire("863035b18d0a", 0, 2, 0, "")
             .dump(MADE)
@@ -589,7 +630,11 @@ fn frames() -> Vec<Fixed> {
             .frame("\x01W1\x02\x03\x67", 8, NAK)
             .frame(NO_PASSWORD, 8, NAK)
             .frame("\x01R1\x02E5()\x03\x13", 9, NAK)
-            .dump(Shown { mode: 3, ..MADE }),
+            .dump(Shown {
+                mode: 3,
+                speed: 5,
+                ..MADE
+            }),
         Fixed::programming("P1 is not allowed while programming")
             .frame(NO_PASSWORD, 8, NAK)
             .frame(WRONG, 8, NAK)
@@ -681,6 +726,7 @@ fn passwords() -> Vec<Fixed> {
             .frame(NO_PASSWORD, 1, ACK)
             .dump(Shown {
                 mode: 3,
+                speed: 5,
                 ..failed(3)
             })
             .line("up", "1 0")
@@ -700,6 +746,7 @@ fn passwords() -> Vec<Fixed> {
             .frame(NO_PASSWORD, 1, ACK)
             .dump(Shown {
                 mode: 3,
+                speed: 5,
                 ..failed(1)
             })
             .line("silence", "1 0 0 -")
@@ -710,6 +757,7 @@ fn passwords() -> Vec<Fixed> {
 fn registers() -> Vec<Fixed> {
     let counted = Shown {
         mode: 3,
+        speed: 5,
         counters: "999999999 2 30 400",
         ..MADE
     };
@@ -767,6 +815,7 @@ fn registers() -> Vec<Fixed> {
         Fixed::reading("the total of four full counters")
             .set(Shown {
                 mode: 3,
+                speed: 5,
                 counters: "999999999 999999999 999999999 999999999",
                 ..MADE
             })
