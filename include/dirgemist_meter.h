@@ -77,10 +77,12 @@ struct dirgemist_registers {
     uint8_t tables[576];
 };
 
-/* Mode: 0 listening, 1 confirmation, 2 password, 3 read-only, 4 programming. */
+/* Mode: 0 listening, 1 confirmation, 2 password, 3 read-only, 4 programming. Speed: the identifier that
+ * the session was confirmed at, 0 (300 baud) or 5 (9600); 0 in modes 0 and 1. */
 struct dirgemist_meter {
     uint8_t mode;
     uint8_t attempts;
+    uint8_t speed;
     struct dirgemist_receiver receiver;
     struct dirgemist_registers registers;
 };

@@ -92,6 +92,7 @@ static const struct field state[] = {
     STATE(NUMBER, "C3", registers.counters.zones[2]),
     STATE(NUMBER, "C4", registers.counters.zones[3]),
     STATE(BYTES, "TABLES", registers.tables),
+    STATE(NUMBER, "SPEED", speed),
     STATE(NUMBER, "TOTAL", registers.counters.total),
 };
 

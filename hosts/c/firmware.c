@@ -26,7 +26,8 @@ _Static_assert(offsetof(struct dirgemist_registers, clock) == 28, "clock's place
 _Static_assert(offsetof(struct dirgemist_registers, counters) == 36, "counters' place");
 _Static_assert(offsetof(struct dirgemist_registers, tables) == 56, "tables' place");
 _Static_assert(sizeof(struct dirgemist_registers) == 632, "registers");
-_Static_assert(offsetof(struct dirgemist_meter, receiver) == 2, "receiver's place");
+_Static_assert(offsetof(struct dirgemist_meter, speed) == 2, "speed's place");
+_Static_assert(offsetof(struct dirgemist_meter, receiver) == 3, "receiver's place");
 _Static_assert(offsetof(struct dirgemist_meter, registers) == 68, "registers' place");
 _Static_assert(sizeof(struct dirgemist_meter) == 700, "meter");
 
@@ -56,7 +57,7 @@ static uint8_t filled[ROOM];
 /* Whether two records hold the same state; what lies between the fields is not looked at. */
 static int same(const struct dirgemist_meter *a, const struct dirgemist_meter *b) {
 #define SAME(field) (memcmp(&a->field, &b->field, sizeof a->field) == 0)
-    return SAME(mode) && SAME(attempts) && SAME(receiver) && SAME(registers.facts.serial)
+    return SAME(mode) && SAME(attempts) && SAME(speed) && SAME(receiver) && SAME(registers.facts.serial)
            && SAME(registers.account) && SAME(registers.facts.password) && SAME(registers.clock.date)
            && SAME(registers.clock.time) && SAME(registers.counters) && SAME(registers.tables);
 #undef SAME
@@ -195,11 +196,30 @@ static void talks(struct dirgemist_meter *meter) {
     expect(same(meter, &kept), "everything but row 24 is as it was");
 }
 
+/* A head that stays slow: its session, from the confirmation to the ACK of the good-bye, goes at 300 baud. */
+static void talks_slowly(struct dirgemist_meter *meter) {
+    struct dirgemist_meter kept = *meter;
+    SAY(meter, "sign-on", "/?!\r\n", 1, "/ZZZ5SUB-VP01.00*\r\n", 0);
+    SAY(meter, "a digit that is no speed", "\006" "011\r\n", 2, "", 0);
+    SAY(meter, "sign-on again", "/?!\r\n", 1, "/ZZZ5SUB-VP01.00*\r\n", 0);
+    SAY(meter, "slow confirmation", "\006" "001\r\n", 1, "\001P0\002(0000)\003\x60", 0);
+    expect(meter->mode == 2 && meter->speed == 0, "waits for the password at 300 baud");
+    SAY(meter, "password", "\001P1\002(20304050)\003\x61", 1, "\006", 0);
+    expect(meter->mode == 4 && meter->speed == 0, "programs at 300 baud");
+    SAY(meter, "a wrong BCC", "\001W1\002Z(01;222222222222222222222222)\003\007", 4, "\x15", 0);
+    SAY(meter, "good-bye", "\001B0\003\x71", 1, "\006", 0);
+    expect(same(meter, &kept), "a slow session that wrote nothing changes nothing");
+    meter->speed = 5;
+    expect(dirgemist_meter_check(meter) == 14, "no speed but 0 where it listens");
+    meter->speed = 0;
+}
+
 /* Silence in each mode, seconds over the end of a month, a zone for each hour, power-up. */
 static void passes(struct dirgemist_meter *meter) {
     struct dirgemist_meter before = *meter;
     for (uint8_t mode = 0; mode <= 4; mode++) {
         meter->mode = mode;
+        meter->speed = mode < 3 ? 0 : 5;
         uint8_t number = dirgemist_meter_silence(meter, reply, ROOM, length, speed);
         expect(number == (mode == 0 ? 0 : 1) && meter->mode == 0 && *speed == 0, "silence");
         expect(*length == (mode == 1 ? 1 : 0) && (mode != 1 || reply[0] == with_parity(0x15)),
@@ -209,10 +229,12 @@ static void passes(struct dirgemist_meter *meter) {
     }
     for (int second = 0; second < 54 * 60 + 51; second++) {
         meter->mode = second % 5;
-        expect(dirgemist_meter_tick(meter, speed) == 1 && *speed == (second % 5 < 2 ? 0 : 5), "tick");
+        meter->speed = second % 5 < 2 || second % 2 ? 0 : 5;
+        expect(dirgemist_meter_tick(meter, speed) == 1 && *speed == meter->speed, "tick");
         calls++;
     }
     meter->mode = 0;
+    meter->speed = 0;
     before.registers.clock = (struct dirgemist_clock){{2024, 3, 1}, {0, 0, 0}};
     expect(same(meter, &before), "the first of March, midnight");
     /* A Friday: table 3, whose first two hours are now zones 1 and 2. */
@@ -222,6 +244,7 @@ static void passes(struct dirgemist_meter *meter) {
     expect(dirgemist_meter_pulse(meter, 1000000, speed) == 1, "the largest pulse, in zone 2");
     expect(dirgemist_meter_pulse(meter, 0, speed) == 1, "a pulse of nothing");
     meter->mode = 3;
+    meter->speed = 5;
     SAY(meter, "zone 1", "\001R1\002E1()\003\x17", 1, "\00215.8.1(001001.499*kWh)\r\n\003\x6c", 5);
     SAY(meter, "zone 2", "\001R1\002E2()\003\x14", 1, "\00215.8.2(001000.000*kWh)\r\n\003\x6a", 5);
     meter->attempts = 3;
@@ -300,6 +323,9 @@ static int is_formed(const struct dirgemist_meter *meter) {
     if (meter->mode > 4 || meter->attempts > 3 || held->count > most[meter->mode] || mark > 1) {
         return 0;
     }
+    if (meter->speed != 0 && (meter->speed != 5 || meter->mode < 2)) {
+        return 0;
+    }
     if (held->count == 0 ? mark : meter->mode != 1 && held->held[0] != first[meter->mode]) {
         return 0;
     }
@@ -371,6 +397,7 @@ int main(void) {
     long formed = 0;
     makes(meter);
     talks(meter);
+    talks_slowly(meter);
     passes(meter);
     refuses(meter);
     takes_anything(meter, &formed);

@@ -149,7 +149,7 @@ static void put_written(uint8_t answer, size_t beside, size_t length) {
 
 BUILD(any, dirgemist_head_sign_on(out, room, length))
 BUILD(serial, dirgemist_head_sign_on_to(T(1), out, room, length))
-BUILD(confirm, dirgemist_head_confirm(N(1), out, room, length))
+BUILD(confirm, dirgemist_head_confirm(N(1), N(2), out, room, length))
 BUILD(readonly, dirgemist_head_enter(out, room, length))
 BUILD(password, dirgemist_head_password(T(1), out, room, length))
 BUILD(clock_asked, dirgemist_head_read_clock(out, room, length))
@@ -278,7 +278,7 @@ static void mercury_read(const struct given *g) {
 static const struct call calls[] = {
     {"build", "any", 1, {ROOM}, any},
     {"build", "serial", 2, {ROOM, TEXT}, serial},
-    {"build", "confirm", 2, {ROOM, BYTE}, confirm},
+    {"build", "confirm", 3, {ROOM, BYTE, BYTE}, confirm},
     {"build", "readonly", 1, {ROOM}, readonly},
     {"build", "password", 2, {ROOM, TEXT}, password},
     {"build", "clock", 1, {ROOM}, clock_asked},

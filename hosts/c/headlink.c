@@ -171,7 +171,10 @@ static void try_numbered_commands(void) {
         char text[64];
         int size = sprintf(text, "\006" "05%c\r\n", c);
         int good = c == '0' || c == '1' || c == '7';
-        BUILDS(good ? text : NULL, (size_t)size, dirgemist_head_confirm((uint8_t)c, out, room, length));
+        BUILDS(good ? text : NULL, (size_t)size, dirgemist_head_confirm('5', (uint8_t)c, out, room, length));
+        size = sprintf(text, "\006" "0%c1\r\n", c);
+        good = c == '0' || c == '5';
+        BUILDS(good ? text : NULL, (size_t)size, dirgemist_head_confirm((uint8_t)c, '1', out, room, length));
         size = sprintf(text, "\001R1\002E%d()\003", c);
         BUILDS(c >= 1 && c <= 4 ? text : NULL, (size_t)size, dirgemist_head_read_zone((uint8_t)c, out, room, length));
         size = sprintf(text, "\001R1\002Z(%02d)\003", c);

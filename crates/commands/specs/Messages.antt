@@ -1,11 +1,11 @@
 -- Document 01, "The head": everything that the head says.
-use mathlib.Core.Bool.{Bool, true}
+use mathlib.Core.Bool.{Bool, true, _&&_}
 use mathlib.Core.List.{List}
 use Prim.Native.Nat.{ℕ}
 use Rattle.values.specs.Registers.{goodSerial}
 use Rattle.frames.specs.Frames.{bareFrame}
 use Rattle.frames.specs.Commands.{B0}
-use Rattle.frames.specs.Session.{signOn, signOnTo, confirmation}
+use Rattle.frames.specs.Session.{signOn, signOnTo, confirmation, goodSpeed}
 use Rattle.commands.specs.Building.{goodChoice}
 use Rattle.commands.specs.Spoken.{Command, goodFields, spoken}
 
@@ -13,7 +13,7 @@ use Rattle.commands.specs.Spoken.{Command, goodFields, spoken}
 pub data Message : Type 0 where
   call : Message
   callTo : List ℕ → Message
-  confirm : ℕ → Message
+  confirm : ℕ → ℕ → Message
   command : Command → Message
   leave : Message
 
@@ -21,7 +21,7 @@ pub data Message : Type 0 where
 unfoldable pub textOf : Message → List ℕ
 textOf call = signOn
 textOf (callTo serial) = signOnTo serial
-textOf (confirm y) = confirmation y
+textOf (confirm v y) = confirmation v y
 textOf (command c) = spoken c
 textOf leave = bareFrame B0
 
@@ -29,6 +29,6 @@ textOf leave = bareFrame B0
 unfoldable pub goodMessage : ℕ → Message → Bool
 goodMessage tables call = true
 goodMessage tables (callTo serial) = goodSerial serial
-goodMessage tables (confirm y) = goodChoice y
+goodMessage tables (confirm v y) = goodSpeed v && goodChoice y
 goodMessage tables (command c) = goodFields tables c
 goodMessage tables leave = true

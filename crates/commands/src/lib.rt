@@ -11,7 +11,7 @@ ghost use Rattle.values.specs.Registers.{goodSerial, goodPassword, goodAccount,
 ghost use Rattle.values.specs.Texts.{serialText, tableText, clockText};
 ghost use Rattle.frames.specs.Frames.{sealed, frameOf, bareFrame, onWire};
 ghost use Rattle.frames.specs.Commands.{B0, P1, R1, W1, askClock, askSerial, askAccount, askEnergy, askTable, setClock, setAccount, setTable};
-ghost use Rattle.frames.specs.Session.{signOn, signOnTo, confirmation, enterData, passwordData};
+ghost use Rattle.frames.specs.Session.{signOn, signOnTo, confirmation, goodSpeed, enterData, passwordData};
 ghost use Rattle.commands.specs.Building.{goodChoice, Builds, Room, Small, Made};
 use clock::Clock;
 use values::TableNo;
@@ -127,18 +127,19 @@ pub fn sign_on_to(buf: &mut [u8], serial: &[u8]) -> Built
     line_of(buf, b"/?", &shown_serial(serial), b"!\r\n")
 }
 
-// The confirmation, at 9600 baud, with the character '0', '1' or '7'.
-pub fn confirm(buf: &mut [u8], choice: u8) -> Built
-    ensures { λ r. ⌜ Builds (now (buf .entry)) (goodChoice choice) (onWire (confirmation choice)) r (now (buf .exit)) ⌝ }
+// The confirmation, with the character '0' (300 baud) or '5' (9600) as speed, and with '0', '1' or '7'.
+pub fn confirm(buf: &mut [u8], speed: u8, choice: u8) -> Built
+    ensures { λ r. ⌜ Builds (now (buf .entry)) (goodSpeed speed && goodChoice choice) (onWire (confirmation speed choice)) r (now (buf .exit)) ⌝ }
 {
     if buf.len() < ROOM {
         return short();
     }
-    let good = ((choice == b'0') | (choice == b'1')) | (choice == b'7');
+    let slow_or_fast = (speed == b'0') | (speed == b'5');
+    let good = slow_or_fast & (((choice == b'0') | (choice == b'1')) | (choice == b'7'));
     if !good {
         return refused();
     }
-    line_of(buf, b"\x0605", &[choice], b"\r\n")
+    line_of(buf, b"\x060", &[speed, choice], b"\r\n")
 }
 
 // P1 with empty brackets: reading only.

@@ -82,15 +82,15 @@ unfolding acknowledgements
 count-append [] b = omega arith
 count-append (x ∷ a) b = omega (arith, count-append a b)
 
-frame-count : acknowledgements (replicate 35 nothing ++ (acknowledgement ∷ [])) ≡ 1
+frame-count : (speed : ℕ) → acknowledgements (replicate 35 (nothing speed) ++ (acknowledgement speed ∷ [])) ≡ 1
 unfolding acknowledgements isDone
-frame-count = refl
+frame-count speed = refl
 
-pub count-once : (es : List Entry) → acknowledgements (acknowledgedOnce es) ≡ length es
+pub count-once : (speed : ℕ) (es : List Entry) → acknowledgements (acknowledgedOnce speed es) ≡ length es
 unfolding acknowledgedOnce
-count-once [] = unfold acknowledgements in refl
-count-once (e ∷ es) =
-    count-append (replicate 35 nothing ++ (acknowledgement ∷ [])) (acknowledgedOnce es) ∙ ap₂ _+_ frame-count (count-once es) ∙ omega arith
+count-once speed [] = unfold acknowledgements in refl
+count-once speed (e ∷ es) =
+    count-append (replicate 35 (nothing speed) ++ (acknowledgement speed ∷ [])) (acknowledgedOnce speed es) ∙ ap₂ _+_ (frame-count speed) (count-once speed es) ∙ omega arith
 
 -- what the export's answer comes to
 module _ (m : Meter) (text out : List ℕ) (number size place : ℕ) (after : List ℕ) (room : 864 ≤ length out) where
@@ -116,7 +116,7 @@ module _ (m : Meter) (text out : List ℕ) (number size place : ℕ) (after : Li
         no-place = refl;
         counted = count;
         fed = fed;
-        each = λ r. count ∙ ap acknowledgements (entries-fed m r (p .entries) (good-rising tables (p .entries) (p .good)) .said-is) ∙ count-once (p .entries);
+        each = λ r. count ∙ ap acknowledgements (entries-fed m r (p .entries) (good-rising tables (p .entries) (p .good)) .said-is) ∙ count-once (m .speed) (p .entries);
         delivered =
             λ r.
             subst (λ (y : Meter). Delivered m (p .entries) (answered m full (framesOf (p .entries))) y) (sym fed)

@@ -34,19 +34,19 @@ use Rattle.delivery.proofs.Frames.{frames-fed}
 use Rattle.delivery.proofs.Rows.{others-kept, named-held}
 
 module _ (m : Meter) (r : Ready m) where
-  ready-is : m ≡ idle 4 (m .attempts) (m .registers)
-  ready-is = idle-is m (r .formed) (r .empty) ∙ ap (λ (n : ℕ). idle n (m .attempts) (m .registers)) (r .mode)
+  ready-is : m ≡ idle 4 (m .attempts) (m .speed) (m .registers)
+  ready-is = idle-is m (r .formed) (r .empty) ∙ ap (λ (n : ℕ). idle n (m .attempts) (m .speed) (m .registers)) (r .mode)
 
-  fit-four : Fit 4 (m .attempts) (m .registers)
+  fit-four : Fit 4 (m .attempts) (m .speed) (m .registers)
   fit-four = rw (r .mode) at (fit-is m (r .formed))
 
   -- the state after the frames of good entries, as one definition
-  pub entries-fed : (es : List Entry) → rising tables 0 es ≡ true → Fed m (framesOf es) (acknowledgedOnce es) (deliveredTo m es)
+  pub entries-fed : (es : List Entry) → rising tables 0 es ≡ true → Fed m (framesOf es) (acknowledgedOnce (m .speed) es) (deliveredTo m es)
   entries-fed es h =
-      subst (λ (x : Meter). Fed x (framesOf es) (acknowledgedOnce es) (deliveredTo x es)) (sym ready-is)
-      (frames-fed (m .attempts) (m .registers) 0 es fit-four h)
+      subst (λ (x : Meter). Fed x (framesOf es) (acknowledgedOnce (m .speed) es) (deliveredTo x es)) (sym ready-is)
+      (frames-fed (m .attempts) (m .speed) (m .registers) 0 es fit-four h)
 
-  entries-delivered : (es : List Entry) → rising tables 0 es ≡ true → Delivered m es (acknowledgedOnce es) (deliveredTo m es)
+  entries-delivered : (es : List Entry) → rising tables 0 es ≡ true → Delivered m es (acknowledgedOnce (m .speed) es) (deliveredTo m es)
   unfolding goodTable between
   entries-delivered es h =
       record {
@@ -62,9 +62,9 @@ module _ (m : Meter) (r : Ready m) where
   delivery text p rooms room =
       let es = p .entries in
       let h = good-rising tables es (p .good) in
-      let f = fed-in m rooms (framesOf es) (acknowledgedOnce es) (deliveredTo m es) room (entries-fed es h) in
+      let f = fed-in m rooms (framesOf es) (acknowledgedOnce (m .speed) es) (deliveredTo m es) room (entries-fed es h) in
       subst (λ (s : List Said). Delivered m es s (left m rooms (framesOf es))) (sym (f .0))
-      (subst (λ (x : Meter). Delivered m es (acknowledgedOnce es) x) (sym (f .1)) (entries-delivered es h))
+      (subst (λ (x : Meter). Delivered m es (acknowledgedOnce (m .speed) es) x) (sym (f .1)) (entries-delivered es h))
 
 length-frames : (above : ℕ) (es : List Entry) → rising tables above es ≡ true → length (framesOf es) ≡ 36 * length es
 unfolding framesOf entryFrame

@@ -15,7 +15,6 @@ use Rattle.state.specs.Sizes.{tables}
 use Rattle.state.specs.declared.Registers.{Registers}
 use Rattle.state.proofs.Parts.{formed-registers, registers-good}
 use Rattle.state.specs.Setting.{withTables, withRow, rowStart}
-use Rattle.meter.specs.Outcomes.{speedOf}
 use Rattle.post.specs.Grammar.{Entry, goodEntry, rising}
 use Rattle.post.proofs.Lines.{row-length, row-zones}
 use Rattle.post.proofs.Reading.{rising-rest, rising-row}
@@ -33,12 +32,13 @@ use Rattle.delivery.proofs.Rows.{tables-stay-good}
 abbrev pub rowIn : Registers → ℕ → List ℕ → Registers
 rowIn g n row = withTables g (withRow (g .tables) n row)
 
-still-fit : (a : ℕ) (g : Registers) (n : ℕ) (row : List ℕ) → Fit 4 a g → goodRow row ≡ true → Fit 4 a (rowIn g n row)
-still-fit a g n row fit good =
+still-fit : (a s : ℕ) (g : Registers) (n : ℕ) (row : List ℕ) → Fit 4 a s g → goodRow row ≡ true → Fit 4 a s (rowIn g n row)
+still-fit a s g n row fit good =
     let f = formed-registers g (fit .registers) in
     record {
       known = fit .known;
       attempts = fit .attempts;
+      speed = fit .speed;
       registers =
           registers-good (rowIn g n row)
           (record {
@@ -51,23 +51,23 @@ still-fit a g n row fit good =
     }
 
 -- one frame: the head's command that sets the table
-frame-fed : (a : ℕ) (g : Registers) → Fit 4 a g → (n : ℕ) (row : List ℕ) → goodTable tables n ≡ true → goodRow row ≡ true
-    → Fed (idle 4 a g) (onWire (frameOf W1 (setTable n row))) (replicate 35 nothing ++ (acknowledgement ∷ [])) (idle 4 a (rowIn g n row))
-unfolding textOf spoken lettersOf dataOf goodMessage goodFields allowedIn allowedAt sameText matching outcomeOf obeyed speedOf
-frame-fed a g fit n row good-n good =
+frame-fed : (a s : ℕ) (g : Registers) → Fit 4 a s g → (n : ℕ) (row : List ℕ) → goodTable tables n ≡ true → goodRow row ≡ true
+    → Fed (idle 4 a s g) (onWire (frameOf W1 (setTable n row))) (replicate 35 (nothing s) ++ (acknowledgement s ∷ [])) (idle 4 a s (rowIn g n row))
+unfolding textOf spoken lettersOf dataOf goodMessage goodFields allowedIn allowedAt sameText matching outcomeOf obeyed
+frame-fed a s g fit n row good-n good =
     let long = length-table-frame n row (row-length row good) in
-    let fed = message-fed 4 a g (command (writeTable n row)) fit (and-both (goodTable tables n) (goodRow row) good-n good) refl in
-    subst (λ (k : ℕ). Fed (idle 4 a g) (onWire (frameOf W1 (setTable n row))) (replicate k nothing ++ (acknowledgement ∷ [])) (idle 4 a (rowIn g n row))) {x = length (frameOf W1 (setTable n row)) - 1} {y = 35} (omega arith) fed
+    let fed = message-fed 4 a s g (command (writeTable n row)) fit (and-both (goodTable tables n) (goodRow row) good-n good) refl in
+    subst (λ (k : ℕ). Fed (idle 4 a s g) (onWire (frameOf W1 (setTable n row))) (replicate k (nothing s) ++ (acknowledgement s ∷ [])) (idle 4 a s (rowIn g n row))) {x = length (frameOf W1 (setTable n row)) - 1} {y = 35} (omega arith) fed
 
 -- all the frames, in order
-pub frames-fed : (a : ℕ) (g : Registers) (above : ℕ) (es : List Entry) → Fit 4 a g → rising tables above es ≡ true
-    → Fed (idle 4 a g) (framesOf es) (acknowledgedOnce es) (idle 4 a (withTables g (rowsAfter (g .tables) es)))
+pub frames-fed : (a s : ℕ) (g : Registers) (above : ℕ) (es : List Entry) → Fit 4 a s g → rising tables above es ≡ true
+    → Fed (idle 4 a s g) (framesOf es) (acknowledgedOnce s es) (idle 4 a s (withTables g (rowsAfter (g .tables) es)))
 unfolding framesOf entryFrame acknowledgedOnce rowsAfter rising goodEntry
-frames-fed a g above [] fit h = fed-none (idle 4 a g)
-frames-fed a g above (e ∷ es) fit h =
+frames-fed a s g above [] fit h = fed-none (idle 4 a s g)
+frames-fed a s g above (e ∷ es) fit h =
     let good = rising-row 24 above e es h in
     let good-n = and-left (goodTable tables (e .number)) (goodRow (e .row)) (and-left (goodEntry 24 e) _ h) in
     let next = rowIn g (e .number) (e .row) in
-    fed-append (idle 4 a g) (entryFrame e) (framesOf es) (replicate 35 nothing ++ (acknowledgement ∷ [])) (acknowledgedOnce es) (idle 4 a next)
-    (idle 4 a (withTables g (rowsAfter (g .tables) (e ∷ es)))) (frame-fed a g fit (e .number) (e .row) good-n good)
-    (frames-fed a next (e .number) es (still-fit a g (e .number) (e .row) fit good) (rising-rest 24 above e es h))
+    fed-append (idle 4 a s g) (entryFrame e) (framesOf es) (replicate 35 (nothing s) ++ (acknowledgement s ∷ [])) (acknowledgedOnce s es) (idle 4 a s next)
+    (idle 4 a s (withTables g (rowsAfter (g .tables) (e ∷ es)))) (frame-fed a s g fit (e .number) (e .row) good-n good)
+    (frames-fed a s next (e .number) es (still-fit a s g (e .number) (e .row) fit good) (rising-rest 24 above e es h))

@@ -18,18 +18,18 @@ unfoldable pub acknowledgements : List Said → ℕ
 acknowledgements [] = 0
 acknowledgements (s ∷ ss) = isDone (s .number) + acknowledgements ss
 
--- taken, nothing to say, in modes 2 to 4
-abbrev pub nothing : Said
-nothing = record { number = 0; speed = 5; reply = [] }
+-- taken, nothing to say, at the session's speed
+abbrev pub nothing : ℕ → Said
+nothing speed = record { number = 0; speed = speed; reply = [] }
 
--- answer 1 and ACK, at speed 5
-abbrev pub acknowledgement : Said
-acknowledgement = record { number = 1; speed = 5; reply = accepted }
+-- answer 1 and ACK, at the session's speed
+abbrev pub acknowledgement : ℕ → Said
+acknowledgement speed = record { number = 1; speed = speed; reply = accepted }
 
 -- a frame of 36 bytes: nothing at each but the last, which is acknowledged
-unfoldable pub acknowledgedOnce : List Entry → List Said
-acknowledgedOnce [] = []
-acknowledgedOnce (e ∷ es) = (replicate 35 nothing ++ (acknowledgement ∷ [])) ++ acknowledgedOnce es
+unfoldable pub acknowledgedOnce : ℕ → List Entry → List Said
+acknowledgedOnce speed [] = []
+acknowledgedOnce speed (e ∷ es) = (replicate 35 (nothing speed) ++ (acknowledgement speed ∷ [])) ++ acknowledgedOnce speed es
 
 -- the tables with each entry's row put in its place
 unfoldable pub rowsAfter : List ℕ → List Entry → List ℕ

@@ -17,15 +17,15 @@ use Rattle.export.specs.Frames.{framesOf}
 use Rattle.dialogue.specs.Feeding.{Said, answered, left, full}
 use Rattle.delivery.specs.Acknowledged.{acknowledgements, acknowledgedOnce}
 
--- well-formed, in programming mode, with an empty receiver
+-- well-formed, in programming mode, at either speed, with an empty receiver
 pub record Ready (m : Meter) : Type 0 where
   pub formed : wellFormed m ≡ true
   pub mode : m .mode ≡ 4
   pub empty : m .receiver .count ≡ 0
 
--- each command is acknowledged once; each named table holds its posted row; every other table, and every other part of the state, is as before
+-- each command is acknowledged once, at the meter's speed; each named table holds its posted row; every other table, and every other part of the state, is as before
 pub record Delivered (m : Meter) (es : List Entry) (said : List Said) (after : Meter) : Type 0 where
-  pub acknowledged : said ≡ acknowledgedOnce es
+  pub acknowledged : said ≡ acknowledgedOnce (m .speed) es
   pub named : (e : Entry) → List·Memᴰ e es → rowOf (after .registers .tables) (e .number) ≡ e .row
   pub others : (n : ℕ) → goodTable tables n ≡ true → ((e : Entry) → List·Memᴰ e es → e .number ≡ n → ⊥)
       → rowOf (after .registers .tables) n ≡ rowOf (m .registers .tables) n

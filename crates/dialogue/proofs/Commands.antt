@@ -98,14 +98,14 @@ row-given : (n : ℕ) (row zs : List ℕ) → goodRow row ≡ true → take rowL
 unfolding lettersOf dataOf setTable bracketed tableText layoutText decimal
 row-given n row zs h = given row rowLength zs (row-long row h)
 
-module _ (mode a : ℕ) (g : Registers) where
+module _ (mode a s : ℕ) (g : Registers) where
   -- and it does what the command says
-  pub command-done : (c : Command) → goodFields editionTables c ≡ true → acted (holding mode a g 1 (bodyOf c ++ (3 ∷ []))) (decidedAs c) ≡ obeyed (idle mode a g) c
+  pub command-done : (c : Command) → goodFields editionTables c ≡ true → acted (holding mode a s g 1 (bodyOf c ++ (3 ∷ []))) (decidedAs c) ≡ obeyed (idle mode a s g) c
   unfolding acted decidedAs obeyed goodFields
   command-done enter h = refl
   command-done (password p) h =
       unfold tried triedWith in
-      ap (λ (x : List ℕ). cond (eqb a 3) (nak 11 (idle mode a g)) (cond (sameText x (g .facts .password)) (ack (idle 4 0 g)) (nak 10 (idle mode (a + 1) g))))
+      ap (λ (x : List ℕ). cond (eqb a 3) (nak 11 (idle mode a s g)) (cond (sameText x (g .facts .password)) (ack s (idle 4 0 s g)) (nak 10 (idle mode (a + 1) s g))))
       (password-given p (spare (bodyOf (password p))) h)
   command-done readClock h = refl
   command-done readSerial h = refl
@@ -114,10 +114,10 @@ module _ (mode a : ℕ) (g : Registers) where
   command-done (readZone n) h = refl
   command-done (readTable n) h = refl
   command-done (writeClock c) h = refl
-  command-done (writeAccount x) h = ap (λ (x : List ℕ). ack (idle mode a (withAccount g x))) (account-given x (spare (bodyOf (writeAccount x))) h)
+  command-done (writeAccount x) h = ap (λ (x : List ℕ). ack s (idle mode a s (withAccount g x))) (account-given x (spare (bodyOf (writeAccount x))) h)
   command-done (writeTable n row) h =
       rw (and-left (goodTable editionTables n) (goodRow row) h)
-      (ap (λ (x : List ℕ). ack (idle mode a (withTables g (withRow (g .tables) n x))))
+      (ap (λ (x : List ℕ). ack s (idle mode a s (withTables g (withRow (g .tables) n x))))
       (row-given n row (spare (bodyOf (writeTable n row))) (and-right (goodTable editionTables n) (goodRow row) h)))
 
 -- a command is allowed in no mode below 2
@@ -147,10 +147,10 @@ pub body-long : (c : Command) → length (bodyOf c) ≡ length (dataOf c) + 3
 body-long c = omega (arith, letters-two c, length-append (lettersOf c) (2 ∷ dataOf c))
 
 -- given byte by byte, it is taken at its last byte
-pub command-fed : (mode a : ℕ) (g : Registers) (c : Command) → Fit mode a g → goodFields editionTables c ≡ true → allowedAt c mode ≡ true
-    → Fed (idle mode a g) (onWire (spoken c)) (atLast (suc (suc (length (bodyOf c)))) mode (saidIn (obeyed (idle mode a g) c))) (obeyed (idle mode a g) c .next)
+pub command-fed : (mode a s : ℕ) (g : Registers) (c : Command) → Fit mode a s g → goodFields editionTables c ≡ true → allowedAt c mode ≡ true
+    → Fed (idle mode a s g) (onWire (spoken c)) (atLast (suc (suc (length (bodyOf c)))) s (saidIn (obeyed (idle mode a s g) c))) (obeyed (idle mode a s g) c .next)
 unfolding spoken frameOf
-command-fed mode a g c fit h k =
+command-fed mode a s g c fit h k =
     let d = command-decided c mode h k in
-    frame-fed mode a g fit (allowed-low c mode k) (bodyOf c) (body-plain c h) (omega (arith, body-long c, data-short editionTables c h)) (obeyed (idle mode a g) c)
-    (ap (acted (holding mode a g 1 (bodyOf c ++ (3 ∷ [])))) d ∙ command-done mode a g c h)
+    frame-fed mode a s g fit (allowed-low c mode k) (bodyOf c) (body-plain c h) (omega (arith, body-long c, data-short editionTables c h)) (obeyed (idle mode a s g) c)
+    (ap (acted (holding mode a s g 1 (bodyOf c ++ (3 ∷ [])))) d ∙ command-done mode a s g c h)

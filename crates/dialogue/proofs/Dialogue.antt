@@ -5,23 +5,25 @@ use mathlib.Core.List.{List, [], _∷_, _++_}
 use Prim.Native.Nat.{ℕ, suc, _-_, _≤_}
 use native.Mathlib.Omega.{arith}
 use borrow.Author.Tests.{eqb-true, le-ltb}
-use lib.Dec.{eqb}
+use lib.Dec.{eqb, lit≤}
 use lib.ListN.{length, take, drop, replicate, length-append, length-map}
 use lib.Seq.{take-append-seam}
 use Rattle.line.specs.Characters.{sent}
 use Rattle.line.specs.Checksum.{bccOf}
+use Rattle.line.proofs.Runs.{and-left, and-right}
 use Rattle.text.specs.Classes.{sameText}
 use Rattle.text.specs.Writing.{holding}
 use Rattle.values.specs.Edition.{editionTables}
 use Rattle.values.specs.Texts.{serialText}
 use Rattle.values.proofs.Rules.{digits-long, serial-text-long}
 use Rattle.frames.specs.Frames.{closed, frameOf, bareFrame, onWire}
-use Rattle.frames.specs.Session.{signOn, signOnTo, confirmation}
+use Rattle.frames.specs.Session.{signOn, signOnTo, confirmation, goodSpeed}
 use Rattle.state.specs.declared.Registers.{Registers}
 use Rattle.state.specs.declared.Meter.{Meter}
+use Rattle.state.proofs.Parts.{slow-low}
 use Rattle.meter.specs.Outcomes.{Outcome}
 use Rattle.commands.specs.declared.Built.{Built}
-use Rattle.commands.specs.Building.{builtIn, keptOr, Builds}
+use Rattle.commands.specs.Building.{goodChoice, builtIn, keptOr, Builds}
 use Rattle.commands.specs.Spoken.{Command, enter, password, readClock, readSerial, readAccount, readTotal, readZone, readTable, writeClock, writeAccount, writeTable, spoken}
 use Rattle.dialogue.specs.Feeding.{saidIn, atLast}
 use Rattle.commands.specs.Messages.{Message, call, callTo, confirm, command, leave, textOf, goodMessage}
@@ -33,7 +35,7 @@ use Rattle.dialogue.proofs.Session.{call-fed, call-to-fed, confirm-fed,
 
 -- nothing at each byte but the last, and there what the message comes to
 abbrev pub FedAs : Meter → Message → Type 0
-FedAs m x = Fed m (onWire (textOf x)) (atLast (length (textOf x) - 1) (m .mode) (saidIn (outcomeOf m x))) (outcomeOf m x .next)
+FedAs m x = Fed m (onWire (textOf x)) (atLast (length (textOf x) - 1) (m .speed) (saidIn (outcomeOf m x))) (outcomeOf m x .next)
 
 long-to : (s : List ℕ) → length s ≡ 10 → length (signOnTo s) - 1 ≡ 15
 unfolding signOnTo
@@ -46,35 +48,43 @@ long-command c =
     omega (arith, length-append b (3 ∷ []), length-append (b ++ (3 ∷ [])) (bccOf (b ++ (3 ∷ [])) ∷ []))
 
 -- in the one mode that allows it
-at-mode : (mode n a : ℕ) (g : Registers) (x : Message) → eqb mode n ≡ true → FedAs (idle n a g) x → FedAs (idle mode a g) x
-at-mode mode n a g x e f = subst (λ (k : ℕ). FedAs (idle k a g) x) (sym (eqb-true mode n e)) f
+at-mode : (mode n a s : ℕ) (g : Registers) (x : Message) → eqb mode n ≡ true → FedAs (idle n a s g) x → FedAs (idle mode a s g) x
+at-mode mode n a s g x e f = subst (λ (k : ℕ). FedAs (idle k a s g) x) (sym (eqb-true mode n e)) f
 
-now-fit : (mode n a : ℕ) (g : Registers) → eqb mode n ≡ true → Fit mode a g → Fit n a g
-now-fit mode n a g e f = subst (λ (k : ℕ). Fit k a g) (eqb-true mode n e) f
+-- and in modes 0 and 1 the speed is 0
+at-low : (mode n a s : ℕ) (g : Registers) (x : Message) → n ≤ 1 → eqb mode n ≡ true → Fit mode a s g → (Fit n a 0 g → FedAs (idle n a 0 g) x) → FedAs (idle mode a s g) x
+at-low mode n a s g x low e fit f =
+    let here : Fit n a s g = subst (λ (k : ℕ). Fit k a s g) (eqb-true mode n e) fit in
+    let slow : s ≡ 0 = slow-low n s low (here .speed) in
+    at-mode mode n a s g x e (subst (λ (k : ℕ). FedAs (idle n a k g) x) (sym slow) (f (subst (λ (k : ℕ). Fit n a k g) slow here)))
 
-pub message-fed : (mode a : ℕ) (g : Registers) (x : Message) → Fit mode a g → goodMessage editionTables x ≡ true → allowedIn x mode ≡ true → FedAs (idle mode a g) x
+pub message-fed : (mode a s : ℕ) (g : Registers) (x : Message) → Fit mode a s g → goodMessage editionTables x ≡ true → allowedIn x mode ≡ true → FedAs (idle mode a s g) x
 unfolding textOf goodMessage allowedIn
-message-fed mode a g call fit h k = at-mode mode 0 a g call k (unfold signOn in call-fed a g (now-fit mode 0 a g k fit))
-message-fed mode a g (callTo s) fit h k =
-    at-mode mode 0 a g (callTo s) k
-    (subst (λ (n : ℕ). Fed (idle 0 a g) (onWire (signOnTo s)) (atLast n 0 (saidIn (outcomeOf (idle 0 a g) (callTo s)))) (outcomeOf (idle 0 a g) (callTo s) .next))
-    (sym (long-to s (digits-long 10 s h))) (call-to-fed a g (now-fit mode 0 a g k fit) s h))
-message-fed mode a g (confirm y) fit h k = at-mode mode 1 a g (confirm y) k (unfold confirmation in confirm-fed a g (now-fit mode 1 a g k fit) y h)
-message-fed mode a g (command c) fit h k =
+message-fed mode a s g call fit h k = unfold signOn in (at-low mode 0 a s g call (lit≤ tt) k fit (call-fed a g))
+message-fed mode a s g (callTo x) fit h k =
+    at-low mode 0 a s g (callTo x) (lit≤ tt) k fit
+    (λ f.
+    subst (λ (n : ℕ). Fed (idle 0 a 0 g) (onWire (signOnTo x)) (atLast n 0 (saidIn (outcomeOf (idle 0 a 0 g) (callTo x)))) (outcomeOf (idle 0 a 0 g) (callTo x) .next))
+    (sym (long-to x (digits-long 10 x h))) (call-to-fed a g f x h))
+message-fed mode a s g (confirm v y) fit h k =
+    unfold confirmation in
+    at-low mode 1 a s g (confirm v y) (lit≤ tt) k fit
+    (λ f. confirm-fed a g f v y (and-left (goodSpeed v) (goodChoice y) h) (and-right (goodSpeed v) (goodChoice y) h))
+message-fed mode a s g (command c) fit h k =
     unfold outcomeOf in
-    subst (λ (n : ℕ). Fed (idle mode a g) (onWire (spoken c)) (atLast n mode (saidIn (obeyed (idle mode a g) c))) (obeyed (idle mode a g) c .next))
-    (sym (long-command c)) (command-fed mode a g c fit h k)
-message-fed mode a g leave fit h k = unfold bareFrame closed in leave-fed mode a g fit k
+    subst (λ (n : ℕ). Fed (idle mode a s g) (onWire (spoken c)) (atLast n s (saidIn (obeyed (idle mode a s g) c))) (obeyed (idle mode a s g) c .next))
+    (sym (long-command c)) (command-fed mode a s g c fit h k)
+message-fed mode a s g leave fit h k = unfold bareFrame closed in leave-fed mode a s g fit k
 
 -- there are meters that listen: good registers and an empty receiver, in any mode that allows the message
-pub idle-listens : (mode a : ℕ) (g : Registers) (x : Message) → Fit mode a g → allowedIn x mode ≡ true → Listens (idle mode a g) x
-idle-listens mode a g x fit k = record { formed = idle-formed mode a g fit; empty = refl; allowed = k }
+pub idle-listens : (mode a s : ℕ) (g : Registers) (x : Message) → Fit mode a s g → allowedIn x mode ≡ true → Listens (idle mode a s g) x
+idle-listens mode a s g x fit k = record { formed = idle-formed mode a s g fit; empty = refl; allowed = k }
 
 -- what the head says is what the meter takes
 pub message-taken : (m : Meter) (x : Message) → goodMessage editionTables x ≡ true → Listens m x → Taken m x (onWire (textOf x))
 message-taken m x h l =
     let f = l .formed in
-    let fed = subst (λ (n : Meter). FedAs n x) (sym (idle-is m f (l .empty))) (message-fed (m .mode) (m .attempts) (m .registers) x (fit-is m f) h (l .allowed)) in
+    let fed = subst (λ (n : Meter). FedAs n x) (sym (idle-is m f (l .empty))) (message-fed (m .mode) (m .attempts) (m .speed) (m .registers) x (fit-is m f) h (l .allowed)) in
     record {
       said = λ rooms room. rw (length-map (textOf x) sent) (fed-in m rooms (onWire (textOf x)) _ _ room fed .0);
       after = λ rooms room. fed-in m rooms (onWire (textOf x)) _ _ room fed .1;
@@ -117,6 +127,6 @@ pub never-misheard : (m : Meter) (x : Message) → misheard (outcomeOf m x .numb
 unfolding outcomeOf misheard
 never-misheard m call = refl
 never-misheard m (callTo s) = either (sameText s (m .registers .facts .serial) || sameText s (replicate 10 48)) _ _ refl refl
-never-misheard m (confirm y) = either (eqb y 49) _ _ refl refl
+never-misheard m (confirm v y) = either (eqb y 49) _ _ refl refl
 never-misheard m (command c) = command-heard m c
 never-misheard m leave = refl

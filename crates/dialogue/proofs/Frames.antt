@@ -35,24 +35,24 @@ map-append f [] b = refl
 map-append f (x ∷ a) b = ap (λ (l : List ℕ). f x ∷ l) (map-append f a b)
 
 -- one more that says nothing, before the last
-pub once-more : (n mode : ℕ) (said : List Said) → replicate n (quiet mode) ++ (quiet mode ∷ said) ≡ replicate (suc n) (quiet mode) ++ said
-once-more zero mode said = refl
-once-more (suc n) mode said = ap (λ (l : List Said). quiet mode ∷ l) (once-more n mode said)
+pub once-more : (n s : ℕ) (said : List Said) → replicate n (quiet s) ++ (quiet s ∷ said) ≡ replicate (suc n) (quiet s) ++ said
+once-more zero s said = refl
+once-more (suc n) s said = ap (λ (l : List Said). quiet s ∷ l) (once-more n s said)
 
 -- the bytes of what was begun, and those that follow
-pub continued : (m mid after : Meter) (xs ys : List ℕ) (n mode : ℕ) (said : List Said) → Fed m (map sent xs) (replicate n (quiet mode)) mid
-    → Fed mid (map sent ys) said after → Fed m (onWire (xs ++ ys)) (replicate n (quiet mode) ++ said) after
-continued m mid after xs ys n mode said f g =
-    rw (map-append sent xs ys) (fed-append m (map sent xs) (map sent ys) (replicate n (quiet mode)) said mid after f g)
+pub continued : (m mid after : Meter) (xs ys : List ℕ) (n s : ℕ) (said : List Said) → Fed m (map sent xs) (replicate n (quiet s)) mid
+    → Fed mid (map sent ys) said after → Fed m (onWire (xs ++ ys)) (replicate n (quiet s) ++ said) after
+continued m mid after xs ys n s said f g =
+    rw (map-append sent xs ys) (fed-append m (map sent xs) (map sent ys) (replicate n (quiet s)) said mid after f g)
 
-module _ (mode a : ℕ) (g : Registers) (fit : Fit mode a g) (h : 2 ≤ mode) (body : List ℕ) (plain : every inFrame body ≡ true) (long : length body ≤ 60) where
+module _ (mode a s : ℕ) (g : Registers) (fit : Fit mode a s g) (h : 2 ≤ mode) (body : List ℕ) (plain : every inFrame body ≡ true) (long : length body ≤ 60) where
   -- SOH, the body and ETX, as they are held
   abbrev ended : Meter
-  ended = holding mode a g 1 (body ++ (3 ∷ []))
+  ended = holding mode a s g 1 (body ++ (3 ∷ []))
 
-  etx-held : character (holding mode a g 1 body) replyRoom (sent 3) ≡ silent 0 ended
+  etx-held : character (holding mode a s g 1 body) replyRoom (sent 3) ≡ silent 0 ended
   etx-held =
-      holds mode a g fit 1 inFrame (frame-rule mode h) body 3 plain (omega (arith, frame-limit mode h)) (lit< tt)
+      holds mode a s g fit 1 inFrame (frame-rule mode h) body 3 plain (omega (arith, frame-limit mode h)) (lit< tt)
       (λ last l. frame-holds mode h (length body) last 3 (omega arith) l refl)
 
   ended-small : every (between 0 127) (body ++ (3 ∷ [])) ≡ true
@@ -72,22 +72,22 @@ module _ (mode a : ℕ) (g : Registers) (fit : Fit mode a g) (h : 2 ≤ mode) (b
       let l : eqb (getD (1 ∷ (ys ++ zs)) (length ys) 0) 3 ≡ true =
       ap (λ (k : ℕ). eqb (getD (1 ∷ (ys ++ zs)) k 0) 3) n ∙ ap (λ (t : List ℕ). eqb (getD t (length body) 0) 3) (append-assoc body (3 ∷ []) zs)
       ∙ ap (λ (x : ℕ). eqb x 3) (getD-append-seam body 3 zs 0) in
-      let f = holding-formed mode a g fit 1 inFrame (frame-rule mode h) ys (omega (arith, frame-limit mode h)) ended-small in
+      let f = holding-formed mode a s g fit 1 inFrame (frame-rule mode h) ys (omega (arith, frame-limit mode h)) ended-small in
       heard-as ended c Frame f low (ends-frame mode h (length ys) _ c (ap (λ (k : ℕ). eqb k 3) (last-held 1 ys) ∙ l))
       ∙ ap (λ (t : List ℕ). acted ended (verdict mode t false c)) (held-is 1 ys)
 
   -- all of it: nothing at each byte but the last, and there what is done with the verdict
   pub frame-fed : (o : Outcome) → acted ended (verdict mode (1 ∷ (body ++ (3 ∷ []))) false (bccOf (body ++ (3 ∷ [])))) ≡ o
-      → Fed (idle mode a g) (onWire (1 ∷ closed body)) (atLast (suc (suc (length body))) mode (saidIn o)) (o .next)
+      → Fed (idle mode a s g) (onWire (1 ∷ closed body)) (atLast (suc (suc (length body))) s (saidIn o)) (o .next)
   unfolding closed
   frame-fed o e =
       let sum = bccOf (body ++ (3 ∷ [])) in
       let last = fed-next ended (sent sum) o [] [] (o .next) (completes sum (bcc-lt (body ++ (3 ∷ []))) ∙ e) (fed-none (o .next)) in
-      let two = fed-next (holding mode a g 1 body) (sent 3) (silent 0 ended) (sent sum ∷ []) (saidIn o ∷ []) (o .next) etx-held last in
+      let two = fed-next (holding mode a s g 1 body) (sent 3) (silent 0 ended) (sent sum ∷ []) (saidIn o ∷ []) (o .next) etx-held last in
       let all =
-      continued (idle mode a g) (holding mode a g 1 body) (o .next) (1 ∷ body) (3 ∷ sum ∷ []) (suc (length body)) mode (quiet mode ∷ saidIn o ∷ [])
-      (begun mode a g fit 1 inFrame (frame-rule mode h) body plain (omega (arith, frame-limit mode h))) two in
-      rw (append-assoc body (3 ∷ []) (sum ∷ []), ← once-more (suc (length body)) mode (saidIn o ∷ [])) all
+      continued (idle mode a s g) (holding mode a s g 1 body) (o .next) (1 ∷ body) (3 ∷ sum ∷ []) (suc (length body)) s (quiet s ∷ saidIn o ∷ [])
+      (begun mode a s g fit 1 inFrame (frame-rule mode h) body plain (omega (arith, frame-limit mode h))) two in
+      rw (append-assoc body (3 ∷ []) (sum ∷ []), ← once-more (suc (length body)) s (saidIn o ∷ [])) all
 
 -- SOH, two letters, STX, data, ETX
 abbrev pub heldFrame : ℕ → ℕ → List ℕ → List ℕ

@@ -18,7 +18,7 @@ use Rattle.state.specs.Sizes.{replyRoom, heldPlaces}
 use Rattle.state.specs.declared.Receiver.{Receiver}
 use Rattle.state.specs.declared.Registers.{Registers}
 use Rattle.state.specs.declared.Meter.{Meter}
-use Rattle.state.specs.WellFormed.{limit, firstGood, markGood, heldGood, receiverGood, registersGood, wellFormed}
+use Rattle.state.specs.WellFormed.{limit, firstGood, markGood, heldGood, receiverGood, speedGood, registersGood, wellFormed}
 use Rattle.state.specs.Making.{emptyReceiver}
 use Rattle.state.specs.Setting.{meterIn, withHeld, withMark, withReceiver}
 use Rattle.state.proofs.Limits.{limit-most}
@@ -32,16 +32,16 @@ use Rattle.meter.specs.Character.{symbol, heard, taken, character}
 use Rattle.dialogue.specs.Feeding.{Said, quiet}
 use Rattle.dialogue.proofs.Feeding.{Fed, fed-none, fed-next}
 
--- in a mode with an empty receiver
-abbrev pub idle : ℕ → ℕ → Registers → Meter
-idle mode a g = meterIn mode a emptyReceiver g
+-- in a mode, with so many attempts, at a speed, with an empty receiver
+abbrev pub idle : ℕ → ℕ → ℕ → Registers → Meter
+idle mode a s g = meterIn mode a s emptyReceiver g
 
 -- a first character and some more are held
 abbrev pub openReceiver : ℕ → List ℕ → Receiver
 openReceiver c ys = withHeld emptyReceiver (c ∷ (ys ++ replicate (62 - length ys) 0)) (suc (length ys))
 
-abbrev pub holding : ℕ → ℕ → Registers → ℕ → List ℕ → Meter
-holding mode a g c ys = meterIn mode a (openReceiver c ys) g
+abbrev pub holding : ℕ → ℕ → ℕ → Registers → ℕ → List ℕ → Meter
+holding mode a s g c ys = meterIn mode a s (openReceiver c ys) g
 
 -- a character below 128 that is no ETX
 pub record Plain (c : ℕ) : Type 0 where
@@ -52,14 +52,15 @@ pub record Plain (c : ℕ) : Type 0 where
 pub record Rule (mode c : ℕ) (p : ℕ → Bool) : Type 0 where
   pub plain : Plain c
   pub first : (k : ℕ) → firstGood mode (suc k) c ≡ true
-  pub opens : (a : ℕ) (g : Registers) → heard (idle mode a g) c false (hearing mode 0 0 c) ≡ silent 0 (holding mode a g c [])
+  pub opens : (a s : ℕ) (g : Registers) → heard (idle mode a s g) c false (hearing mode 0 0 c) ≡ silent 0 (holding mode a s g c [])
   pub kind : (x : ℕ) → p x ≡ true → Plain x
   pub stays : (k last x : ℕ) → suc k < limit mode → eqb last 3 ≡ false → p x ≡ true → hearing mode (suc k) last x ≡ Hold
 
 -- what is fed is otherwise well-formed
-pub record Fit (mode a : ℕ) (g : Registers) : Type 0 where
+pub record Fit (mode a s : ℕ) (g : Registers) : Type 0 where
   pub known : mode ≤ 4
   pub attempts : a ≤ 3
+  pub speed : speedGood mode s ≡ true
   pub registers : registersGood g ≡ true
 
 small-is : (c : ℕ) → c < 128 → between 0 127 c ≡ true
@@ -149,13 +150,13 @@ empty-is mode r h none =
 
 module _ (m : Meter) (f : wellFormed m ≡ true) where
   -- so a well-formed meter with nothing held is one with an empty receiver
-  pub idle-is : m .receiver .count ≡ 0 → m ≡ idle (m .mode) (m .attempts) (m .registers)
+  pub idle-is : m .receiver .count ≡ 0 → m ≡ idle (m .mode) (m .attempts) (m .speed) (m .registers)
   idle-is none =
       ap (withReceiver m)
       (empty-is (m .mode) (m .receiver) (formed m f .receiver) none)
 
-  pub fit-is : Fit (m .mode) (m .attempts) (m .registers)
-  fit-is = record { known = formed m f .mode; attempts = formed m f .attempts; registers = formed m f .registers }
+  pub fit-is : Fit (m .mode) (m .attempts) (m .speed) (m .registers)
+  fit-is = record { known = formed m f .mode; attempts = formed m f .attempts; speed = formed m f .speed; registers = formed m f .registers }
 
 -- the last of plain ones is no ETX
 last-plain : (p : ℕ → Bool) → ((x : ℕ) → p x ≡ true → Plain x) → (c : ℕ) (ys zs : List ℕ) → eqb c 3 ≡ false → every p ys ≡ true
@@ -164,11 +165,11 @@ unfolding every
 last-plain p kind c [] zs e h = e
 last-plain p kind c (y ∷ ys) zs e h = last-plain p kind y ys zs (kind y (and-left (p y) (every p ys) h) .no-etx) (and-right (p y) (every p ys) h)
 
-module _ (mode a : ℕ) (g : Registers) (fit : Fit mode a g) where
-  formed-with : (r : Receiver) → receiverGood mode r ≡ true → wellFormed (meterIn mode a r g) ≡ true
-  formed-with r e = well-formed _ (record { mode = fit .known; attempts = fit .attempts; receiver = e; registers = fit .registers })
+module _ (mode a s : ℕ) (g : Registers) (fit : Fit mode a s g) where
+  formed-with : (r : Receiver) → receiverGood mode r ≡ true → wellFormed (meterIn mode a s r g) ≡ true
+  formed-with r e = well-formed _ (record { mode = fit .known; attempts = fit .attempts; speed = fit .speed; receiver = e; registers = fit .registers })
 
-  pub idle-formed : wellFormed (idle mode a g) ≡ true
+  pub idle-formed : wellFormed (idle mode a s g) ≡ true
   unfolding markGood
   idle-formed = formed-with emptyReceiver (receiver-good mode emptyReceiver (record { count = omega arith; first = none-first mode; mark = refl; held = no-held-good }))
 
@@ -176,7 +177,7 @@ module _ (mode a : ℕ) (g : Registers) (fit : Fit mode a g) where
     small-all : (ys : List ℕ) → every p ys ≡ true → every (between 0 127) ys ≡ true
     small-all = every-weaker p (between 0 127) (λ x h. small-is x (rule .kind x h .small))
 
-    pub holding-formed : (ys : List ℕ) → length ys < limit mode → every (between 0 127) ys ≡ true → wellFormed (holding mode a g c ys) ≡ true
+    pub holding-formed : (ys : List ℕ) → length ys < limit mode → every (between 0 127) ys ≡ true → wellFormed (holding mode a s g c ys) ≡ true
     unfolding markGood
     holding-formed ys long small =
         formed-with (openReceiver c ys)
@@ -189,36 +190,36 @@ module _ (mode a : ℕ) (g : Registers) (fit : Fit mode a g) where
         }))
 
     -- the first character opens it
-    begins : character (idle mode a g) replyRoom (sent c) ≡ silent 0 (holding mode a g c [])
-    begins = heard-as (idle mode a g) c (hearing mode 0 0 c) idle-formed (rule .plain .small) refl ∙ rule .opens a g
+    begins : character (idle mode a s g) replyRoom (sent c) ≡ silent 0 (holding mode a s g c [])
+    begins = heard-as (idle mode a s g) c (hearing mode 0 0 c) idle-formed (rule .plain .small) refl ∙ rule .opens a s g
 
     -- a character that is to be held is held after the others
     pub holds : (ys : List ℕ) (x : ℕ) → every p ys ≡ true → suc (length ys) < limit mode → x < 128
         → ((last : ℕ) → eqb last 3 ≡ false → hearing mode (suc (length ys)) last x ≡ Hold)
-        → character (holding mode a g c ys) replyRoom (sent x) ≡ silent 0 (holding mode a g c (ys ++ (x ∷ [])))
+        → character (holding mode a s g c ys) replyRoom (sent x) ≡ silent 0 (holding mode a s g c (ys ++ (x ∷ [])))
     unfolding heard
     holds ys x kind long small stays =
         let f = holding-formed ys (omega arith) (small-all ys kind) in
         let plain : eqb (lastHeld (openReceiver c ys)) 3 ≡ false =
         ap (λ (k : ℕ). eqb k 3) (last-held c ys) ∙ last-plain p (rule .kind) c ys (replicate (62 - length ys) 0) (rule .plain .no-etx) kind in
-        heard-as (holding mode a g c ys) x Hold f small (stays (lastHeld (openReceiver c ys)) plain)
-        ∙ ap (λ (r : Receiver). silent 0 (meterIn mode a r g)) (kept-is c ys x (omega (arith, limit-most mode)))
+        heard-as (holding mode a s g c ys) x Hold f small (stays (lastHeld (openReceiver c ys)) plain)
+        ∙ ap (λ (r : Receiver). silent 0 (meterIn mode a s r g)) (kept-is c ys x (omega (arith, limit-most mode)))
 
     holds-all : (xs ys : List ℕ) → every p ys ≡ true → every p xs ≡ true → length ys + length xs < limit mode
-        → Fed (holding mode a g c ys) (map sent xs) (replicate (length xs) (quiet mode)) (holding mode a g c (ys ++ xs))
+        → Fed (holding mode a s g c ys) (map sent xs) (replicate (length xs) (quiet s)) (holding mode a s g c (ys ++ xs))
     unfolding every
-    holds-all [] ys hy hx long = rw (append-nil ys) (fed-none (holding mode a g c ys))
+    holds-all [] ys hy hx long = rw (append-nil ys) (fed-none (holding mode a s g c ys))
     holds-all (x ∷ xs) ys hy hx long =
         let px = and-left (p x) (every p xs) hx in
         let one : every p (x ∷ []) ≡ true = and-both (p x) true px refl in
         let rest = holds-all xs (ys ++ (x ∷ [])) (every-append p ys (x ∷ []) hy one) (and-right (p x) (every p xs) hx) (omega (arith, length-append ys (x ∷ []))) in
         let e : (ys ++ (x ∷ [])) ++ xs ≡ ys ++ (x ∷ xs) = append-assoc ys (x ∷ []) xs in
-        fed-next (holding mode a g c ys) (sent x) (silent 0 (holding mode a g c (ys ++ (x ∷ [])))) (map sent xs) (replicate (length xs) (quiet mode)) (holding mode a g c (ys ++ (x ∷ xs)))
+        fed-next (holding mode a s g c ys) (sent x) (silent 0 (holding mode a s g c (ys ++ (x ∷ [])))) (map sent xs) (replicate (length xs) (quiet s)) (holding mode a s g c (ys ++ (x ∷ xs)))
         (holds ys x hy (omega arith) (rule .kind x px .small) (λ last l. rule .stays (length ys) last x (omega arith) l px)) (rw e at rest)
 
     -- the first character and a run of the kind are held, with nothing said
     pub begun : (ys : List ℕ) → every p ys ≡ true → length ys < limit mode
-        → Fed (idle mode a g) (map sent (c ∷ ys)) (replicate (suc (length ys)) (quiet mode)) (holding mode a g c ys)
+        → Fed (idle mode a s g) (map sent (c ∷ ys)) (replicate (suc (length ys)) (quiet s)) (holding mode a s g c ys)
     begun ys h long =
-        fed-next (idle mode a g) (sent c) (silent 0 (holding mode a g c [])) (map sent ys) (replicate (length ys) (quiet mode)) (holding mode a g c ys)
+        fed-next (idle mode a s g) (sent c) (silent 0 (holding mode a s g c [])) (map sent ys) (replicate (length ys) (quiet s)) (holding mode a s g c ys)
         begins (holds-all ys [] (unfold every in refl) h (omega arith))

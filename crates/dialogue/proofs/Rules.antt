@@ -56,7 +56,7 @@ line-rule =
     record {
       plain = record { small = lit< tt; no-etx = refl };
       first = λ k. rw (eqb·suc-zero k);
-      opens = λ a g. refl;
+      opens = λ a s g. refl;
       kind = λ x h. other 47 10 x h .plain;
       stays = λ k last x h l px. line-stays k last x h (other 47 10 x px);
     }
@@ -84,7 +84,7 @@ confirmation-rule =
     record {
       plain = record { small = lit< tt; no-etx = refl };
       first = λ k. rw (eqb·suc-zero k);
-      opens = λ a g. refl;
+      opens = λ a s g. refl;
       kind = any-plain;
       stays = λ k last x h l px. confirmation-stays k last x h;
     }
@@ -118,7 +118,7 @@ module _ (mode : ℕ) (h : 2 ≤ mode) where
       record {
         plain = record { small = lit< tt; no-etx = refl };
         first = λ k. rw (not-zero, not-one, eqb·suc-zero k);
-        opens = λ a g. rw (not-zero, not-one);
+        opens = λ a s g. rw (not-zero, not-one);
         kind = λ x px. other 1 1 x px .plain;
         stays = λ k last x l e px. frame-holds k last x (omega (arith, frame-limit)) e (other 1 1 x px .not-x);
       }

@@ -22,7 +22,7 @@ use Rattle.values.proofs.Rules.{digits-long, serial-text-long}
 use Rattle.datasets.proofs.Characters.{Within, within}
 use Rattle.frames.specs.Frames.{bareFrame, onWire}
 use Rattle.frames.specs.Commands.{B0}
-use Rattle.frames.specs.Session.{signOn, signOnTo, confirmation}
+use Rattle.frames.specs.Session.{signOn, signOnTo, confirmation, goodSpeed, speedSaid}
 use Rattle.state.specs.Sizes.{replyRoom}
 use Rattle.state.specs.declared.Registers.{Registers}
 use Rattle.state.specs.WellFormed.{limit}
@@ -34,7 +34,7 @@ use Rattle.deciding.specs.Verdict.{bareVerdict, shapeVerdict, verdict}
 use Rattle.replies.specs.Fixed.{identification}
 use Rattle.meter.specs.Outcomes.{Outcome, silent, saying, ack}
 use Rattle.meter.specs.Acting.{acted}
-use Rattle.meter.specs.SignOn.{signsOnBy, wantsBlock, wantsProgram}
+use Rattle.meter.specs.SignOn.{signsOnBy, confirms, wantsBlock, wantsProgram}
 use Rattle.meter.specs.Character.{lineEnded, confirmed, heard, character}
 use Rattle.commands.specs.Building.{goodChoice}
 use Rattle.reading.proofs.Leading.{or-cases}
@@ -54,25 +54,25 @@ inLine-small = within inLine (between 0 127) refl (λ x h. omega (arith, leb-tru
 
 -- identified, or nothing said
 abbrev called : ℕ → Registers → Bool → Outcome
-called a g ours = cond ours (saying 1 0 identification (idle 1 a g)) (silent 0 (idle 0 a g))
+called a g ours = cond ours (saying 1 0 identification (idle 1 a 0 g)) (silent 0 (idle 0 a 0 g))
 
-module _ (a : ℕ) (g : Registers) (fit : Fit 0 a g) (ys : List ℕ) (plain : every inLine ys ≡ true) (long : length ys ≤ 20) where
-  line-ends : (ours : Bool) → signsOnBy (47 ∷ ys) (g .facts .serial) ≡ ours → character (holding 0 a g 47 ys) replyRoom (sent 10) ≡ called a g ours
+module _ (a : ℕ) (g : Registers) (fit : Fit 0 a 0 g) (ys : List ℕ) (plain : every inLine ys ≡ true) (long : length ys ≤ 20) where
+  line-ends : (ours : Bool) → signsOnBy (47 ∷ ys) (g .facts .serial) ≡ ours → character (holding 0 a 0 g 47 ys) replyRoom (sent 10) ≡ called a g ours
   unfolding heard lineEnded limit
   line-ends ours e =
-      let f = holding-formed 0 a g fit 47 inLine line-rule ys (omega arith) (every-weaker inLine (between 0 127) inLine-small ys plain) in
-      heard-as (holding 0 a g 47 ys) 10 Line f (lit< tt) (ends-line (length ys) _)
+      let f = holding-formed 0 a 0 g fit 47 inLine line-rule ys (omega arith) (every-weaker inLine (between 0 127) inLine-small ys plain) in
+      heard-as (holding 0 a 0 g 47 ys) 10 Line f (lit< tt) (ends-line (length ys) _)
       ∙ ap (λ (t : List ℕ). called a g (signsOnBy t (g .facts .serial))) (held-is 47 ys) ∙ ap (called a g) e
 
   -- '/', some characters and LF
   line-fed : (ours : Bool) → signsOnBy (47 ∷ ys) (g .facts .serial) ≡ ours
-      → Fed (idle 0 a g) (onWire ((47 ∷ ys) ++ (10 ∷ []))) (atLast (suc (length ys)) 0 (saidIn (called a g ours))) (called a g ours .next)
+      → Fed (idle 0 a 0 g) (onWire ((47 ∷ ys) ++ (10 ∷ []))) (atLast (suc (length ys)) 0 (saidIn (called a g ours))) (called a g ours .next)
   unfolding limit
   line-fed ours e =
       let o = called a g ours in
-      continued (idle 0 a g) (holding 0 a g 47 ys) (o .next) (47 ∷ ys) (10 ∷ []) (suc (length ys)) 0 (saidIn o ∷ [])
-      (begun 0 a g fit 47 inLine line-rule ys plain (omega arith))
-      (fed-next (holding 0 a g 47 ys) (sent 10) o [] [] (o .next) (line-ends ours e) (fed-none (o .next)))
+      continued (idle 0 a 0 g) (holding 0 a 0 g 47 ys) (o .next) (47 ∷ ys) (10 ∷ []) (suc (length ys)) 0 (saidIn o ∷ [])
+      (begun 0 a 0 g fit 47 inLine line-rule ys plain (omega arith))
+      (fed-next (holding 0 a 0 g 47 ys) (sent 10) o [] [] (o .next) (line-ends ours e) (fed-none (o .next)))
 
 -- two serials look the same just where they are
 same-shown : (s t : List ℕ) → length s ≡ 10 → length t ≡ 10 → sameText (serialText s) (serialText t) ≡ sameText s t
@@ -122,13 +122,13 @@ signs-on-by : (s ours : List ℕ) → length s ≡ 10 → length ours ≡ 10 →
 unfolding signsOnBy
 signs-on-by s ours hs ho = rw (to-serial-is s, not-any s hs, same-called s ours hs ho, same-called s (replicate 10 48) hs refl)
 
-module _ (a : ℕ) (g : Registers) (fit : Fit 0 a g) where
-  pub call-fed : Fed (idle 0 a g) (onWire signOn) (atLast 4 0 (saidIn (outcomeOf (idle 0 a g) call))) (outcomeOf (idle 0 a g) call .next)
+module _ (a : ℕ) (g : Registers) (fit : Fit 0 a 0 g) where
+  pub call-fed : Fed (idle 0 a 0 g) (onWire signOn) (atLast 4 0 (saidIn (outcomeOf (idle 0 a 0 g) call))) (outcomeOf (idle 0 a 0 g) call .next)
   unfolding signOn signsOnBy sameText matching outcomeOf every besides
   call-fed = line-fed a g fit (63 ∷ 33 ∷ 13 ∷ []) refl (lit≤ tt) true refl
 
   pub call-to-fed : (s : List ℕ) → goodSerial s ≡ true
-      → Fed (idle 0 a g) (onWire (signOnTo s)) (atLast 15 0 (saidIn (outcomeOf (idle 0 a g) (callTo s)))) (outcomeOf (idle 0 a g) (callTo s) .next)
+      → Fed (idle 0 a 0 g) (onWire (signOnTo s)) (atLast 15 0 (saidIn (outcomeOf (idle 0 a 0 g) (callTo s)))) (outcomeOf (idle 0 a 0 g) (callTo s) .next)
   unfolding outcomeOf
   call-to-fed s h =
       let n = digits-long 10 s h in
@@ -136,53 +136,62 @@ module _ (a : ℕ) (g : Registers) (fit : Fit 0 a g) where
       let own = digits-long 10 (g .facts .serial) (formed-facts (g .facts) (formed-registers g (fit .registers) .facts) .serial) in
       let k = to-serial-long s n in
       let o = called a g ours in
-      subst (λ (t : List ℕ). Fed (idle 0 a g) (onWire t) (atLast 15 0 (saidIn o)) (o .next)) (to-serial-is s)
-      (subst (λ (n : ℕ). Fed (idle 0 a g) (onWire ((47 ∷ toSerial s) ++ (10 ∷ []))) (atLast (suc n) 0 (saidIn o)) (o .next)) k
+      subst (λ (t : List ℕ). Fed (idle 0 a 0 g) (onWire t) (atLast 15 0 (saidIn o)) (o .next)) (to-serial-is s)
+      (subst (λ (n : ℕ). Fed (idle 0 a 0 g) (onWire ((47 ∷ toSerial s) ++ (10 ∷ []))) (atLast (suc n) 0 (saidIn o)) (o .next)) k
       (line-fed a g fit (toSerial s) (to-serial-plain s h) (omega (arith, k)) ours (signs-on-by s (g .facts .serial) n own)))
 
 -- ---- a confirmation
 
 -- what is held of it, after its ACK
-abbrev afterAck : ℕ → List ℕ
-afterAck y = 48 ∷ 53 ∷ y ∷ 13 ∷ []
+abbrev afterAck : ℕ → ℕ → List ℕ
+afterAck v y = 48 ∷ v ∷ y ∷ 13 ∷ []
 
-module _ (a : ℕ) (g : Registers) (fit : Fit 1 a g) where
-  confirmation-fed : (y : ℕ) → every anything (afterAck y) ≡ true → every (between 0 127) (afterAck y) ≡ true
-      → confirmed (holding 1 a g 6 (afterAck y)) 10 false ≡ outcomeOf (idle 1 a g) (confirm y)
-      → Fed (idle 1 a g) (onWire (confirmation y)) (atLast 5 1 (saidIn (outcomeOf (idle 1 a g) (confirm y)))) (outcomeOf (idle 1 a g) (confirm y) .next)
+module _ (a : ℕ) (g : Registers) (fit : Fit 1 a 0 g) where
+  abbrev Confirmed : ℕ → ℕ → Type 0
+  Confirmed v y = Fed (idle 1 a 0 g) (onWire (confirmation v y)) (atLast 5 0 (saidIn (outcomeOf (idle 1 a 0 g) (confirm v y)))) (outcomeOf (idle 1 a 0 g) (confirm v y) .next)
+
+  confirmation-fed : (v y : ℕ) → every anything (afterAck v y) ≡ true → every (between 0 127) (afterAck v y) ≡ true
+      → confirmed (holding 1 a 0 g 6 (afterAck v y)) 10 false ≡ outcomeOf (idle 1 a 0 g) (confirm v y) → Confirmed v y
   unfolding heard limit confirmation
-  confirmation-fed y plain small e =
-      let o = outcomeOf (idle 1 a g) (confirm y) in
-      let f = holding-formed 1 a g fit 6 anything confirmation-rule (afterAck y) (lit< tt) small in
-      let ends = heard-as (holding 1 a g 6 (afterAck y)) 10 Confirm f (lit< tt) (ends-confirmation _ 10) ∙ e in
-      continued (idle 1 a g) (holding 1 a g 6 (afterAck y)) (o .next) (6 ∷ afterAck y) (10 ∷ []) 5 1 (saidIn o ∷ [])
-      (begun 1 a g fit 6 anything confirmation-rule (afterAck y) plain (lit< tt))
-      (fed-next (holding 1 a g 6 (afterAck y)) (sent 10) o [] [] (o .next) ends (fed-none (o .next)))
+  confirmation-fed v y plain small e =
+      let held = holding 1 a 0 g 6 (afterAck v y) in
+      let o = outcomeOf (idle 1 a 0 g) (confirm v y) in
+      let f = holding-formed 1 a 0 g fit 6 anything confirmation-rule (afterAck v y) (lit< tt) small in
+      let ends = heard-as held 10 Confirm f (lit< tt) (ends-confirmation _ 10) ∙ e in
+      continued (idle 1 a 0 g) held (o .next) (6 ∷ afterAck v y) (10 ∷ []) 5 0 (saidIn o ∷ [])
+      (begun 1 a 0 g fit 6 anything confirmation-rule (afterAck v y) plain (lit< tt))
+      (fed-next held (sent 10) o [] [] (o .next) ends (fed-none (o .next)))
 
-  abbrev Confirmed : ℕ → Type 0
-  Confirmed y = Fed (idle 1 a g) (onWire (confirmation y)) (atLast 5 1 (saidIn (outcomeOf (idle 1 a g) (confirm y)))) (outcomeOf (idle 1 a g) (confirm y) .next)
+  -- each of the three that the head says, at either speed
+  pub record Choices (v : ℕ) : Type 0 where
+    pub zero : Confirmed v 48
+    pub one : Confirmed v 49
+    pub seven : Confirmed v 55
 
-  -- each of the three that the head says
-  zero-fed : Confirmed 48
-  unfolding confirmed wantsBlock confirmation sameText matching outcomeOf every between
-  zero-fed = confirmation-fed 48 refl refl refl
+  slow-fed : Choices 48
+  unfolding confirmed confirms wantsBlock wantsProgram confirmation speedSaid sameText matching outcomeOf every between
+  slow-fed = record { zero = confirmation-fed 48 48 refl refl refl; one = confirmation-fed 48 49 refl refl refl; seven = confirmation-fed 48 55 refl refl refl }
 
-  one-fed : Confirmed 49
-  unfolding confirmed wantsBlock wantsProgram confirmation sameText matching outcomeOf every between
-  one-fed = confirmation-fed 49 refl refl refl
+  fast-fed : Choices 53
+  unfolding confirmed confirms wantsBlock wantsProgram confirmation speedSaid sameText matching outcomeOf every between
+  fast-fed = record { zero = confirmation-fed 53 48 refl refl refl; one = confirmation-fed 53 49 refl refl refl; seven = confirmation-fed 53 55 refl refl refl }
 
-  seven-fed : Confirmed 55
-  unfolding confirmed wantsBlock confirmation sameText matching outcomeOf every between
-  seven-fed = confirmation-fed 55 refl refl refl
+  any-speed : (v : ℕ) → goodSpeed v ≡ true → Choices v
+  unfolding goodSpeed
+  any-speed v h = ⊎-elim (is 48 slow-fed) (is 53 fast-fed) (or-cases (eqb v 48) (eqb v 53) h)
+    where
+      is : (n : ℕ) → Choices n → eqb v n ≡ true → Choices v
+      is n f e = subst Choices (sym (eqb-true v n e)) f
 
-  pub confirm-fed : (y : ℕ) → goodChoice y ≡ true → Confirmed y
+  pub confirm-fed : (v y : ℕ) → goodSpeed v ≡ true → goodChoice y ≡ true → Confirmed v y
   unfolding goodChoice
-  confirm-fed y h =
-      ⊎-elim (λ e. ⊎-elim (is 48 zero-fed) (is 49 one-fed) (or-cases (eqb y 48) (eqb y 49) e)) (is 55 seven-fed)
+  confirm-fed v y k h =
+      let c = any-speed v k in
+      ⊎-elim (λ e. ⊎-elim (is 48 (c .zero)) (is 49 (c .one)) (or-cases (eqb y 48) (eqb y 49) e)) (is 55 (c .seven))
       (or-cases (eqb y 48 || eqb y 49) (eqb y 55) h)
     where
-      is : (n : ℕ) → Confirmed n → eqb y n ≡ true → Confirmed y
-      is n f e = subst Confirmed (sym (eqb-true y n e)) f
+      is : (n : ℕ) → Confirmed v n → eqb y n ≡ true → Confirmed v y
+      is n f e = subst (Confirmed v) (sym (eqb-true y n e)) f
 
 -- ---- B0
 
@@ -190,9 +199,9 @@ leaves : (mode : ℕ) → (leb 2 mode && leb mode 4) ≡ true → verdict mode (
 unfolding verdict shapeVerdict bareVerdict bareShape startGood isPrintable between
 leaves mode h = rw (eq-eqb (bccOf (66 ∷ 48 ∷ 3 ∷ [])) _ refl, h)
 
-pub leave-fed : (mode a : ℕ) (g : Registers) → Fit mode a g → (leb 2 mode && leb mode 4) ≡ true
-    → Fed (idle mode a g) (onWire (bareFrame B0)) (atLast 4 mode (saidIn (outcomeOf (idle mode a g) leave))) (outcomeOf (idle mode a g) leave .next)
+pub leave-fed : (mode a s : ℕ) (g : Registers) → Fit mode a s g → (leb 2 mode && leb mode 4) ≡ true
+    → Fed (idle mode a s g) (onWire (bareFrame B0)) (atLast 4 s (saidIn (outcomeOf (idle mode a s g) leave))) (outcomeOf (idle mode a s g) leave .next)
 unfolding bareFrame outcomeOf every besides acted
-leave-fed mode a g fit h =
-    frame-fed mode a g fit (leb-true 2 mode (and-left (leb 2 mode) (leb mode 4) h)) (66 ∷ 48 ∷ []) refl (lit≤ tt) (ack (idle 0 a g))
-    (ap (acted (holding mode a g 1 (66 ∷ 48 ∷ 3 ∷ []))) (leaves mode h))
+leave-fed mode a s g fit h =
+    frame-fed mode a s g fit (leb-true 2 mode (and-left (leb 2 mode) (leb mode 4) h)) (66 ∷ 48 ∷ []) refl (lit≤ tt) (ack s (idle 0 a 0 g))
+    (ap (acted (holding mode a s g 1 (66 ∷ 48 ∷ 3 ∷ []))) (leaves mode h))

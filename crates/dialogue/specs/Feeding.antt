@@ -4,7 +4,7 @@ use Prim.Native.Nat.{ℕ, suc}
 use lib.ListN.{replicate}
 use Rattle.state.specs.Sizes.{replyRoom}
 use Rattle.state.specs.declared.Meter.{Meter}
-use Rattle.meter.specs.Outcomes.{Outcome, speedOf}
+use Rattle.meter.specs.Outcomes.{Outcome}
 use Rattle.meter.specs.Character.{character}
 
 -- an answer without the next state
@@ -34,10 +34,10 @@ left m rooms (b ∷ bs) = left (character m (rooms 0) b .next) (later rooms) bs
 abbrev pub full : ℕ → ℕ
 full i = replyRoom
 
--- taken, nothing to say
+-- taken, nothing to say, at a speed
 abbrev pub quiet : ℕ → Said
-quiet mode = record { number = 0; speed = speedOf mode; reply = [] }
+quiet speed = record { number = 0; speed = speed; reply = [] }
 
 -- nothing at so many bytes, and something at the last
 abbrev pub atLast : ℕ → ℕ → Said → List Said
-atLast n mode said = replicate n (quiet mode) ++ (said ∷ [])
+atLast n speed said = replicate n (quiet speed) ++ (said ∷ [])

@@ -12,6 +12,7 @@ use Rattle.values.specs.Edition.{editionTables}
 use Rattle.values.specs.Registers.{zoneEnergy}
 use Rattle.frames.specs.Frames.{blockOf}
 use Rattle.frames.specs.Commands.{P1, R1}
+use Rattle.frames.specs.Session.{speedSaid}
 use Rattle.state.specs.Sizes.{replyRoom}
 use Rattle.state.specs.declared.Meter.{Meter}
 use Rattle.state.specs.WellFormed.{wellFormed}
@@ -20,10 +21,10 @@ use Rattle.replies.specs.declared.Ask.the-variants as ask
 use Rattle.replies.specs.Answers.{askedData}
 use Rattle.replies.specs.Block.{blockData}
 use Rattle.replies.specs.Fixed.{identification, passwordAsk}
-use Rattle.state.specs.Setting.{inMode, withAttempts, withRegisters, withClock, withAccount, withTables, withRow}
+use Rattle.state.specs.Setting.{inMode, withSpeed, withAttempts, withRegisters, withClock, withAccount, withTables, withRow}
 use Rattle.deciding.specs.declared.Verdict.{Verdict}
 use Rattle.deciding.specs.declared.Verdict.the-variants as verdict
-use Rattle.meter.specs.Outcomes.{Outcome, silent, saying, nak, ack}
+use Rattle.meter.specs.Outcomes.{Outcome, speedOf, silent, saying, nak, ack}
 use Rattle.commands.specs.Spoken.{Command, enter, password, readClock, readSerial, readAccount, readTotal, readZone, readTable, writeClock, writeAccount, writeTable, lettersOf}
 use Rattle.commands.specs.Messages.{Message, call, callTo, confirm, command, leave}
 use Rattle.dialogue.specs.Feeding.{saidIn, answered, left, atLast}
@@ -36,7 +37,7 @@ allowedAt c mode = cond (sameText (lettersOf c) P1) (eqb mode 2) (cond (sameText
 unfoldable pub allowedIn : Message → ℕ → Bool
 allowedIn call mode = eqb mode 0
 allowedIn (callTo serial) mode = eqb mode 0
-allowedIn (confirm y) mode = eqb mode 1
+allowedIn (confirm v y) mode = eqb mode 1
 allowedIn (command c) mode = allowedAt c mode
 allowedIn leave mode = leb 2 mode && leb mode 4
 
@@ -58,16 +59,16 @@ decidedAs (writeTable n row) = verdict.WriteTable (record { 0 = n })
 unfoldable pub triedWith : Meter → List ℕ → Outcome
 triedWith m p =
     cond (eqb (m .attempts) 3) (nak 11 m)
-    (cond (sameText p (m .registers .facts .password)) (ack (inMode (withAttempts m 0) 4))
+    (cond (sameText p (m .registers .facts .password)) (ack (speedOf m) (inMode (withAttempts m 0) 4))
     (nak 10 (withAttempts m (m .attempts + 1))))
 
 -- the block with what was asked, and the meter as it was
 abbrev pub telling : Meter → Ask → Outcome
-telling m a = saying 1 5 (blockOf (askedData (m .registers) a)) m
+telling m a = saying 1 (speedOf m) (blockOf (askedData (m .registers) a)) m
 
 -- what each command comes to: ACK and only that register anew, or the block that was asked for
 unfoldable pub obeyed : Meter → Command → Outcome
-obeyed m enter = ack (inMode m 3)
+obeyed m enter = ack (speedOf m) (inMode m 3)
 obeyed m (password p) = triedWith m p
 obeyed m readClock = telling m ask.Clock
 obeyed m readSerial = telling m ask.Serial
@@ -75,19 +76,20 @@ obeyed m readAccount = telling m ask.Account
 obeyed m readTotal = telling m (ask.Energy Total)
 obeyed m (readZone n) = telling m (ask.Energy (zoneEnergy n))
 obeyed m (readTable n) = telling m (ask.Table (record { 0 = n }))
-obeyed m (writeClock c) = ack (withRegisters m (withClock (m .registers) c))
-obeyed m (writeAccount a) = ack (withRegisters m (withAccount (m .registers) a))
-obeyed m (writeTable n row) = ack (withRegisters m (withTables (m .registers) (withRow (m .registers .tables) n row)))
+obeyed m (writeClock c) = ack (speedOf m) (withRegisters m (withClock (m .registers) c))
+obeyed m (writeAccount a) = ack (speedOf m) (withRegisters m (withAccount (m .registers) a))
+obeyed m (writeTable n row) = ack (speedOf m) (withRegisters m (withTables (m .registers) (withRow (m .registers .tables) n row)))
 
--- a meter that is called by its own serial, or by zeros, identifies itself; another says nothing
+-- every reply in a session at its speed, a confirmation at the one that it names; a meter that is called by its own serial, or by zeros, identifies itself; another says nothing
 unfoldable pub outcomeOf : Meter → Message → Outcome
 outcomeOf m call = saying 1 0 identification (inMode m 1)
 outcomeOf m (callTo serial) =
     cond (sameText serial (m .registers .facts .serial) || sameText serial (replicate 10 (char "0"))) (saying 1 0 identification (inMode m 1)) (silent 0 m)
-outcomeOf m (confirm y) =
-    cond (eqb y (char "1")) (saying 1 5 passwordAsk (inMode m 2)) (saying 1 5 (blockOf (blockData editionTables (m .registers))) (inMode m 0))
+outcomeOf m (confirm v y) =
+    cond (eqb y (char "1")) (saying 1 (speedSaid v) passwordAsk (withSpeed (inMode m 2) (speedSaid v)))
+    (saying 1 (speedSaid v) (blockOf (blockData editionTables (m .registers))) (inMode m 0))
 outcomeOf m (command c) = obeyed m c
-outcomeOf m leave = ack (inMode m 0)
+outcomeOf m leave = ack (speedOf m) (inMode m 0)
 
 -- well-formed, with an empty receiver, in a mode that allows the message
 pub record Listens (m : Meter) (x : Message) : Type 0 where
@@ -97,7 +99,7 @@ pub record Listens (m : Meter) (x : Message) : Type 0 where
 
 -- these bytes, given one by one with room for every reply: nothing at each but the last, and there what the message comes to
 pub record Taken (m : Meter) (x : Message) (bytes : List ℕ) : Type 0 where
-  pub said : (rooms : ℕ → ℕ) → ((i : ℕ) → replyRoom ≤ rooms i) → answered m rooms bytes ≡ atLast (length bytes - 1) (m .mode) (saidIn (outcomeOf m x))
+  pub said : (rooms : ℕ → ℕ) → ((i : ℕ) → replyRoom ≤ rooms i) → answered m rooms bytes ≡ atLast (length bytes - 1) (speedOf m) (saidIn (outcomeOf m x))
   pub after : (rooms : ℕ → ℕ) → ((i : ℕ) → replyRoom ≤ rooms i) → left m rooms bytes ≡ outcomeOf m x .next
 
 -- confirmation wrong, parity, BCC, too long, shape, unknown, not allowed, data

@@ -1,7 +1,9 @@
 -- Document 01, "Receiving" and "Deciding a frame": what opens a session, as characters.
+use mathlib.Core.Bool.{Bool, cond, _||_}
 use mathlib.Core.List.{List, [], _∷_, _++_}
 use Prim.Native.Nat.{ℕ}
-use Rattle.line.specs.Quoted.{chars}
+use lib.Dec.{eqb}
+use Rattle.line.specs.Quoted.{char, chars}
 use Rattle.line.specs.Controls.{ACK}
 use Rattle.values.specs.Texts.{serialText}
 use Rattle.frames.specs.Commands.{bracketed}
@@ -14,9 +16,16 @@ signOn = chars "/?!\r\n"
 unfoldable pub signOnTo : List ℕ → List ℕ
 signOnTo serial = chars "/?" ++ (serialText serial ++ chars "!\r\n")
 
--- ACK 0 5 Y CR LF
-unfoldable pub confirmation : ℕ → List ℕ
-confirmation y = ACK ∷ (chars "05" ++ (y ∷ chars "\r\n"))
+-- ACK 0 V Y CR LF
+unfoldable pub confirmation : ℕ → ℕ → List ℕ
+confirmation v y = ACK ∷ (chars "0" ++ (v ∷ y ∷ chars "\r\n"))
+
+-- V is '0' or '5': speed identifier 0 (300 baud) or 5 (9600)
+unfoldable pub goodSpeed : ℕ → Bool
+goodSpeed v = eqb v (char "0") || eqb v (char "5")
+
+unfoldable pub speedSaid : ℕ → ℕ
+speedSaid v = cond (eqb v (char "5")) 5 0
 
 -- P1: (), or the password in brackets
 unfoldable pub enterData : List ℕ

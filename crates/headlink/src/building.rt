@@ -6,7 +6,7 @@ ghost use Rattle.values.specs.Edition.{editionTables};
 ghost use Rattle.values.specs.Registers.{goodSerial, goodPassword, goodAccount, goodRow, goodTable, goodZone};
 ghost use Rattle.frames.specs.Frames.{frameOf, bareFrame, onWire};
 ghost use Rattle.frames.specs.Commands.{B0, P1, R1, W1, askClock, askSerial, askAccount, askEnergy, askTable, setClock, setAccount, setTable};
-ghost use Rattle.frames.specs.Session.{signOn, signOnTo, confirmation, enterData, passwordData};
+ghost use Rattle.frames.specs.Session.{signOn, signOnTo, confirmation, goodSpeed, enterData, passwordData};
 ghost use Rattle.commands.specs.Building.{goodChoice, Builds};
 use clock::Clock;
 use clock::Date;
@@ -34,12 +34,17 @@ pub extern "C" fn dirgemist_head_sign_on_to(serial: &[u8], out: &mut [u8], size:
     b.number
 }
 
-// The confirmation.
+// The confirmation, at 300 baud or 9600.
 #[no_mangle]
-pub extern "C" fn dirgemist_head_confirm(choice: u8, out: &mut [u8], size: &mut usize) -> u8
-    ensures { λ r. ⌜ Builds (now (out .entry)) (goodChoice choice) (onWire (confirmation choice)) (record { number = r; length = now (size .exit) }) (now (out .exit)) ⌝ }
+pub extern "C" fn dirgemist_head_confirm(
+    speed: u8,
+    choice: u8,
+    out: &mut [u8],
+    size: &mut usize,
+) -> u8
+    ensures { λ r. ⌜ Builds (now (out .entry)) (goodSpeed speed && goodChoice choice) (onWire (confirmation speed choice)) (record { number = r; length = now (size .exit) }) (now (out .exit)) ⌝ }
 {
-    let b = commands::confirm(out, choice);
+    let b = commands::confirm(out, speed, choice);
     *size = b.length;
     b.number
 }

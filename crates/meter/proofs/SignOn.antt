@@ -13,7 +13,7 @@ use Rattle.text.proofs.Matching.{same-snoc}
 use Rattle.text.proofs.Writing.{and-then, stored-holding}
 use Rattle.values.specs.Texts.{serialText}
 use Rattle.frames.specs.Session.{signOn, signOnTo, confirmation}
-use Rattle.meter.specs.SignOn.{ourLine, signsOnBy, wantsBlock, wantsProgram}
+use Rattle.meter.specs.SignOn.{ourLine, signsOnBy, confirms}
 
 line-same : (line x : List ℕ) → sameText (line ++ (10 ∷ [])) (x ++ (10 ∷ [])) ≡ sameText line x
 line-same line x = same-snoc line x 10 10 ∙ and-true (sameText line x)
@@ -39,14 +39,11 @@ signs-by-held line serial =
     let c = sym (line-same line zeros) ∙ ap (sameText (line ++ (10 ∷ []))) (our-line-ends (replicate 10 48)) in
     ap₂ _||_ (ap₂ _||_ a b) (zero-line line ∙ c)
 
-pub block-by-held : (five : List ℕ) (c : ℕ)
-    → ((sameText five (6 ∷ 48 ∷ 53 ∷ 48 ∷ 13 ∷ []) && eqb c 10) || (sameText five (6 ∷ 48 ∷ 53 ∷ 55 ∷ 13 ∷ []) && eqb c 10)) ≡ wantsBlock five c
-unfolding wantsBlock confirmation
-block-by-held five c = ap₂ _||_ (sym (same-snoc five (6 ∷ 48 ∷ 53 ∷ 48 ∷ 13 ∷ []) c 10)) (sym (same-snoc five (6 ∷ 48 ∷ 53 ∷ 55 ∷ 13 ∷ []) c 10))
-
-pub program-by-held : (five : List ℕ) (c : ℕ) → (sameText five (6 ∷ 48 ∷ 53 ∷ 49 ∷ 13 ∷ []) && eqb c 10) ≡ wantsProgram five c
-unfolding wantsProgram confirmation
-program-by-held five c = sym (same-snoc five (6 ∷ 48 ∷ 53 ∷ 49 ∷ 13 ∷ []) c 10)
+pub confirms-by-held : (five : List ℕ) (c y : ℕ)
+    → ((sameText five (6 ∷ 48 ∷ 53 ∷ y ∷ 13 ∷ []) && eqb c 10) || (sameText five (6 ∷ 48 ∷ 48 ∷ y ∷ 13 ∷ []) && eqb c 10)) ≡ confirms five c y
+unfolding confirms confirmation
+confirms-by-held five c y =
+    ap₂ _||_ (sym (same-snoc five (6 ∷ 48 ∷ 53 ∷ y ∷ 13 ∷ []) c 10)) (sym (same-snoc five (6 ∷ 48 ∷ 48 ∷ y ∷ 13 ∷ []) c 10))
 
 -- a message that fills the buffer is all that it holds
 fills : (message : List ℕ) → length message ≡ 15 → holding (replicate 15 0) message ≡ message

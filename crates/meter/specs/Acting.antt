@@ -8,12 +8,13 @@ use Rattle.text.specs.Classes.{sameText}
 use Rattle.frames.specs.Frames.{blockOf}
 use Rattle.state.specs.Sizes.{rowLength, tables}
 use Rattle.state.specs.declared.Meter.{Meter}
+use Rattle.state.specs.Making.{emptyReceiver}
 use Rattle.values.specs.Registers.{goodTable}
 use Rattle.replies.specs.Answers.{askedData}
-use Rattle.state.specs.Setting.{inMode, withAttempts, withRegisters, withClock, withAccount, withTables, withRow}
+use Rattle.state.specs.Setting.{withReceiver, inMode, withAttempts, withRegisters, withClock, withAccount, withTables, withRow}
 use Rattle.deciding.specs.declared.Verdict.{Verdict}
 use Rattle.deciding.specs.declared.Verdict.the-variants.{Refuse, Leave, Enter, Password, Read, WriteClock, WriteAccount, WriteTable}
-use Rattle.meter.specs.Outcomes.{Outcome, saying, nak, ack}
+use Rattle.meter.specs.Outcomes.{Outcome, speedOf, saying, nak, ack}
 
 -- the characters that a frame gives: SOH P1 STX ( password; SOH W1 STX K ( account; SOH W1 STX Z ( xx ; row
 abbrev pub passwordGiven : Meter → List ℕ
@@ -29,7 +30,7 @@ rowGiven m = take rowLength (drop 9 (m .receiver .held))
 unfoldable pub tried : Meter → Outcome
 tried m =
     cond (eqb (m .attempts) 3) (nak 11 m)
-    (cond (sameText (passwordGiven m) (m .registers .facts .password)) (ack (inMode (withAttempts m 0) 4))
+    (cond (sameText (passwordGiven m) (m .registers .facts .password)) (ack (speedOf m) (inMode (withAttempts m 0) 4))
     (nak 10 (withAttempts m (m .attempts + 1))))
 
 -- the account, a table's row: what a write leaves, the receiver aside
@@ -41,14 +42,14 @@ rowTaken m n = withRegisters m (withTables (m .registers) (withRow (m .registers
 
 -- only that register changes
 abbrev pub wrote : Meter → Meter → Outcome
-wrote m changed = ack (inMode changed (m .mode))
+wrote m changed = ack (speedOf m) (withReceiver changed emptyReceiver)
 
 unfoldable pub acted : Meter → Verdict → Outcome
 acted m (Refuse n) = nak n m
-acted m Leave = ack (inMode m 0)
-acted m Enter = ack (inMode m 3)
+acted m Leave = ack (speedOf m) (inMode m 0)
+acted m Enter = ack (speedOf m) (inMode m 3)
 acted m Password = tried m
-acted m (Read a) = saying 1 5 (blockOf (askedData (m .registers) a)) (inMode m (m .mode))
+acted m (Read a) = saying 1 (speedOf m) (blockOf (askedData (m .registers) a)) (withReceiver m emptyReceiver)
 acted m (WriteClock c) = wrote m (withRegisters m (withClock (m .registers) c))
 acted m WriteAccount = wrote m (accountTaken m)
 acted m (WriteTable t) = cond (goodTable tables (t .0)) (wrote m (rowTaken m (t .0))) (nak 9 m)

@@ -3,8 +3,10 @@ use mathlib.Core.Bool.{Bool, cond, _||_}
 use mathlib.Core.List.{List}
 use Prim.Native.Nat.{ℕ}
 use lib.Dec.{eqb, ltb}
+use lib.ListN.{getD}
 use Rattle.line.specs.Characters.{damagedAt, seven}
 use Rattle.frames.specs.Frames.{blockOf}
+use Rattle.frames.specs.Session.{speedSaid}
 use Rattle.state.specs.Sizes.{tables, replyRoom}
 use Rattle.state.specs.declared.Meter.{Meter}
 use Rattle.state.specs.WellFormed.{wellFormed, marked}
@@ -16,7 +18,7 @@ use Rattle.receiving.specs.Receivers.{heldText, lastHeld, keptReceiver, restart
 use Rattle.deciding.specs.Verdict.{verdict}
 use Rattle.replies.specs.Block.{blockData}
 use Rattle.replies.specs.Fixed.{identification, passwordAsk}
-use Rattle.state.specs.Setting.{withReceiver, inMode}
+use Rattle.state.specs.Setting.{withReceiver, inMode, withSpeed}
 use Rattle.meter.specs.Outcomes.{Outcome, silent, unheard, saying, nak}
 use Rattle.meter.specs.SignOn.{signsOnBy, wantsBlock, wantsProgram}
 use Rattle.meter.specs.Acting.{acted}
@@ -32,12 +34,15 @@ lineEnded m =
     (cond (signsOnBy (heldText (m .receiver)) (m .registers .facts .serial)) (saying 1 0 identification (inMode m 1))
     (silent 0 (inMode m 0)))
 
--- six characters, the last of them c: unmarked ACK 0 5 Y CR LF
+-- six characters, the last of them c: unmarked ACK 0 V Y CR LF; the reply goes at V's speed, and a session that starts keeps it
+abbrev pub confirmedSpeed : Meter → ℕ
+confirmedSpeed m = speedSaid (getD (m .receiver .held) 2 0)
+
 unfoldable pub confirmed : Meter → ℕ → Bool → Outcome
 confirmed m c damaged =
     cond (marked (m .receiver) || damaged) (silent 2 (inMode m 0))
-    (cond (wantsBlock (heldText (m .receiver)) c) (saying 1 5 (blockOf (blockData tables (m .registers))) (inMode m 0))
-    (cond (wantsProgram (heldText (m .receiver)) c) (saying 1 5 passwordAsk (inMode m 2))
+    (cond (wantsBlock (heldText (m .receiver)) c) (saying 1 (confirmedSpeed m) (blockOf (blockData tables (m .registers))) (inMode m 0))
+    (cond (wantsProgram (heldText (m .receiver)) c) (saying 1 (confirmedSpeed m) passwordAsk (withSpeed (inMode m 2) (confirmedSpeed m)))
     (silent 2 (inMode m 0))))
 
 unfoldable pub heard : Meter → ℕ → Bool → Hearing → Outcome

@@ -2,7 +2,7 @@
 use mathlib.Core.Bool.{cond}
 use mathlib.Core.List.{List, []}
 use Prim.Native.Nat.{ℕ}
-use lib.Dec.{eqb, leb}
+use lib.Dec.{eqb}
 use lib.ListN.{length}
 use Rattle.state.specs.declared.Meter.{Meter}
 use Rattle.state.specs.Setting.{inMode}
@@ -19,13 +19,13 @@ pub record Outcome : Type 0 where
 abbrev pub answerOf : Outcome → Answer
 answerOf o = record { number = o .number; length = length (o .reply); speed = o .speed; next = o .next }
 
--- speed identifier 0 in modes 0 and 1, else 5
-unfoldable pub speedOf : ℕ → ℕ
-speedOf mode = cond (leb 2 mode) 5 0
+-- the speed identifier that the state holds
+abbrev pub speedOf : Meter → ℕ
+speedOf m = m .speed
 
 -- nothing to reply: the speed given is the next state's
 abbrev pub silent : ℕ → Meter → Outcome
-silent number next = record { number = number; speed = speedOf (next .mode); reply = []; next = next }
+silent number next = record { number = number; speed = speedOf next; reply = []; next = next }
 
 -- 12 to 14: nothing changed, speed 0
 abbrev pub unheard : ℕ → Meter → Outcome
@@ -39,9 +39,10 @@ saying number speed reply next = record { number = number; speed = speed; reply 
 unfoldable pub fallen : ℕ → ℕ
 fallen mode = cond (eqb mode 2) 0 mode
 
--- refusals 3 to 11 reply NAK, at speed 5
+-- refusals 3 to 11 reply NAK, at the session's speed
 abbrev pub nak : ℕ → Meter → Outcome
-nak number m = saying number 5 refused (inMode m (fallen (m .mode)))
+nak number m = saying number (speedOf m) refused (inMode m (fallen (m .mode)))
 
-abbrev pub ack : Meter → Outcome
-ack next = saying 1 5 accepted next
+-- ACK, at the session's speed
+abbrev pub ack : ℕ → Meter → Outcome
+ack speed next = saying 1 speed accepted next

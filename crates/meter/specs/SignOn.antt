@@ -19,10 +19,14 @@ unfoldable pub signsOnBy : List ℕ → List ℕ → Bool
 signsOnBy held serial =
     (sameText (held ++ (LF ∷ [])) signOn || sameText (held ++ (LF ∷ [])) (signOnTo serial)) || sameText (held ++ (LF ∷ [])) (signOnTo (replicate 10 (char "0")))
 
+-- ACK 0 V Y CR LF, V being '5' or '0'
+unfoldable pub confirms : List ℕ → ℕ → ℕ → Bool
+confirms five c y = sameText (five ++ (c ∷ [])) (confirmation (char "5") y) || sameText (five ++ (c ∷ [])) (confirmation (char "0") y)
+
 -- Y is '0' or '7'
 unfoldable pub wantsBlock : List ℕ → ℕ → Bool
-wantsBlock five c = sameText (five ++ (c ∷ [])) (confirmation (char "0")) || sameText (five ++ (c ∷ [])) (confirmation (char "7"))
+wantsBlock five c = confirms five c (char "0") || confirms five c (char "7")
 
 -- Y is '1'
 unfoldable pub wantsProgram : List ℕ → ℕ → Bool
-wantsProgram five c = sameText (five ++ (c ∷ [])) (confirmation (char "1"))
+wantsProgram five c = confirms five c (char "1")

@@ -18,6 +18,7 @@ use clock::Clock;
 use deciding::Verdict;
 use replies::Ask;
 use state::Meter;
+use state::setting::emptied;
 use state::setting::in_mode;
 use state::setting::ten;
 use state::setting::with_account;
@@ -44,7 +45,7 @@ fn try_password(m: Meter, reply: &mut [u8]) -> Answer
         return answers::refuse(11, m, reply);
     }
     if text::same(text::first(text::rest(&held, 5), 8), &password) {
-        return answers::accept(in_mode(with_attempts(m, 0), 4), reply);
+        return answers::accept(m.speed, in_mode(with_attempts(m, 0), 4), reply);
     }
     answers::refuse(10, with_attempts(m, attempts + 1), reply)
 }
@@ -60,8 +61,8 @@ fn read(m: Meter, a: Ask, reply: &mut [u8]) -> Answer
     Answer {
         number: 1,
         length,
-        speed: 5,
-        next: in_mode(m, m.mode),
+        speed: m.speed,
+        next: emptied(m),
     }
 }
 
@@ -107,7 +108,7 @@ fn write_row(m: Meter, t: TableNo, reply: &mut [u8]) -> Answer
     ensures held { λ _. ⌜ now (reply .exit) ≡ holding (now (reply .entry)) (onWire (acted m (Verdict.WriteTable t) .reply)) ⌝ }
 {
     if values::is_table(t, values::TABLES) {
-        return answers::accept(in_mode(take_row(m, t), m.mode), reply);
+        return answers::accept(m.speed, emptied(take_row(m, t)), reply);
     }
     answers::refuse(9, m, reply)
 }
@@ -120,12 +121,12 @@ fn act(m: Meter, v: Verdict, reply: &mut [u8]) -> Answer
 {
     match v {
         Verdict::Refuse(n) => answers::refuse(n, m, reply),
-        Verdict::Leave => answers::accept(in_mode(m, 0), reply),
-        Verdict::Enter => answers::accept(in_mode(m, 3), reply),
+        Verdict::Leave => answers::accept(m.speed, in_mode(m, 0), reply),
+        Verdict::Enter => answers::accept(m.speed, in_mode(m, 3), reply),
         Verdict::Password => try_password(m, reply),
         Verdict::Read(a) => read(m, a, reply),
-        Verdict::WriteClock(c) => answers::accept(in_mode(take_clock(m, c), m.mode), reply),
-        Verdict::WriteAccount => answers::accept(in_mode(take_account(m), m.mode), reply),
+        Verdict::WriteClock(c) => answers::accept(m.speed, emptied(take_clock(m, c)), reply),
+        Verdict::WriteAccount => answers::accept(m.speed, emptied(take_account(m)), reply),
         Verdict::WriteTable(t) => write_row(m, t, reply),
     }
 }

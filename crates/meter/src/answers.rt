@@ -7,7 +7,6 @@ ghost use Rattle.frames.specs.Frames.{onWire};
 ghost use Rattle.replies.specs.Fixed.{accepted, refused};
 ghost use Rattle.meter.specs.Outcomes.{answerOf, fallen, silent, unheard, nak, ack};
 use crate::Answer;
-use crate::speed_of;
 use state::Meter;
 use state::setting::in_mode;
 
@@ -18,7 +17,7 @@ pub fn quiet(number: u8, next: Meter) -> Answer
     Answer {
         number,
         length: 0,
-        speed: speed_of(next.mode),
+        speed: next.speed,
         next,
     }
 }
@@ -41,7 +40,7 @@ fn fall(mode: u8) -> u8
     if mode == 2 { 0 } else { mode }
 }
 
-// NAK at speed 5; mode 2 falls to mode 0.
+// NAK at the session's speed; mode 2 falls to mode 0.
 pub fn refuse(number: u8, m: Meter, reply: &mut [u8]) -> Answer
     requires { ⌜ 1 ≤ length (now reply) ⌝ }
     ensures result { λ r. ⌜ r ≡ answerOf (nak number m) ⌝ }
@@ -51,22 +50,22 @@ pub fn refuse(number: u8, m: Meter, reply: &mut [u8]) -> Answer
     Answer {
         number,
         length,
-        speed: 5,
+        speed: m.speed,
         next: in_mode(m, fall(m.mode)),
     }
 }
 
-// ACK at speed 5.
-pub fn accept(next: Meter, reply: &mut [u8]) -> Answer
+// ACK at a session's speed.
+pub fn accept(speed: u8, next: Meter, reply: &mut [u8]) -> Answer
     requires { ⌜ 1 ≤ length (now reply) ⌝ }
-    ensures result { λ r. ⌜ r ≡ answerOf (ack next) ⌝ }
+    ensures result { λ r. ⌜ r ≡ answerOf (ack speed next) ⌝ }
     ensures held { λ _. ⌜ now (reply .exit) ≡ holding (now (reply .entry)) (onWire accepted) ⌝ }
 {
     let length = replies::acknowledge(reply);
     Answer {
         number: 1,
         length,
-        speed: 5,
+        speed,
         next,
     }
 }

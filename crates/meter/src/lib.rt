@@ -7,7 +7,7 @@ ghost use Rattle.text.specs.Writing.{holding};
 ghost use Rattle.frames.specs.Frames.{onWire};
 ghost use Rattle.state.specs.Sizes.{replyRoom};
 ghost use Rattle.state.specs.WellFormed.{wellFormed};
-ghost use Rattle.meter.specs.Outcomes.{answerOf, speedOf};
+ghost use Rattle.meter.specs.Outcomes.{answerOf};
 ghost use Rattle.meter.specs.Character.{symbol, taken, character};
 ghost use Rattle.meter.specs.Events.{silence};
 use receiving::Hearing;
@@ -39,13 +39,6 @@ pub struct Answer {
     pub length: usize,
     pub speed: u8,
     pub next: Meter,
-}
-
-// Speed identifier 0 in modes 0 and 1, else 5.
-pub fn speed_of(mode: u8) -> u8
-    ensures { λ r. ⌜ r ≡ speedOf mode ⌝ }
-{
-    if 2 <= mode { 5 } else { 0 }
 }
 
 // A character of a wire byte; a damaged one is taken as 0.

@@ -5,15 +5,17 @@ ghost use Prim.Native.Nat.{_≤_};
 ghost use lib.ListN.{length};
 ghost use Rattle.text.specs.Writing.{holding};
 ghost use Rattle.frames.specs.Frames.{onWire};
+ghost use Rattle.frames.specs.Session.{speedSaid};
 ghost use Rattle.state.specs.Sizes.{replyRoom};
 ghost use Rattle.state.specs.WellFormed.{wellFormed};
 ghost use Rattle.meter.specs.Outcomes.{answerOf};
 ghost use Rattle.meter.specs.Character.{lineEnded, confirmed};
-ghost use Rattle.meter.specs.SignOn.{ourLine, signsOnBy, wantsBlock, wantsProgram};
+ghost use Rattle.meter.specs.SignOn.{ourLine, signsOnBy, confirms, wantsBlock, wantsProgram};
 use crate::Answer;
 use crate::answers;
 use state::Meter;
 use state::setting::in_mode;
+use state::setting::with_speed;
 
 // The sign-on that names a serial, but for its LF.
 fn our_line(serial: &[u8]) -> [u8; 15]
@@ -62,19 +64,35 @@ pub fn end_line(m: Meter, reply: &mut [u8]) -> Answer
     answers::quiet(0, in_mode(m, 0))
 }
 
-// Whether five characters and one more confirm a reading.
+// Whether five characters and one more are a confirmation with Y, at 9600 baud or at 300.
+fn confirms(five: &[u8], c: u8, y: u8) -> bool
+    ensures { λ r. ⌜ r ≡ confirms (now (five .entry)) c y ⌝ }
+{
+    let fast = [line::ACK, b'0', b'5', y, line::CR];
+    let slow = [line::ACK, b'0', b'0', y, line::CR];
+    let ended = c == line::LF;
+    (text::same(five, &fast) & ended) | (text::same(five, &slow) & ended)
+}
+
+// Whether they confirm a reading.
 fn wants_block(five: &[u8], c: u8) -> bool
     ensures { λ r. ⌜ r ≡ wantsBlock (now (five .entry)) c ⌝ }
 {
-    let ended = c == line::LF;
-    (text::same(five, b"\x06050\r") & ended) | (text::same(five, b"\x06057\r") & ended)
+    confirms(five, c, b'0') | confirms(five, c, b'7')
 }
 
 // Whether they confirm programming.
 fn wants_program(five: &[u8], c: u8) -> bool
     ensures { λ r. ⌜ r ≡ wantsProgram (now (five .entry)) c ⌝ }
 {
-    text::same(five, b"\x06051\r") & (c == line::LF)
+    confirms(five, c, b'1')
+}
+
+// The speed identifier of a confirmation's digit.
+fn speed_said(v: u8) -> u8
+    ensures { λ r. ⌜ r ≡ speedSaid v ⌝ }
+{
+    if v == b'5' { 5 } else { 0 }
 }
 
 // Six characters of confirmation, the last of them c.
@@ -89,6 +107,7 @@ pub fn confirm(m: Meter, c: u8, damaged: bool, reply: &mut [u8]) -> Answer
     if marked {
         return answers::quiet(2, in_mode(m, 0));
     }
+    let speed = speed_said(held[2]);
     let five = text::first(&held, r.count as usize);
     if wants_block(five, c) {
         let g = m.registers;
@@ -96,7 +115,7 @@ pub fn confirm(m: Meter, c: u8, damaged: bool, reply: &mut [u8]) -> Answer
         return Answer {
             number: 1,
             length,
-            speed: 5,
+            speed,
             next: in_mode(m, 0),
         };
     }
@@ -105,8 +124,8 @@ pub fn confirm(m: Meter, c: u8, damaged: bool, reply: &mut [u8]) -> Answer
         return Answer {
             number: 1,
             length,
-            speed: 5,
-            next: in_mode(m, 2),
+            speed,
+            next: with_speed(in_mode(m, 2), speed),
         };
     }
     answers::quiet(2, in_mode(m, 0))

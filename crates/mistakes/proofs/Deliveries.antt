@@ -27,7 +27,7 @@ delivered : Delivered ready one (answered ready full (framesOf one)) (left ready
 delivered = delivery ready is-ready (postText one) (post-of 24 one good-one) full (λ i. omega arith)
 
 counted-once : acknowledgements (answered ready full (framesOf one)) ≡ 1
-counted-once = ap acknowledgements (delivered .acknowledged) ∙ count-once one
+counted-once = ap acknowledgements (delivered .acknowledged) ∙ count-once (ready .speed) one
 
 -- the row of table 7 was '1', and is '2'
 row-before : getD (rowOf (ready .registers .tables) 7) 0 0 ≡ 49

@@ -17,11 +17,11 @@ use Rattle.clock.specs.Weekday.{daysBefore, dayNumber, weekday}
 use Rattle.values.specs.Registers.{goodDigits, isAccountCharacter, goodAccount, goodRow, goodTable}
 use Rattle.values.specs.Texts.{tableText}
 use Rattle.values.specs.Reading.{tableRead}
-use Rattle.frames.specs.Frames.{closed, frameOf}
+use Rattle.frames.specs.Frames.{closed, frameOf, bareFrame}
 use Rattle.frames.specs.Commands.{bracketed, setTable}
-use Rattle.frames.specs.Session.{signOn}
+use Rattle.frames.specs.Session.{signOn, confirmation, speedSaid}
 use Rattle.state.specs.declared.Meter.{Meter}
-use Rattle.state.specs.WellFormed.{limit, firstGood, heldGood, markGood, receiverGood, below, zonesGood, sumOf, total, tablesGood, factsGood, factoryGood, registersGood, wellFormed}
+use Rattle.state.specs.WellFormed.{limit, firstGood, heldGood, markGood, receiverGood, below, zonesGood, sumOf, total, tablesGood, factsGood, factoryGood, registersGood, wellFormed, speedGood}
 use Rattle.state.specs.Making.{madeOf}
 use Rattle.state.specs.Setting.{counterOf}
 use Rattle.receiving.specs.Hearing.{hearing, listening, confirming, framing}
@@ -30,9 +30,9 @@ use Rattle.deciding.specs.Telling.{enclosed, inner, tableTold, told as toldBy}
 use Rattle.deciding.specs.Verdict.{entry, bareVerdict, framedVerdict, shapeVerdict, verdict}
 use Rattle.tariff.specs.Zones.{tableFor, zoneIn, counted}
 use Rattle.meter.specs.declared.Answer.{Answer}
-use Rattle.meter.specs.Outcomes.{speedOf, fallen}
+use Rattle.meter.specs.Outcomes.{fallen}
 use Rattle.meter.specs.Acting.{tried, acted}
-use Rattle.meter.specs.SignOn.{signsOnBy}
+use Rattle.meter.specs.SignOn.{signsOnBy, confirms, wantsBlock, wantsProgram}
 use Rattle.meter.specs.Character.{symbol, lineEnded, confirmed, heard, taken, character}
 use Rattle.meter.specs.Events.{afterSilence, silence, tick, pulse, powerUp}
 use Rattle.meter.specs.declared.Event.{Event}
@@ -44,7 +44,7 @@ use Rattle.firmware.specs.declared.Shown.{Shown}
 use Rattle.firmware.specs.Making.{checkedAs, shownAs}
 use Rattle.firmware.specs.declared.Reply.{Reply}
 use Rattle.mistakes.specs.Samples.{serial, account, password, twos, newMeter, heldIn}
-use Rattle.mistakes.specs.Events.{told, toldAll, toldMet, shortPassword, shortTried, signedOn, restarted, Receiving, Passing, Happening, Settling, Lent}
+use Rattle.mistakes.specs.Events.{told, toldAll, toldMet, shortPassword, shortTried, signedOn, slowConfirmed, oddConfirmed, slowEntered, fastLeft, restarted, Receiving, Passing, Happening, Settling, Lent}
 use Rattle.mistakes.proofs.Differing.{seen, number, byte}
 
 -- the kinds of event, as numbers
@@ -57,7 +57,7 @@ kindOf PowerUp = 4
 kindOf Unknown = 5
 
 pub events : Receiving × Passing × Happening × Settling × Lent
-unfolding ones damagedAt seven sent bccOf every stored holding between isDigit isLetter isPrintable matching sameText decimal valueFrom valueOf numberAt layoutText pattern agrees fits leap thirty daysIn realDate realTime realClock goodDigits isAccountCharacter goodAccount goodRow goodTable tableText tableRead closed frameOf bracketed setTable signOn limit firstGood heldGood markGood receiverGood tablesGood factsGood registersGood wellFormed hearing listening confirming framing startGood bareShape content framedShape enclosed inner tableTold toldBy entry bareVerdict framedVerdict shapeVerdict verdict speedOf fallen tried acted signsOnBy symbol lineEnded confirmed heard taken character serial account password twos newMeter heldIn told toldAll toldMet shortPassword shortTried signedOn restarted daysBefore dayNumber weekday nextSecond tableFor zoneIn counted afterSilence silence tick pulse powerUp heardAs heardBy heardOf settles eventOf met refusal happened madeOf checkedAs shownAs kindOf below zonesGood sumOf total factoryGood
+unfolding ones damagedAt seven sent bccOf every stored holding between isDigit isLetter isPrintable matching sameText decimal valueFrom valueOf numberAt layoutText pattern agrees fits leap thirty daysIn realDate realTime realClock goodDigits isAccountCharacter goodAccount goodRow goodTable tableText tableRead closed frameOf bracketed setTable signOn limit firstGood heldGood markGood receiverGood tablesGood factsGood registersGood wellFormed hearing listening confirming framing startGood bareShape content framedShape enclosed inner tableTold toldBy entry bareVerdict framedVerdict shapeVerdict verdict speedOf fallen tried acted signsOnBy symbol lineEnded confirmed heard taken character serial account password twos newMeter heldIn told toldAll toldMet shortPassword shortTried signedOn restarted daysBefore dayNumber weekday nextSecond tableFor zoneIn counted afterSilence silence tick pulse powerUp heardAs heardBy heardOf settles eventOf met refusal happened madeOf checkedAs shownAs kindOf below zonesGood sumOf total factoryGood confirms wantsBlock wantsProgram confirmation speedSaid bareFrame speedGood slowConfirmed oddConfirmed slowEntered fastLeft
 events = (
   record {
     receive = (seen (λ (a : Answer). a .number) refl, seen (λ (a : Answer). getD (a .next .registers .tables) 144 0) refl);
@@ -67,7 +67,10 @@ events = (
     receive-restart = (seen (λ (a : Answer). a .next .receiver .mark) refl, seen (λ (a : Answer). a .next .receiver .count) refl);
     receive-refused = (seen (λ (a : Answer). a .number) refl, seen (λ (a : Answer). a .number) refl);
     «symbol_of» = (number refl, number refl);
-    «speed_of» = (number refl, number refl);
+    receive-slow = (seen (λ (a : Answer). a .speed) refl, seen (λ (a : Answer). a .next .speed) refl);
+    receive-entered = (seen (λ (a : Answer). a .next .speed) refl, seen (λ (a : Answer). a .speed) refl);
+    receive-left = (seen (λ (a : Answer). a .next .speed) refl, seen (λ (a : Answer). a .speed) refl);
+    receive-digit = (seen (λ (a : Answer). a .number) refl, seen (λ (a : Answer). a .number) refl);
     «hear_nothing» = (seen (λ (a : Answer). a .length) refl, seen (λ (a : Answer). a .speed) refl);
   },
   record {

@@ -14,6 +14,7 @@ use Rattle.values.specs.Texts.{tableText}
 use Rattle.frames.specs.Frames.{closed, frameOf}
 use Rattle.frames.specs.Commands.{bracketed, setTable}
 use Rattle.state.specs.declared.Receiver.{Receiver}
+use Rattle.state.specs.declared.Meter.{Meter}
 use Rattle.state.specs.declared.Counters.{Counters}
 use Rattle.state.specs.Setting.{counterOf}
 use Rattle.receiving.specs.declared.Hearing.{Hearing}
@@ -67,6 +68,12 @@ pub setting : Setting
 unfolding stored decimal serial account twos newMeter used heldIn
 setting =
     record {
+      «with_receiver» = (seen (λ (m : Meter). m .receiver .count) refl, seen (λ (m : Meter). m .mode) refl);
+      «in_mode» = (seen (λ (m : Meter). m .speed) refl, seen (λ (m : Meter). m .speed) refl);
+      emptied = (seen (λ (m : Meter). m .receiver .count) refl, seen (λ (m : Meter). m .speed) refl);
+      «with_speed» = (seen (λ (m : Meter). m .speed) refl, seen (λ (m : Meter). m .mode) refl);
+      «with_attempts» = (seen (λ (m : Meter). m .attempts) refl, seen (λ (m : Meter). m .attempts) refl);
+      «with_registers» = (seen (λ (m : Meter). counterOf (m .registers .counters) 1) refl, seen (λ (m : Meter). m .mode) refl);
       ten = (byte 0 refl, byte 0 refl);
       «with_row» = (byte 144 refl, byte 145 refl);
       «row_start» = (number refl, number refl);

@@ -18,7 +18,7 @@ use Rattle.frames.specs.Frames.{closed, sealed, frameOf, bareFrame, blockOf}
 use Rattle.frames.specs.Commands.{bracketed}
 use Rattle.state.specs.declared.Meter.{Meter}
 use Rattle.state.specs.declared.Made.{Made}
-use Rattle.state.specs.WellFormed.{limit, firstGood, heldGood, markGood, receiverGood, below, zonesGood, sumOf, total, tablesGood, factsGood, factoryGood, registersGood, wellFormed}
+use Rattle.state.specs.WellFormed.{limit, firstGood, heldGood, markGood, receiverGood, below, zonesGood, sumOf, total, tablesGood, factsGood, factoryGood, registersGood, wellFormed, speedGood}
 use Rattle.state.specs.Making.{madeOf}
 use Rattle.datasets.specs.Sets.{dataSet, linesOf}
 use Rattle.replies.specs.Shown.{energy, rowOf}
@@ -36,7 +36,7 @@ frames = record { seal = (byte 4 refl, byte 5 refl); send = (byte 1 refl, byte 0
 
 -- the states, and that a new meter in programming mode is well-formed
 computed : States × (wellFormed (inMode newMeter 4) ≡ true)
-unfolding every between isDigit isLetter decimal leap thirty daysIn realDate realTime realClock goodDigits isAccountCharacter goodAccount limit firstGood heldGood markGood receiverGood below zonesGood sumOf total tablesGood factsGood factoryGood registersGood wellFormed madeOf serial account password newMeter
+unfolding every between isDigit isLetter decimal leap thirty daysIn realDate realTime realClock goodDigits isAccountCharacter goodAccount limit firstGood heldGood markGood receiverGood below zonesGood sumOf total tablesGood factsGood factoryGood registersGood wellFormed madeOf serial account password newMeter speedGood
 computed = (
   record {
     «limit_of» = (number refl, number refl);

@@ -8,7 +8,7 @@ use Rattle.clock.specs.Seconds.{realClock}
 use Rattle.values.specs.Registers.{goodSerial, goodPassword, goodAccount, goodRow, goodTable, goodZone}
 use Rattle.frames.specs.Frames.{frameOf, bareFrame, onWire}
 use Rattle.frames.specs.Commands.{B0, P0, P1, R1, W1, bracketed, askClock, askSerial, askAccount, askEnergy, askTable, setClock, setAccount, setTable}
-use Rattle.frames.specs.Session.{signOn, signOnTo, confirmation, enterData, passwordData}
+use Rattle.frames.specs.Session.{signOn, signOnTo, confirmation, goodSpeed, enterData, passwordData}
 use Rattle.commands.specs.declared.Built.{Built}
 use Rattle.commands.specs.Building.{goodChoice, Builds}
 use Rattle.mistakes.specs.Samples.{clockAt, serial, password}
@@ -36,7 +36,11 @@ pub record Commands : Type 0 where
   pub «sign_on_to» : NotAnswered room (goodSerial (replicate 9 49)) (onWire (signOnTo (replicate 9 49))) 1 15
       × NotLeft room (goodSerial serial) (onWire (signOnTo serial)) (holding room (onWire (47 ∷ 63 ∷ (serial ++ (33 ∷ 13 ∷ 10 ∷ [])))))
   -- '6' confirmed; '7' refused
-  pub confirm : NotAnswered room (goodChoice 54) (onWire (confirmation 54)) 1 6 × NotAnswered room (goodChoice 55) (onWire (confirmation 55)) 9 0
+  pub confirm : NotAnswered room (goodSpeed 53 && goodChoice 54) (onWire (confirmation 53 54)) 1 6
+      × NotAnswered room (goodSpeed 53 && goodChoice 55) (onWire (confirmation 53 55)) 9 0
+  -- the digit 1 taken as a speed; '0' refused
+  pub confirm-speed : NotAnswered room (goodSpeed 49 && goodChoice 48) (onWire (confirmation 49 48)) 1 6
+      × NotAnswered room (goodSpeed 48 && goodChoice 48) (onWire (confirmation 48 48)) 9 0
   -- P0 for P1; built in 63 bytes
   pub enter : NotLeft room true (onWire (frameOf P1 enterData)) (holding room (onWire (frameOf P0 enterData)))
       × NotAnswered (replicate 63 0) true (onWire (frameOf P1 enterData)) 1 8

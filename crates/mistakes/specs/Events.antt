@@ -4,15 +4,15 @@ use mathlib.Core.List.{[], _∷_}
 use lib.ListN.{length, getD, take, replicate}
 use Rattle.line.specs.Characters.{sent}
 use Rattle.text.specs.Writing.{holding}
-use Rattle.frames.specs.Frames.{frameOf, onWire}
-use Rattle.frames.specs.Commands.{P1, W1, bracketed, setTable}
+use Rattle.frames.specs.Frames.{frameOf, bareFrame, onWire}
+use Rattle.frames.specs.Commands.{B0, P1, W1, bracketed, setTable}
 use Rattle.state.specs.Sizes.{replyRoom}
 use Rattle.state.specs.declared.Meter.{Meter}
-use Rattle.replies.specs.Fixed.{accepted, refused, identification}
+use Rattle.replies.specs.Fixed.{accepted, refused, identification, passwordAsk}
 use Rattle.receiving.specs.Receivers.{restartedReceiver}
 use Rattle.state.specs.Making.{emptyReceiver, noCounters, madeOf}
-use Rattle.state.specs.Setting.{withHeld, withMark, withReceiver, inMode, withAttempts, withRegisters, withClock, withCounters, withZones, withTotal}
-use Rattle.meter.specs.Outcomes.{Outcome, answerOf, speedOf, silent, unheard, saying, nak, ack}
+use Rattle.state.specs.Setting.{withHeld, withMark, withReceiver, inMode, withAttempts, withRegisters, withClock, withCounters, withZones, withTotal, withSpeed}
+use Rattle.meter.specs.Outcomes.{Outcome, answerOf, silent, unheard, saying, nak, ack}
 use Rattle.meter.specs.Character.{symbol, character}
 use Rattle.meter.specs.Events.{silence, tick, pulse, powerUp}
 use Rattle.meter.specs.declared.Event.the-variants.{Character, Silence, Tick, Pulse, Unknown}
@@ -25,7 +25,7 @@ use Rattle.mistakes.specs.Samples.{clockAt, serial, account, password, t
 
 -- table 7 with the row of '2', all but its BCC held in programming mode; and what its BCC comes to
 unfoldable pub told : Meter
-told = heldIn 4 (take 35 (frameOf W1 (setTable 7 twos)))
+told = withSpeed (heldIn 4 (take 35 (frameOf W1 (setTable 7 twos)))) 5
 
 unfoldable pub toldAll : Outcome
 toldAll = character told replyRoom (sent (getD (frameOf W1 (setTable 7 twos)) 35 0))
@@ -45,6 +45,21 @@ shortTried = character shortPassword replyRoom (sent (getD (frameOf P1 (brackete
 unfoldable pub signedOn : Outcome
 signedOn = character (heldIn 0 (47 ∷ 63 ∷ 33 ∷ 13 ∷ [])) replyRoom (sent 10)
 
+-- request [1]: ACK 0 0 1 CR held in mode 1, and its LF; the same with the digit 1
+unfoldable pub slowConfirmed : Outcome
+slowConfirmed = character (heldIn 1 (6 ∷ 48 ∷ 48 ∷ 49 ∷ 13 ∷ [])) replyRoom (sent 10)
+
+unfoldable pub oddConfirmed : Outcome
+oddConfirmed = character (heldIn 1 (6 ∷ 48 ∷ 49 ∷ 49 ∷ 13 ∷ [])) replyRoom (sent 10)
+
+-- the right password in a slow session, all but its BCC held, and its BCC
+unfoldable pub slowEntered : Outcome
+slowEntered = character (heldIn 2 (take 15 (frameOf P1 (bracketed password)))) replyRoom (sent (getD (frameOf P1 (bracketed password)) 15 0))
+
+-- B0 in a fast session, all but its BCC held, and its BCC
+unfoldable pub fastLeft : Outcome
+fastLeft = character (withSpeed (heldIn 4 (take 4 (bareFrame B0))) 5) replyRoom (sent (getD (bareFrame B0) 4 0))
+
 -- a damaged character held, then a SOH
 unfoldable pub restarted : Outcome
 restarted = character (withReceiver (inMode newMeter 2) (withMark (withHeld emptyReceiver (restartedReceiver 1 .held) 2) 1)) replyRoom (sent 1)
@@ -52,7 +67,7 @@ restarted = character (withReceiver (inMode newMeter 2) (withMark (withHeld empt
 -- of `meter`
 pub record Receiving : Type 0 where
   -- NAK to a good write; ACK to it, and the old tables
-  pub receive : RuledOut (answerOf toldAll) (answerOf (nak 9 told)) × RuledOut (answerOf toldAll) (answerOf (ack (inMode newMeter 4)))
+  pub receive : RuledOut (answerOf toldAll) (answerOf (nak 9 told)) × RuledOut (answerOf toldAll) (answerOf (ack 5 (withSpeed (inMode newMeter 4) 5)))
   -- NAK in the buffer; ACK with the buffer's other bytes cleared
   pub receive-reply : RuledOut (holding (replicate replyRoom 9) (onWire (toldAll .reply))) (holding (replicate replyRoom 9) (onWire refused))
       × RuledOut (holding (replicate replyRoom 9) (onWire (toldAll .reply))) (holding (replicate replyRoom 0) (onWire accepted))
@@ -72,8 +87,17 @@ pub record Receiving : Type 0 where
       × RuledOut (answerOf (character newMeter 2047 (sent 47))) (answerOf (silent 0 (withReceiver newMeter (restartedReceiver 47))))
   -- a damaged '0' taken for a character; the parity bit left on a '1'
   pub «symbol_of» : RuledOut (symbol 176) 48 × RuledOut (symbol 177) 177
-  -- 9600 baud before the password is asked for; 300 baud while it is
-  pub «speed_of» : RuledOut (speedOf 1) 5 × RuledOut (speedOf 2) 0
+  -- the slow confirmation answered at 9600 baud; answered slowly, and the session at 9600
+  pub receive-slow : RuledOut (answerOf slowConfirmed) (answerOf (saying 1 5 passwordAsk (inMode newMeter 2)))
+      × RuledOut (answerOf slowConfirmed) (answerOf (saying 1 0 passwordAsk (withSpeed (inMode newMeter 2) 5)))
+  -- the slow speed forgotten at the password; the ACK to it at 9600 baud
+  pub receive-entered : RuledOut (answerOf slowEntered) (answerOf (ack 0 (withSpeed (inMode newMeter 4) 5)))
+      × RuledOut (answerOf slowEntered) (answerOf (ack 5 (inMode newMeter 4)))
+  -- the session's speed kept in mode 0; the ACK to B0 at the speed of mode 0
+  pub receive-left : RuledOut (answerOf fastLeft) (answerOf (ack 5 (withSpeed newMeter 5))) × RuledOut (answerOf fastLeft) (answerOf (ack 0 newMeter))
+  -- a digit 1 taken as a speed; taken as the slow one
+  pub receive-digit : RuledOut (answerOf oddConfirmed) (answerOf (saying 1 1 passwordAsk (withSpeed (inMode newMeter 2) 1)))
+      × RuledOut (answerOf oddConfirmed) (answerOf (saying 1 0 passwordAsk (inMode newMeter 2)))
   -- no NAK in mode 1; NAK at speed 5
   pub «hear_nothing» : RuledOut (answerOf (silence (inMode newMeter 1) replyRoom)) (answerOf (silent 1 newMeter))
       × RuledOut (answerOf (silence (inMode newMeter 1) replyRoom)) (answerOf (saying 1 5 refused newMeter))
@@ -112,7 +136,7 @@ pub record Happening : Type 0 where
 -- of `settling`
 pub record Settling : Type 0 where
   -- the last character of a frame settled with nothing said; a character taken in a short buffer
-  pub settle : RuledOut (settles told replyRoom (Character (sent (getD (frameOf W1 (setTable 7 twos)) 35 0)))) (goesOn 4 emptyReceiver)
+  pub settle : RuledOut (settles told replyRoom (Character (sent (getD (frameOf W1 (setTable 7 twos)) 35 0)))) (goesOn 5 emptyReceiver)
       × RuledOut (settles newMeter 2047 (Character (sent 47))) (goesOn 0 (restartedReceiver 47))
   -- a malformed state said before a pulse that is too much; an event that is none left to the meter
   pub settle-refused : RuledOut (settles (withAttempts newMeter 4) 0 (Pulse 1000001)) (refuses 14 (newMeter .receiver))
@@ -129,8 +153,8 @@ pub record Lent : Type 0 where
   -- a serial of nine digits taken; the account of bad facts kept
   pub «dirgemist_meter_make» : RuledOut (madeOf (take 9 serial) account password (clockAt 2000 1 1 12 0 0) .number) 1
       × RuledOut (madeOf serial account (take 7 password) (clockAt 2000 1 1 12 0 0) .meter .registers .account) account
-  -- a malformed state passed; a new one refused
-  pub «dirgemist_meter_check» : RuledOut (checkedAs (withAttempts newMeter 4)) 1 × RuledOut (checkedAs newMeter) 14
+  -- a speed of 5 passed in mode 0; a new one refused
+  pub «dirgemist_meter_check» : RuledOut (checkedAs (withSpeed newMeter 5)) 1 × RuledOut (checkedAs newMeter) 14
   -- the total of a malformed state shown; none shown of a good one
   pub «dirgemist_meter_total» : RuledOut (shownAs (withRegisters newMeter (withCounters (newMeter .registers) (withTotal noCounters 1)))) (record { number = 1; total = 1 })
       × RuledOut (shownAs newMeter) (record { number = 14; total = 0 })

@@ -14,7 +14,7 @@ use Rattle.receiving.specs.Hearing.{hearing}
 use Rattle.receiving.specs.Receivers.{lastHeld, keptReceiver, restartedReceiver}
 use Rattle.deciding.specs.declared.Verdict.the-variants.{Password, WriteTable}
 use Rattle.deciding.specs.Verdict.{verdict}
-use Rattle.state.specs.Setting.{withHeld, withMark, withReceiver, inMode, withAttempts, withRegisters, withClock, withAccount, withTables, withCounters, withZones, withTotal, zonePlace, counterOf, rowStart, withRow}
+use Rattle.state.specs.Setting.{withHeld, withMark, withReceiver, inMode, withAttempts, withRegisters, withClock, withAccount, withTables, withCounters, withZones, withTotal, zonePlace, counterOf, rowStart, withRow, withSpeed}
 use Rattle.tariff.specs.Zones.{tableFor, zoneIn, counted}
 use Rattle.mistakes.specs.RuledOut.{RuledOut}
 use Rattle.mistakes.specs.Samples.{serial, twos, newMeter, used, heldIn}
@@ -39,6 +39,21 @@ pub record Decisions : Type 0 where
 
 -- of `state::setting`
 pub record Setting : Type 0 where
+  -- the old receiver; mode 0 with it
+  pub «with_receiver» : RuledOut (withReceiver newMeter (restartedReceiver 47)) newMeter
+      × RuledOut (withReceiver (inMode newMeter 1) (restartedReceiver 47)) (withReceiver newMeter (restartedReceiver 47))
+  -- a slow session made fast; a fast one's speed kept in mode 0
+  pub «in_mode» : RuledOut (inMode (inMode newMeter 2) 4) (withSpeed (inMode newMeter 4) 5)
+      × RuledOut (inMode (withSpeed (inMode newMeter 4) 5) 0) (withSpeed newMeter 5)
+  -- what was held kept; the speed lost
+  pub emptied : RuledOut (withReceiver (heldIn 2 (1 ∷ [])) emptyReceiver) (heldIn 2 (1 ∷ []))
+      × RuledOut (withReceiver (withSpeed (heldIn 2 (1 ∷ [])) 5) emptyReceiver) (inMode newMeter 2)
+  -- the old speed; mode 0 with it
+  pub «with_speed» : RuledOut (withSpeed (inMode newMeter 2) 5) (inMode newMeter 2) × RuledOut (withSpeed (inMode newMeter 2) 5) (withSpeed newMeter 5)
+  -- the old attempts; one more
+  pub «with_attempts» : RuledOut (withAttempts newMeter 2) newMeter × RuledOut (withAttempts newMeter 2) (withAttempts newMeter 3)
+  -- the old registers; mode 0 with the new
+  pub «with_registers» : RuledOut (withRegisters newMeter used) newMeter × RuledOut (withRegisters (inMode newMeter 4) used) (withRegisters newMeter used)
   -- zeros; one character too far on
   pub ten : RuledOut serial (replicate 10 48) × RuledOut serial (drop 1 serial ++ (0 ∷ []))
   -- the row of table 7 in table 8; its first character alone

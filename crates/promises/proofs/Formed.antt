@@ -25,12 +25,13 @@ use Rattle.state.specs.Sizes.{replyRoom, tables, rowLength, counterEnd, heldPla
 use Rattle.state.specs.declared.Receiver.{Receiver}
 use Rattle.state.specs.declared.Counters.{Counters}
 use Rattle.state.specs.declared.Registers.{Registers}
+use Rattle.frames.specs.Session.{speedSaid}
 use Rattle.state.specs.declared.Meter.{Meter}
-use Rattle.state.specs.WellFormed.{limit, firstGood, markGood, heldGood, receiverGood, below, zonesGood, sumOf, total, countersGood, tablesGood, registersGood, wellFormed, marked}
+use Rattle.state.specs.WellFormed.{limit, firstGood, markGood, heldGood, receiverGood, below, zonesGood, sumOf, total, countersGood, tablesGood, registersGood, wellFormed, marked, speedGood}
 use Rattle.state.specs.Making.{emptyReceiver}
-use Rattle.state.proofs.Parts.{Formed, formed, well-formed, FormedRegisters, formed-registers, registers-good, FormedReceiver, formed-receiver, receiver-good, total-is-sum}
+use Rattle.state.proofs.Parts.{Formed, formed, well-formed, FormedRegisters, formed-registers, registers-good, FormedReceiver, formed-receiver, receiver-good, total-is-sum, speed-kept}
 use Rattle.state.proofs.Totals.{grows-alike}
-use Rattle.state.specs.Setting.{withReceiver, inMode, withAttempts, withRegisters, withClock, withAccount, withTables, withCounters, withZones, withTotal, withRow, rowStart, zonePlace, counterOf}
+use Rattle.state.specs.Setting.{withReceiver, inMode, withAttempts, withRegisters, withClock, withAccount, withTables, withCounters, withZones, withTotal, withRow, rowStart, zonePlace, counterOf, withSpeed}
 use Rattle.tariff.specs.Zones.{zoneIn, grown, counted}
 use Rattle.receiving.specs.declared.Hearing.{Hearing}
 use Rattle.receiving.specs.declared.Hearing.the-variants.{Drop, Hold, Restart, Empty, Line, Confirm, Frame, TooLong}
@@ -42,7 +43,7 @@ use Rattle.deciding.specs.Verdict.{verdict}
 use Rattle.meter.specs.Outcomes.{Outcome, fallen}
 use Rattle.meter.specs.SignOn.{signsOnBy, wantsBlock, wantsProgram}
 use Rattle.meter.specs.Acting.{passwordGiven, accountGiven, rowGiven, tried, acted}
-use Rattle.meter.specs.Character.{symbol, lineEnded, confirmed, heard, taken, character}
+use Rattle.meter.specs.Character.{symbol, lineEnded, confirmedSpeed, confirmed, heard, taken, character}
 use Rattle.meter.specs.Events.{afterSilence, silence, tick, pulse, powerUp}
 use Rattle.promises.proofs.Choices as choice
 use Rattle.promises.proofs.Pieces.{account-is, row-is}
@@ -132,22 +133,32 @@ kept-good mode r c d g room s =
 in-mode : (m : Meter) (mode : ℕ) → wellFormed m ≡ true → mode ≤ 4 → wellFormed (inMode m mode) ≡ true
 in-mode m mode h k =
     let f = formed m h in
-    well-formed (inMode m mode) (record { mode = k; attempts = f .attempts; receiver = empty-good mode; registers = f .registers })
+    well-formed (inMode m mode) (record { mode = k; attempts = f .attempts; speed = speed-kept (m .mode) mode (m .speed) (f .speed); receiver = empty-good mode; registers = f .registers })
 
 with-receiver : (m : Meter) (r : Receiver) → wellFormed m ≡ true → receiverGood (m .mode) r ≡ true → wellFormed (withReceiver m r) ≡ true
 with-receiver m r h k =
     let f = formed m h in
-    well-formed (withReceiver m r) (record { mode = f .mode; attempts = f .attempts; receiver = k; registers = f .registers })
+    well-formed (withReceiver m r) (record { mode = f .mode; attempts = f .attempts; speed = f .speed; receiver = k; registers = f .registers })
 
 with-attempts : (m : Meter) (a : ℕ) → wellFormed m ≡ true → a ≤ 3 → wellFormed (withAttempts m a) ≡ true
 with-attempts m a h k =
     let f = formed m h in
-    well-formed (withAttempts m a) (record { mode = f .mode; attempts = k; receiver = f .receiver; registers = f .registers })
+    well-formed (withAttempts m a) (record { mode = f .mode; attempts = k; speed = f .speed; receiver = f .receiver; registers = f .registers })
 
 with-registers : (m : Meter) (g : Registers) → wellFormed m ≡ true → registersGood g ≡ true → wellFormed (withRegisters m g) ≡ true
 with-registers m g h k =
     let f = formed m h in
-    well-formed (withRegisters m g) (record { mode = f .mode; attempts = f .attempts; receiver = f .receiver; registers = k })
+    well-formed (withRegisters m g) (record { mode = f .mode; attempts = f .attempts; speed = f .speed; receiver = f .receiver; registers = k })
+
+with-speed : (m : Meter) (s : ℕ) → wellFormed m ≡ true → speedGood (m .mode) s ≡ true → wellFormed (withSpeed m s) ≡ true
+with-speed m s h k =
+    let f = formed m h in
+    well-formed (withSpeed m s) (record { mode = f .mode; attempts = f .attempts; speed = k; receiver = f .receiver; registers = f .registers })
+
+-- whatever digit was confirmed, its speed is one of a session
+said-good : (v : ℕ) → speedGood 2 (speedSaid v) ≡ true
+unfolding speedGood speedSaid
+said-good v = choice.either (λ (s : ℕ). (eqb s 0 || (leb 2 2 && eqb s 5)) ≡ true) (eqb v 53) refl refl
 
 own : (m : Meter) → wellFormed m ≡ true → FormedRegisters (m .registers)
 own m h = formed-registers (m .registers) (formed m h .registers)
@@ -221,8 +232,8 @@ module _ (m : Meter) (h : wellFormed m ≡ true) where
       (in-mode (withAttempts m 0) 4 (with-attempts m 0 h (omega arith)) (omega arith))
       (in-mode (withAttempts m (m .attempts + 1)) (fallen (m .mode)) (with-attempts m (m .attempts + 1) h below) (fallen-small (m .mode) (f .mode))))
 
-  wrote-stays : (g : Registers) → registersGood g ≡ true → wellFormed (inMode (withRegisters m g) (m .mode)) ≡ true
-  wrote-stays g k = in-mode (withRegisters m g) (m .mode) (with-registers m g h k) (formed m h .mode)
+  wrote-stays : (g : Registers) → registersGood g ≡ true → wellFormed (withReceiver (withRegisters m g) emptyReceiver) ≡ true
+  wrote-stays g k = with-receiver (withRegisters m g) emptyReceiver (with-registers m g h k) (empty-good (m .mode))
 
   frame-stays : (mark : Bool) (sum : ℕ) → Stays (acted m (verdict (m .mode) (heldText (m .receiver)) mark sum))
   unfolding acted Stays
@@ -233,7 +244,7 @@ module _ (m : Meter) (h : wellFormed m ≡ true) where
         leave = in-mode m 0 h (omega arith);
         enter = λ e. in-mode m 3 h (omega arith);
         password = λ e w. tried-stays;
-        read = λ a k. in-mode m (m .mode) h (formed m h .mode);
+        read = λ a k. with-receiver m emptyReceiver h (empty-good (m .mode));
         write = λ e f.
             record {
               clock = λ c i r. wrote-stays _ (clock-good (m .registers) c (own m h) r);
@@ -259,7 +270,7 @@ module _ (m : Meter) (h : wellFormed m ≡ true) where
   heard-stays c d Confirm e s =
       choice.either Stays (marked (m .receiver) || d) (in-mode m 0 h (omega arith))
       (choice.either Stays (wantsBlock (heldText (m .receiver)) c) (in-mode m 0 h (omega arith))
-      (choice.either Stays (wantsProgram (heldText (m .receiver)) c) (in-mode m 2 h (omega arith)) (in-mode m 0 h (omega arith))))
+      (choice.either Stays (wantsProgram (heldText (m .receiver)) c) (with-speed (inMode m 2) (confirmedSpeed m) (in-mode m 2 h (omega arith)) (said-good (getD (m .receiver .held) 2 0))) (in-mode m 0 h (omega arith))))
   heard-stays c d Frame e s = frame-stays (marked (m .receiver) || d) c
   heard-stays c d TooLong e s = falls
 

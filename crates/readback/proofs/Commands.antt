@@ -211,6 +211,6 @@ unfolding signOnTo every isCharacter
 sign-on-to-comes-back s h =
     sent-comes-back-all (signOnTo s) (every-append isCharacter (serialText s) (33 ∷ 13 ∷ 10 ∷ []) (serial-characters s h) refl)
 
-pub confirmation-comes-back : (y : ℕ) → y ≤ 127 → map seven (onWire (confirmation y)) ≡ confirmation y
+pub confirmation-comes-back : (v y : ℕ) → v ≤ 127 → y ≤ 127 → map seven (onWire (confirmation v y)) ≡ confirmation v y
 unfolding confirmation every isCharacter
-confirmation-comes-back y h = sent-comes-back-all (confirmation y) (rw (le-leb y 127 h))
+confirmation-comes-back v y k h = sent-comes-back-all (confirmation v y) (rw (le-leb v 127 k, le-leb y 127 h))

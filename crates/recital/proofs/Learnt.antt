@@ -27,7 +27,7 @@ module _ (m : Meter) (f : wellFormed m ≡ true) where
   unfolding outcomeOf obeyed answerSays answerable counts energyNo
   answers-learnt =
       record {
-        block = λ y h e. record { content = blockData editionTables (m .registers); reply = rw e; reads = block-reads-back m f };
+        block = λ v y k h e. record { content = blockData editionTables (m .registers); reply = rw e; reads = block-reads-back m f };
         clock = learns _ ask.Clock refl refl;
         own-serial = learns _ ask.Serial refl refl;
         own-account = learns _ ask.Account refl refl;

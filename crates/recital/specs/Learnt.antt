@@ -8,6 +8,7 @@ use Rattle.line.specs.Quoted.{char}
 use Rattle.values.specs.Edition.{editionTables}
 use Rattle.values.specs.Registers.{goodTable, goodZone}
 use Rattle.frames.specs.Frames.{blockOf}
+use Rattle.frames.specs.Session.{goodSpeed}
 use Rattle.state.specs.Sizes.{tables}
 use Rattle.state.specs.declared.Meter.{Meter}
 use Rattle.state.specs.Setting.{counterOf}
@@ -25,9 +26,9 @@ pub record Learns (m : Meter) (x : Message) (xs : List Register) : Type 0 where
   pub reply : outcomeOf m x .reply ≡ blockOf content
   pub reads : ReadsBack content xs
 
--- a confirmation that asks for no programming is answered with the whole block, and each R1 with what it asks for
+-- a confirmation that asks for no programming, at either speed, is answered with the whole block, and each R1 with what it asks for
 pub record Answers (m : Meter) : Type 0 where
-  pub block : (y : ℕ) → goodChoice y ≡ true → eqb y (char "1") ≡ false → Learns m (confirm y) (blockSays (m .registers))
+  pub block : (v y : ℕ) → goodSpeed v ≡ true → goodChoice y ≡ true → eqb y (char "1") ≡ false → Learns m (confirm v y) (blockSays (m .registers))
   pub clock : Learns m (command readClock) (time (m .registers .clock .time) ∷ date (m .registers .clock .date) ∷ [])
   pub own-serial : Learns m (command readSerial) (serial (m .registers .facts .serial) ∷ [])
   pub own-account : Learns m (command readAccount) (account (m .registers .account) ∷ [])

@@ -20,7 +20,7 @@ use Rattle.delivery.specs.Delivery.{DeliveredAs}
 
 -- sign-on, the confirmation for programming, the password of a blank meter
 unfoldable pub opening : List ℕ
-opening = onWire (signOn ++ (confirmation (char "1") ++ frameOf P1 (passwordData (replicate 8 (char "0")))))
+opening = onWire (signOn ++ (confirmation (char "5") (char "1") ++ frameOf P1 (passwordData (replicate 8 (char "0")))))
 
 unfoldable pub openedMeter : Meter
 openedMeter = left blankMeter full opening

@@ -22,7 +22,7 @@ use Rattle.settling.specs.declared.Heard.{Heard}
 
 -- answer 0, and the receiver after the character
 abbrev pub goesOn : ℕ → Receiver → Heard
-goesOn mode r = record { settled = true; number = 0; speed = speedOf mode; receiver = r }
+goesOn speed r = record { settled = true; number = 0; speed = speed; receiver = r }
 
 -- the character ends a line, a confirmation or a frame, or is one too many of a frame: the meter has to act
 abbrev pub ends : Receiver → Heard
@@ -33,10 +33,10 @@ abbrev pub refuses : ℕ → Receiver → Heard
 refuses number r = record { settled = true; number = number; speed = 0; receiver = r }
 
 unfoldable pub heardAs : Meter → ℕ → Bool → Hearing → Heard
-heardAs m c damaged Drop = goesOn (m .mode) (m .receiver)
-heardAs m c damaged Hold = goesOn (m .mode) (keptReceiver (m .receiver) c damaged)
-heardAs m c damaged Restart = goesOn (m .mode) (restartedReceiver c)
-heardAs m c damaged Empty = goesOn (m .mode) emptyReceiver
+heardAs m c damaged Drop = goesOn (speedOf m) (m .receiver)
+heardAs m c damaged Hold = goesOn (speedOf m) (keptReceiver (m .receiver) c damaged)
+heardAs m c damaged Restart = goesOn (speedOf m) (restartedReceiver c)
+heardAs m c damaged Empty = goesOn (speedOf m) emptyReceiver
 heardAs m c damaged Line = ends (m .receiver)
 heardAs m c damaged Confirm = ends (m .receiver)
 heardAs m c damaged Frame = ends (m .receiver)

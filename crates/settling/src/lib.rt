@@ -18,13 +18,13 @@ pub struct Heard {
 }
 
 // Answer 0, and the receiver after the character.
-fn go_on(mode: u8, receiver: Receiver) -> Heard
-    ensures { λ r. ⌜ r ≡ goesOn mode receiver ⌝ }
+fn go_on(speed: u8, receiver: Receiver) -> Heard
+    ensures { λ r. ⌜ r ≡ goesOn speed receiver ⌝ }
 {
     Heard {
         settled: true,
         number: 0,
-        speed: meter::speed_of(mode),
+        speed,
         receiver,
     }
 }
@@ -62,10 +62,10 @@ fn hear(m: Meter, b: u8) -> Heard
     let r = m.receiver;
     let h = receiving::hear(m.mode, r.count, receiving::last_held(r), c);
     match h {
-        Hearing::Drop => go_on(m.mode, r),
-        Hearing::Hold => go_on(m.mode, receiving::keep(r, c, damaged)),
-        Hearing::Restart => go_on(m.mode, receiving::restart(c)),
-        Hearing::Empty => go_on(m.mode, state::setting::empty_receiver()),
+        Hearing::Drop => go_on(m.speed, r),
+        Hearing::Hold => go_on(m.speed, receiving::keep(r, c, damaged)),
+        Hearing::Restart => go_on(m.speed, receiving::restart(c)),
+        Hearing::Empty => go_on(m.speed, state::setting::empty_receiver()),
         Hearing::Line => end(r),
         Hearing::Confirm => end(r),
         Hearing::Frame => end(r),

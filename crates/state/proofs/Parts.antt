@@ -4,7 +4,7 @@ use mathlib.Core.Bool.{Bool, true, false, cond, not, _&&_, _||_}
 use mathlib.Core.List.{List, [], _∷_}
 use Prim.Native.Nat.{ℕ, zero, suc, _*_, _≤_, _<_}
 use native.Mathlib.Omega.{arith}
-use borrow.Author.Tests.{leb-true, le-leb, eqb-true, ltb-true}
+use borrow.Author.Tests.{leb-true, le-leb, lt-leb, eqb-true, ltb-true}
 use lib.Dec.{eqb, leb, ltb}
 use lib.ListN.{length, drop, getD}
 use Rattle.line.specs.Runs.{every}
@@ -19,8 +19,8 @@ use Rattle.state.specs.declared.Counters.{Counters}
 use Rattle.state.specs.declared.Registers.{Registers}
 use Rattle.state.specs.declared.Meter.{Meter}
 use Rattle.state.specs.Sizes.{heldPlaces, rowLength, tables, counterEnd}
-use Rattle.state.specs.WellFormed.{limit, firstGood, markGood, heldGood, receiverGood, below, zonesGood, total, countersGood, tablesGood, factsGood, factoryGood, registersGood, wellFormed}
-use Rattle.state.specs.Setting.{zonePlace, counterOf}
+use Rattle.state.specs.WellFormed.{limit, firstGood, markGood, heldGood, receiverGood, below, zonesGood, total, countersGood, tablesGood, factsGood, factoryGood, registersGood, wellFormed, speedGood}
+use Rattle.state.specs.Setting.{zonePlace, counterOf, speedIn}
 
 -- what is asked only after two tests have passed, and what has failed before it
 pub then-all : (a b c : Bool) → (a && b) ≡ true → c ≡ (a && (b && c))
@@ -32,24 +32,49 @@ then-none a b c h = rw (← and-assoc a b c, h)
 pub record Formed (m : Meter) : Type 0 where
   pub mode : m .mode ≤ 4
   pub attempts : m .attempts ≤ 3
+  pub speed : speedGood (m .mode) (m .speed) ≡ true
   pub receiver : receiverGood (m .mode) (m .receiver) ≡ true
   pub registers : registersGood (m .registers) ≡ true
 
 pub formed : (m : Meter) → wellFormed m ≡ true → Formed m
 unfolding wellFormed
 formed m h =
-    let rest = and-left ((leb (m .mode) 4 && leb (m .attempts) 3) && receiverGood (m .mode) (m .receiver)) (registersGood (m .registers)) h in
-    let small = and-left (leb (m .mode) 4 && leb (m .attempts) 3) (receiverGood (m .mode) (m .receiver)) rest in
+    let numbers = leb (m .mode) 4 && leb (m .attempts) 3 in
+    let s = speedGood (m .mode) (m .speed) in
+    let r = receiverGood (m .mode) (m .receiver) in
+    let rest = and-left ((numbers && s) && r) (registersGood (m .registers)) h in
+    let small = and-left (numbers && s) r rest in
+    let two = and-left numbers s small in
     record {
-      mode = leb-true (m .mode) 4 (and-left (leb (m .mode) 4) (leb (m .attempts) 3) small);
-      attempts = leb-true (m .attempts) 3 (and-right (leb (m .mode) 4) (leb (m .attempts) 3) small);
-      receiver = and-right (leb (m .mode) 4 && leb (m .attempts) 3) (receiverGood (m .mode) (m .receiver)) rest;
-      registers = and-right ((leb (m .mode) 4 && leb (m .attempts) 3) && receiverGood (m .mode) (m .receiver)) (registersGood (m .registers)) h;
+      mode = leb-true (m .mode) 4 (and-left (leb (m .mode) 4) (leb (m .attempts) 3) two);
+      attempts = leb-true (m .attempts) 3 (and-right (leb (m .mode) 4) (leb (m .attempts) 3) two);
+      speed = and-right numbers s small;
+      receiver = and-right (numbers && s) r rest;
+      registers = and-right ((numbers && s) && r) (registersGood (m .registers)) h;
     }
 
 pub well-formed : (m : Meter) → Formed m → wellFormed m ≡ true
 unfolding wellFormed
-well-formed m f = rw (le-leb (m .mode) 4 (f .mode), le-leb (m .attempts) 3 (f .attempts), f .receiver, f .registers)
+well-formed m f = rw (le-leb (m .mode) 4 (f .mode), le-leb (m .attempts) 3 (f .attempts), f .speed, f .receiver, f .registers)
+
+-- modes 0 and 1 have speed 0
+alone : (z f : Bool) → (z || (false && f)) ≡ true → z ≡ true
+alone true f h = refl
+alone false f h = h
+
+pub slow-low : (mode speed : ℕ) → mode ≤ 1 → speedGood mode speed ≡ true → speed ≡ 0
+unfolding speedGood
+slow-low mode speed l h = eqb-true speed 0 (alone (eqb speed 0) (eqb speed 5) (rw (lt-leb 2 mode (omega (arith, l))) at h))
+
+-- a speed that is good in one mode is good in every other, if that keeps it as `speedIn` says
+pub speed-kept : (mode other speed : ℕ) → speedGood mode speed ≡ true → speedGood other (speedIn other speed) ≡ true
+unfolding speedGood
+speed-kept mode other speed h = go (leb 2 mode) (leb 2 other) h
+  where
+    go : (p q : Bool) → (eqb speed 0 || (p && eqb speed 5)) ≡ true → (eqb (cond q speed 0) 0 || (q && eqb (cond q speed 0) 5)) ≡ true
+    go true true h = h
+    go false true h = rw (alone (eqb speed 0) (eqb speed 5) h)
+    go p false h = refl
 
 pub record FormedRegisters (g : Registers) : Type 0 where
   pub facts : factsGood (g .facts) ≡ true

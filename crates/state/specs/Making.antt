@@ -23,12 +23,13 @@ noCounters = record { zones = replicate 4 0; total = 0 }
 abbrev pub factsOf : List ℕ → List ℕ → Facts
 factsOf serial password = record { serial = serial; password = password }
 
--- counters 0, attempts 0, all tables '1', mode 0, empty receiver
+-- counters 0, attempts 0, all tables '1', mode 0, speed 0, empty receiver
 abbrev pub meterOf : Facts → List ℕ → Clock → Meter
 meterOf facts account clock =
     record {
       mode = 0;
       attempts = 0;
+      speed = 0;
       receiver = emptyReceiver;
       registers = record { facts = facts; account = account; clock = clock; counters = noCounters; tables = replicate (tables * rowLength) 49 };
     }

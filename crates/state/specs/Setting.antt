@@ -1,6 +1,8 @@
 -- A record with one field anew, and all others as they were. Nothing above spells a record of the state out.
+use mathlib.Core.Bool.{cond}
 use mathlib.Core.List.{List}
 use Prim.Native.Nat.{ℕ, _-_, _*_}
+use lib.Dec.{leb}
 use lib.ListN.{getD}
 use Rattle.text.specs.Writing.{stored}
 use Rattle.clock.specs.declared.Clock.{Clock}
@@ -19,21 +21,28 @@ abbrev pub withMark : Receiver → ℕ → Receiver
 withMark r mark = record { held = r .held; count = r .count; mark = mark }
 
 -- a meter of these
-abbrev pub meterIn : ℕ → ℕ → Receiver → Registers → Meter
-meterIn mode attempts r g = record { mode = mode; attempts = attempts; receiver = r; registers = g }
+abbrev pub meterIn : ℕ → ℕ → ℕ → Receiver → Registers → Meter
+meterIn mode attempts speed r g = record { mode = mode; attempts = attempts; speed = speed; receiver = r; registers = g }
 
 abbrev pub withReceiver : Meter → Receiver → Meter
-withReceiver m r = record { mode = m .mode; attempts = m .attempts; receiver = r; registers = m .registers }
+withReceiver m r = meterIn (m .mode) (m .attempts) (m .speed) r (m .registers)
+
+-- a session keeps its speed; modes 0 and 1 have 0
+abbrev pub speedIn : ℕ → ℕ → ℕ
+speedIn mode speed = cond (leb 2 mode) speed 0
 
 -- in another mode, the receiver empty
 abbrev pub inMode : Meter → ℕ → Meter
-inMode m mode = record { mode = mode; attempts = m .attempts; receiver = emptyReceiver; registers = m .registers }
+inMode m mode = meterIn mode (m .attempts) (speedIn mode (m .speed)) emptyReceiver (m .registers)
+
+abbrev pub withSpeed : Meter → ℕ → Meter
+withSpeed m speed = meterIn (m .mode) (m .attempts) speed (m .receiver) (m .registers)
 
 abbrev pub withAttempts : Meter → ℕ → Meter
-withAttempts m attempts = record { mode = m .mode; attempts = attempts; receiver = m .receiver; registers = m .registers }
+withAttempts m attempts = meterIn (m .mode) attempts (m .speed) (m .receiver) (m .registers)
 
 abbrev pub withRegisters : Meter → Registers → Meter
-withRegisters m g = record { mode = m .mode; attempts = m .attempts; receiver = m .receiver; registers = g }
+withRegisters m g = meterIn (m .mode) (m .attempts) (m .speed) (m .receiver) g
 
 abbrev pub withAccount : Registers → List ℕ → Registers
 withAccount g a = record { facts = g .facts; account = a; clock = g .clock; counters = g .counters; tables = g .tables }

@@ -76,5 +76,10 @@ factoryGood facts account clock = factsGood facts && (goodAccount account && rea
 unfoldable pub registersGood : Registers → Bool
 registersGood g = factoryGood (g .facts) (g .account) (g .clock) && (countersGood (g .counters) && tablesGood tables (g .tables))
 
+-- speed identifier 0 in modes 0 and 1, 0 or 5 in modes 2 to 4
+unfoldable pub speedGood : ℕ → ℕ → Bool
+speedGood mode speed = eqb speed 0 || (leb 2 mode && eqb speed 5)
+
 unfoldable pub wellFormed : Meter → Bool
-wellFormed m = ((leb (m .mode) 4 && leb (m .attempts) 3) && receiverGood (m .mode) (m .receiver)) && registersGood (m .registers)
+wellFormed m =
+    (((leb (m .mode) 4 && leb (m .attempts) 3) && speedGood (m .mode) (m .speed)) && receiverGood (m .mode) (m .receiver)) && registersGood (m .registers)

@@ -4,7 +4,7 @@ ghost use Prim.Native.Nat.{_≤_, _<_};
 ghost use lib.ListN.{length};
 ghost use Rattle.line.specs.Runs.{every};
 ghost use Rattle.state.specs.Sizes.{tables, heldPlaces};
-ghost use Rattle.state.specs.WellFormed.{limit, firstGood, heldGood, receiverGood, below, zonesGood, total, countersGood, tablesGood, factsGood, factoryGood, registersGood, wellFormed};
+ghost use Rattle.state.specs.WellFormed.{limit, firstGood, heldGood, receiverGood, below, zonesGood, total, countersGood, tablesGood, factsGood, factoryGood, registersGood, wellFormed, speedGood};
 ghost use Rattle.state.specs.Making.{factsOf, meterOf, blankMeter, madeOf};
 use clock::Clock;
 use clock::Date;
@@ -58,11 +58,12 @@ pub struct Registers {
     pub tables: [u8; ALL_ROWS],
 }
 
-// Mode: 0 listening, 1 confirmation, 2 password, 3 read-only, 4 programming.
+// Mode: 0 listening, 1 confirmation, 2 password, 3 read-only, 4 programming. The speed identifier is that of the session: 0 or 5, as confirmed.
 #[repr(C)]
 pub struct Meter {
     pub mode: u8,
     pub attempts: u8,
+    pub speed: u8,
     pub receiver: Receiver,
     pub registers: Registers,
 }
@@ -203,12 +204,21 @@ fn registers_good(g: Registers) -> bool
     false
 }
 
+// Whether a speed is one that the mode may have: 300 baud, or 9600 in a session.
+fn speed_good(mode: u8, speed: u8) -> bool
+    ensures { λ r. ⌜ r ≡ speedGood mode speed ⌝ }
+{
+    (speed == 0) | ((2 <= mode) & (speed == 5))
+}
+
 // Whether a state is well-formed.
 pub fn is_well_formed(m: Meter) -> bool
     ensures { λ r. ⌜ r ≡ wellFormed m ⌝ }
 {
     let r = m.receiver;
-    if ((m.mode <= 4) & (m.attempts <= 3)) & receiver_good(m.mode, r) {
+    if (((m.mode <= 4) & (m.attempts <= 3)) & speed_good(m.mode, m.speed))
+        & receiver_good(m.mode, r)
+    {
         let g = m.registers;
         return registers_good(g);
     }
@@ -222,6 +232,7 @@ fn meter_of(facts: Facts, account: [u8; 10], clock: Clock) -> Meter
     Meter {
         mode: 0,
         attempts: 0,
+        speed: 0,
         receiver: setting::empty_receiver(),
         registers: Registers {
             facts,

@@ -4,7 +4,7 @@ ghost use Prim.Native.Nat.{_≤_};
 ghost use lib.ListN.{length};
 ghost use Rattle.state.specs.Sizes.{rowLength, tables};
 ghost use Rattle.state.specs.Making.{emptyReceiver};
-ghost use Rattle.state.specs.Setting.{withHeld, withMark, withReceiver, inMode, withAttempts, withRegisters, withAccount, withClock, withCounters, withTables, withZones, withTotal, withRow, rowStart, zonePlace, counterOf};
+ghost use Rattle.state.specs.Setting.{withHeld, withMark, withReceiver, inMode, withAttempts, withRegisters, withAccount, withClock, withCounters, withTables, withZones, withTotal, withRow, rowStart, zonePlace, counterOf, speedIn, withSpeed};
 use crate::ALL_ROWS;
 use crate::Counters;
 use crate::HELD_PLACES;
@@ -52,13 +52,36 @@ pub fn with_receiver(m: Meter, r: Receiver) -> Meter
     next
 }
 
+// A session keeps its speed; modes 0 and 1 have 0.
+fn speed_in(mode: u8, speed: u8) -> u8
+    ensures { λ r. ⌜ r ≡ speedIn mode speed ⌝ }
+{
+    if 2 <= mode { speed } else { 0 }
+}
+
 // In another mode, the receiver empty.
 pub fn in_mode(m: Meter, mode: u8) -> Meter
     ensures { λ x. ⌜ x ≡ inMode m mode ⌝ }
 {
     let mut next = m;
     next.mode = mode;
+    next.speed = speed_in(mode, m.speed);
     next.receiver = empty_receiver();
+    next
+}
+
+// In the same mode, the receiver empty.
+pub fn emptied(m: Meter) -> Meter
+    ensures { λ x. ⌜ x ≡ withReceiver m emptyReceiver ⌝ }
+{
+    with_receiver(m, empty_receiver())
+}
+
+pub fn with_speed(m: Meter, speed: u8) -> Meter
+    ensures { λ x. ⌜ x ≡ withSpeed m speed ⌝ }
+{
+    let mut next = m;
+    next.speed = speed;
     next
 }
 

@@ -156,15 +156,8 @@ pub fn well_formed(meter: &Meter) -> bool {
         & eight_digits(eight(&meter.serial, 2))
         & eight_digits(eight(&meter.password, 0))
         & (meter.attempts < 4)
+        & ((meter.speed == 0) | ((meter.speed == 5) & (meter.mode >= 2)))
         & clock_good(&meter.clock)
-}
-
-fn speed(meter: &Meter) -> u8 {
-    if meter.mode < 2 {
-        0
-    } else {
-        5
-    }
 }
 
 fn answer(number: u8, speed: u8, length: usize) -> Answer {
@@ -185,9 +178,13 @@ fn empty(meter: &mut Meter) {
     meter.held = [0; PLACES];
 }
 
+/// Outside a session there is no speed but 0.
 fn enter(meter: &mut Meter, mode: u8) {
     empty(meter);
     meter.mode = mode;
+    if mode < 2 {
+        meter.speed = 0;
+    }
 }
 
 fn restart(meter: &mut Meter, first: u8) {
@@ -274,19 +271,22 @@ fn confirmation_character(
     let good = meter.mark == 0
         && !damaged
         && character == LF
-        && meter.held[..3] == [ACK, b'0', b'5']
+        && meter.held[..2] == [ACK, b'0']
+        && (meter.held[2] == b'0' || meter.held[2] == b'5')
         && meter.held[4] == CR;
+    let speed = meter.held[2] & 5;
     let choice = meter.held[3];
     enter(meter, 0);
     match choice {
-        b'0' | b'7' if good => answer(1, 5, data_block(meter, buffer)),
+        b'0' | b'7' if good => answer(1, speed, data_block(meter, buffer)),
         b'1' if good => {
             meter.mode = 2;
+            meter.speed = speed;
             let ask = b"\x01P0\x02(0000)\x03\x60";
             for (place, &character) in buffer.iter_mut().zip(ask) {
                 *place = parity(character);
             }
-            answer(1, 5, ask.len())
+            answer(1, speed, ask.len())
         }
         _ => answer(2, 0, 0),
     }
@@ -296,10 +296,11 @@ fn frame_character(meter: &mut Meter, character: u8, damaged: bool, buffer: &mut
     let count = usize::from(meter.count);
     if count > 0 && meter.held[count - 1] == ETX {
         meter.mark |= u8::from(damaged);
+        let speed = meter.speed;
         return match decide(meter, count, character, buffer) {
             Ok(length) => {
                 empty(meter);
-                answer(1, 5, length)
+                answer(1, speed, length)
             }
             Err(number) => refuse(meter, number, buffer),
         };
@@ -311,16 +312,17 @@ fn frame_character(meter: &mut Meter, character: u8, damaged: bool, buffer: &mut
     } else if count > 0 {
         hold(meter, character, damaged);
     }
-    answer(0, 5, 0)
+    answer(0, meter.speed, 0)
 }
 
 fn refuse(meter: &mut Meter, number: u8, buffer: &mut [u8]) -> Answer {
+    let speed = meter.speed;
     empty(meter);
     if meter.mode == 2 {
-        meter.mode = 0;
+        enter(meter, 0);
     }
     buffer[0] = parity(NAK);
-    answer(number, 5, 1)
+    answer(number, speed, 1)
 }
 
 fn acknowledge(buffer: &mut [u8]) -> usize {
@@ -354,6 +356,7 @@ fn decide(meter: &mut Meter, count: usize, check: u8, buffer: &mut [u8]) -> Resu
             return Err(7);
         }
         meter.mode = 0;
+        meter.speed = 0;
         return Ok(acknowledge(buffer));
     }
     // The data are looked at where they are held, from a copy of the places alone.
@@ -622,7 +625,7 @@ pub fn tick(meter: &mut Meter) -> Answer {
             }
         }
     }
-    answer(1, speed(meter), 0)
+    answer(1, meter.speed, 0)
 }
 
 fn next_day(clock: &mut Clock) {
@@ -678,7 +681,7 @@ pub fn pulse(meter: &mut Meter, wh: u32) -> Answer {
     if meter.total >= COUNTER_END {
         meter.total -= COUNTER_END;
     }
-    answer(1, speed(meter), 0)
+    answer(1, meter.speed, 0)
 }
 
 #[cfg(test)]

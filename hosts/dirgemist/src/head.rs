@@ -31,6 +31,7 @@ extern "C" {
         length: *mut usize,
     ) -> u8;
     fn dirgemist_head_confirm(
+        speed: u8,
         choice: u8,
         out: *mut u8,
         out_length: usize,
@@ -211,9 +212,20 @@ pub fn sign_on_to(serial: &[u8], out: &mut [u8]) -> (u8, usize) {
     lettered(dirgemist_head_sign_on_to, serial, out)
 }
 
-/// The confirmation with the character `'0'`, `'7'` or `'1'`.
-pub fn confirm(choice: u8, out: &mut [u8]) -> (u8, usize) {
-    numbered(dirgemist_head_confirm, choice, out)
+/// The confirmation: the speed's character, `'0'` (300 baud) or `'5'` (9600), then `'0'`, `'7'` or `'1'`.
+///
+/// ```
+/// use dirgemist::head;
+/// let mut out = [0; head::COMMAND_ROOM];
+/// assert_eq!(head::confirm(b'0', b'1', &mut out), (head::DONE, 6));
+/// assert_eq!(head::confirm(b'1', b'1', &mut out), (9, 0));
+/// ```
+pub fn confirm(speed: u8, choice: u8, out: &mut [u8]) -> (u8, usize) {
+    let mut length = UNWRITTEN;
+    let (to, room) = (out.as_mut_ptr(), out.len());
+    // SAFETY: see above.
+    let number = unsafe { dirgemist_head_confirm(speed, choice, to, room, &mut length) };
+    (number, length)
 }
 
 /// The start of a session that only reads.

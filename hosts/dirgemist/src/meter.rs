@@ -92,6 +92,8 @@ pub struct Registers {
 pub struct Meter {
     pub mode: u8,
     pub attempts: u8,
+    /// Speed identifier of the session, 0 or 5; 0 in modes 0 and 1.
+    pub speed: u8,
     pub receiver: Receiver,
     pub registers: Registers,
 }

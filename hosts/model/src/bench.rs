@@ -195,9 +195,9 @@ fn clock_of(fields: &[&[u8]]) -> Option<Clock> {
     })
 }
 
-/// The state of the 20 fields that `dump` writes.
+/// The state of the 21 fields that `dump` writes.
 fn state(fields: &[&[u8]]) -> Option<Meter> {
-    let [mode, count, mark, held, serial, account, password, attempts, clock @ .., c1, c2, c3, c4, tables, total] =
+    let [mode, count, mark, held, serial, account, password, attempts, clock @ .., c1, c2, c3, c4, tables, speed, total] =
         fields
     else {
         return None;
@@ -216,6 +216,7 @@ fn state(fields: &[&[u8]]) -> Option<Meter> {
         account: exactly(account)?,
         password: exactly(password)?,
         attempts: decimal(attempts)?,
+        speed: decimal(speed)?,
         clock: clock_of(clock)?,
         counters: [decimal(c1)?, decimal(c2)?, decimal(c3)?, decimal(c4)?],
         total: decimal(total)?,
@@ -257,7 +258,7 @@ pub fn dump(meter: &Meter) -> String {
         put(&mut line, format_args!("{counter} "));
     }
     put_hex(&mut line, meter.tables.as_flattened());
-    put(&mut line, format_args!(" {}", meter.total));
+    put(&mut line, format_args!(" {} {}", meter.speed, meter.total));
     line
 }
 

@@ -127,7 +127,7 @@ fn shown(serial: &[u8]) -> String {
 pub enum Command<'a> {
     SignOn,
     SignOnTo(&'a [u8]),
-    Confirm(u8),
+    Confirm(u8, u8),
     Enter,
     Password(&'a [u8]),
     ReadClock,
@@ -156,7 +156,7 @@ fn framed(name: &str, data: &str) -> Vec<u8> {
 pub fn characters(command: &Command) -> Option<Vec<u8>> {
     let fields_good = match command {
         Command::SignOnTo(serial) => serial_rule(serial),
-        Command::Confirm(choice) => b"017".contains(choice),
+        Command::Confirm(speed, choice) => b"05".contains(speed) && b"017".contains(choice),
         Command::Password(password) => digits(password, 8),
         Command::ReadZone(zone) => (1..=4).contains(zone),
         Command::ReadTable(table) => (1..=24).contains(table),
@@ -172,7 +172,7 @@ pub fn characters(command: &Command) -> Option<Vec<u8>> {
     Some(match command {
         Command::SignOn => b"/?!\r\n".to_vec(),
         Command::SignOnTo(serial) => format!("/?{}!\r\n", shown(serial)).into_bytes(),
-        Command::Confirm(choice) => vec![ACK, b'0', b'5', *choice, b'\r', b'\n'],
+        Command::Confirm(speed, choice) => vec![ACK, b'0', *speed, *choice, b'\r', b'\n'],
         Command::Enter => framed("P1", "()"),
         Command::Password(password) => framed("P1", &format!("({})", text(password))),
         Command::ReadClock => framed("R1", "T()"),
@@ -617,7 +617,8 @@ mod tests {
             text(Command::SignOnTo(b"0123456789")),
             b"/?012 3456789!\r\n"
         );
-        assert_eq!(text(Command::Confirm(b'7')), b"\x06057\r\n");
+        assert_eq!(text(Command::Confirm(b'5', b'7')), b"\x06057\r\n");
+        assert_eq!(text(Command::Confirm(b'0', b'1')), b"\x06001\r\n");
         assert!(text(Command::Password(b"12345678")).starts_with(b"\x01P1\x02(12345678)\x03"));
         assert!(text(Command::ReadClock).starts_with(b"\x01R1\x02T()\x03"));
         assert!(text(Command::ReadSerial).starts_with(b"\x01R1\x02L()\x03"));
@@ -654,8 +655,11 @@ mod tests {
         assert!(refused(Command::SignOnTo(b"012345678")));
         assert!(refused(Command::SignOnTo(b"01234567890")));
         assert!(refused(Command::SignOnTo(b"012 456789")));
-        assert!(refused(Command::Confirm(b'5')));
-        assert!(refused(Command::Confirm(1)));
+        assert!(refused(Command::Confirm(b'5', b'5')));
+        assert!(refused(Command::Confirm(b'5', 1)));
+        for speed in [0, 5, b'1', b'4', b'6', b'5' | 0x80] {
+            assert!(refused(Command::Confirm(speed, b'1')));
+        }
         assert!(refused(Command::Password(b"1234567")));
         assert!(refused(Command::Password(b"1234567a")));
         assert!(refused(Command::ReadZone(0)) && refused(Command::ReadZone(5)));

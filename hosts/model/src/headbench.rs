@@ -101,9 +101,9 @@ fn build(name: &[u8], room: &[u8], fields: &[&[u8]]) -> Option<String> {
     let command = match (name, fields) {
         (b"any", []) => Command::SignOn,
         (b"serial", [_]) => Command::SignOnTo(&text),
-        (b"confirm", [choice]) => {
-            let [choice] = exactly(choice)?;
-            Command::Confirm(choice)
+        (b"confirm", [speed, choice]) => {
+            let ([speed], [choice]) = (exactly(speed)?, exactly(choice)?);
+            Command::Confirm(speed, choice)
         }
         (b"readonly", []) => Command::Enter,
         (b"password", [_]) => Command::Password(&text),
@@ -200,8 +200,10 @@ mod tests {
             ("build any 63", "19 0 -"),
             ("build any 18446744073709551615", "1 5 af3f218d0a"),
             ("build break 64", "1 5 8142300371"),
-            ("build confirm 64 31", "1 6 063035b18d0a"),
-            ("build confirm 64 36", "9 0 -"),
+            ("build confirm 64 35 31", "1 6 063035b18d0a"),
+            ("build confirm 64 30 31", "1 6 063030b18d0a"),
+            ("build confirm 64 31 31", "9 0 -"),
+            ("build confirm 64 35 36", "9 0 -"),
             ("build energy 64 5", "9 0 -"),
             ("build serial 64 -", "9 0 -"),
             ("build serial 0 -", "19 0 -"),

@@ -53,6 +53,8 @@ pub struct Meter {
     pub account: [u8; 10],
     pub password: [u8; 8],
     pub attempts: u8,
+    /// Speed identifier: 0 in modes 0 and 1; 0 or 5 in modes 2 to 4, as confirmed.
+    pub speed: u8,
     pub clock: Clock,
     pub counters: [u32; 4],
     /// The four added up, as it is kept.
@@ -253,6 +255,7 @@ impl Meter {
             account: *b"          ",
             password: *b"00000000",
             attempts: 0,
+            speed: 0,
             clock: Clock::FIRST,
             counters: [0; 4],
             total: 0,
@@ -314,6 +317,7 @@ impl Meter {
             && self.receiver_good()
             && self.facts_good()
             && self.attempts <= 3
+            && (self.speed == 0 || self.speed == 5 && self.mode > CONFIRMATION)
             && self.counters.iter().all(|&counter| counter < COUNTER_END)
             && self.total == total_of(&self.counters)
             && self
@@ -321,15 +325,6 @@ impl Meter {
                 .iter()
                 .flatten()
                 .all(|&zone| zone_character(zone))
-    }
-
-    /// Speed identifier of the state.
-    pub fn speed(&self) -> u8 {
-        if self.mode <= CONFIRMATION {
-            0
-        } else {
-            5
-        }
     }
 
     /// The characters held, without the unused places.
@@ -355,9 +350,13 @@ impl Meter {
         self.hold(Some(first));
     }
 
+    /// Another mode; outside a session there is no speed but 0.
     fn enter(&mut self, mode: u8) {
         self.empty();
         self.mode = mode;
+        if mode <= CONFIRMATION {
+            self.speed = 0;
+        }
     }
 
     /// A received character.
@@ -382,7 +381,7 @@ impl Meter {
         let Some((speed, characters)) = step.reply else {
             return Answer {
                 number: step.number,
-                speed: self.speed(),
+                speed: self.speed,
                 length: 0,
             };
         };
@@ -429,18 +428,20 @@ impl Meter {
         if self.count < 6 {
             return Step::quiet(0);
         }
-        let choice = match self.held() {
-            [ACK, b'0', b'5', choice, CR, LF] if self.mark == 0 => Some(*choice),
+        let wanted = match self.held() {
+            [ACK, b'0', b'0', choice, CR, LF] if self.mark == 0 => Some((0, *choice)),
+            [ACK, b'0', b'5', choice, CR, LF] if self.mark == 0 => Some((5, *choice)),
             _ => None,
         };
         self.enter(LISTENING);
-        match choice {
-            Some(b'0' | b'7') => Step::reply(1, 5, &self.data_block()),
-            Some(b'1') => {
+        match wanted {
+            Some((speed, b'0' | b'7')) => Step::reply(1, speed, &self.data_block()),
+            Some((speed, b'1')) => {
                 self.enter(PASSWORD);
+                self.speed = speed;
                 let mut frame = b"\x01P0\x02(0000)\x03".to_vec();
                 frame.push(bcc(&frame[1..]));
-                Step::reply(1, 5, &frame)
+                Step::reply(1, speed, &frame)
             }
             _ => Step::quiet(2),
         }
@@ -452,10 +453,11 @@ impl Meter {
             // The BCC, whatever it is.
             self.mark |= u8::from(got.is_none());
             let frame = self.held().to_vec();
+            let speed = self.speed;
             let decision = self.decide(&frame, got.unwrap_or(0));
             self.empty();
             return match decision {
-                Ok(reply) => Step::reply(1, 5, &reply),
+                Ok(reply) => Step::reply(1, speed, &reply),
                 Err(number) => self.refuse(number),
             };
         }
@@ -471,15 +473,16 @@ impl Meter {
         Step::quiet(0)
     }
 
-    /// NAK at speed 5; mode 2 falls to mode 0.
+    /// NAK at the session's speed; mode 2 falls to mode 0.
     fn refuse(&mut self, number: u8) -> Step {
+        let speed = self.speed;
         let mode = if self.mode == PASSWORD {
             LISTENING
         } else {
             self.mode
         };
         self.enter(mode);
-        Step::reply(number, 5, &[NAK])
+        Step::reply(number, speed, &[NAK])
     }
 
     /// Decides a whole frame: the reply, or the number of its refusal.
@@ -651,7 +654,7 @@ impl Meter {
         self.clock = self.clock.next();
         Answer {
             number: 1,
-            speed: self.speed(),
+            speed: self.speed,
             length: 0,
         }
     }
@@ -690,7 +693,7 @@ impl Meter {
         self.total = total_of(&self.counters);
         Answer {
             number: 1,
-            speed: self.speed(),
+            speed: self.speed,
             length: 0,
         }
     }

@@ -21,6 +21,7 @@ pub fn record_of(meter: &model::meter::Meter) -> Meter {
     Meter {
         mode: meter.mode,
         attempts: meter.attempts,
+        speed: meter.speed,
         receiver: Receiver {
             held: meter.held,
             count: meter.count,

@@ -42,7 +42,20 @@ pub fn sign_on(serial: &[u8; 10]) -> Vec<u8> {
 }
 
 pub fn confirmation(choice: u8) -> Vec<u8> {
-    vec![0x06, b'0', b'5', choice, b'\r', b'\n']
+    confirmation_at(b'5', choice)
+}
+
+pub fn confirmation_at(speed: u8, choice: u8) -> Vec<u8> {
+    vec![0x06, b'0', speed, choice, b'\r', b'\n']
+}
+
+/// A speed that the mode may have.
+pub fn speed(chance: &mut Chance, mode: u8) -> u8 {
+    if mode < 2 {
+        0
+    } else {
+        chance.one_of(&[0, 5])
+    }
 }
 
 pub fn clock_data(clock: Clock) -> Vec<u8> {
@@ -124,6 +137,7 @@ pub fn state(chance: &mut Chance, mode: u8) -> Meter {
         account: account(chance),
         password: digits(chance),
         attempts: chance.below(4) as u8,
+        speed: speed(chance, mode),
         clock: clock(chance),
         ..Meter::blank()
     };

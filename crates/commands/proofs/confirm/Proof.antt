@@ -2,7 +2,7 @@
 use borrow.Author.Tests.{not-true, not-false}
 use borrow.Author.Needs.{needs}
 use Rattle.commands.specs.Building.{goodChoice}
-use Rattle.frames.specs.Session.{confirmation}
+use Rattle.frames.specs.Session.{confirmation, goodSpeed}
 use Rattle.commands.proofs.Making.{too-short, built, field-refused}
 use Rattle.commands.proofs.confirm.Statement.{statement}
 use Rattle.commands.proofs.confirm.Tie as tie
@@ -12,12 +12,12 @@ returns c =
     too-short _ _ _ _ (c .before .if1 .taken) (c .short .ensures)
 
 returns-2 : tie.Need-returns-2
-unfolding goodChoice
+unfolding goodSpeed goodChoice
 returns-2 c =
     field-refused _ _ _ _ (c .before .before .if1 .left) (not-true _ (c .before .if2 .taken)) (c .refused .ensures)
 
 returns-3 : tie.Need-returns-3
-unfolding confirmation goodChoice
+unfolding confirmation goodSpeed goodChoice
 returns-3 c =
     built _ _ _ _ _ (c .before .before .before .before .before .before .before .before .if1 .left) (not-false _ (c .before .before .before .before .before .before .before .if2 .left)) (c .before .before .line-of .ensures)
 

@@ -234,13 +234,13 @@ module _ {M : Type 1} (𝓤 : URA M) (H : Heap 𝓤) (A : Atoms 𝓤) (W : Given
 
   -- the record with another receiver
   abbrev mach : Val → Val
-  mach v = vstruct (vcons (vint w8 (h .mode)) (vcons (vint w8 (h .attempts)) (vcons v (vcons (only (LL.vals G.the-type G′.the-laws (h .registers))) vnil))))
+  mach v = vstruct (vcons (vint w8 (h .mode)) (vcons (vint w8 (h .attempts)) (vcons (vint w8 (h .speed)) (vcons v (vcons (only (LL.vals G.the-type G′.the-laws (h .registers))) vnil)))))
 
   made : (k : Receiver) (v : Val) → Is R.the-row k (v ∷ []) → Is S.the-row h (LL.vals S.the-type S′.the-laws h) → Is S.the-row (withReceiver h k) (mach v ∷ [])
   made k v is was =
       let e = LL.tells R.the-type R′.the-laws k (v ∷ []) is in
       let was-all = LL.owed S.the-type S′.the-laws h (LL.vals S.the-type S′.the-laws h) was in
-      subst (λ (vs : List Val). Is S.the-row (withReceiver h k) (mach (only vs) ∷ [])) (sym e) (LL.owes S.the-type S′.the-laws (withReceiver h k) (was-all .0, (was-all .1 .0, (subst (Is R.the-row k) e is, was-all .1 .1 .1))))
+      subst (λ (vs : List Val). Is S.the-row (withReceiver h k) (mach (only vs) ∷ [])) (sym e) (LL.owes S.the-type S′.the-laws (withReceiver h k) (was-all .0, (was-all .1 .0, (was-all .1 .1 .0, (subst (Is R.the-row k) e is, was-all .1 .1 .1 .1)))))
 
   abbrev to-next : Answer → Val → Next 𝓤 H A at-mem run .Ghost
   to-next r v = ((tt, tt, tt, (r, tt), (v ∷ [], tt)), tt)
@@ -293,7 +293,7 @@ module _ {M : Type 1} (𝓤 : URA M) (H : Heap 𝓤) (A : Atoms 𝓤) (W : Given
         split ! $ move ! (1 ∷ []) $ use1 W (raw (fact 𝓤 (k ≡ r .receiver))) (receiver-says 𝓤 H A at-mem run r k) $ heard ! (k ≡ r .receiver) (λ ek. split ! $ drop ! $
         peeks ! R.the-row (Is R.the-row) (shows 𝓤 H A R.the-row) k (c ∷ []) (λ is-k. land ! (from ! (stop !)) (init ! 11 refl (LL.lawful R.the-type R′.the-laws 𝓤 H A W .typed k _ is-k .0)) $
         -- the receiver is stored, and the borrow is closed at the record with it
-        assigns ! (of-opd ! (load ! (from ! (stop !)) (look ! 11 refl))) (from ! (hop ! (look ! 29 refl) (fld ! refl (stop !)))) (store-in ! 1 (behind ! (sub ! 2 refl (whole !))) (LL.lawful R.the-type R′.the-laws 𝓤 H A W .typed k _ is-k .0)) $
+        assigns ! (of-opd ! (load ! (from ! (stop !)) (look ! 11 refl))) (from ! (hop ! (look ! 29 refl) (fld ! refl (stop !)))) (store-in ! 1 (behind ! (sub ! 3 refl (whole !))) (LL.lawful R.the-type R′.the-laws 𝓤 H A W .typed k _ is-k .0)) $
         drop ! $ owned ! S.the-row (Is S.the-row) (LL.makes S.the-type S′.the-plain 𝓤 H A) (withReceiver h k) _ (made k c is-k was) $ move ! (1 ∷ 0 ∷ []) $ closes ! tt S.the-row (withReceiver h k) (mach c ∷ []) b o $
         -- `short_reply`
         owned ! E.the-row (Is E.the-row) (LL.makes E.the-type E′.the-plain 𝓤 H A) r (w ∷ []) is $ use1 W (raw (Short 𝓤 H A at-mem run .pre (to-short r w))) (goes-short r w) $

@@ -64,6 +64,7 @@ impl Side for library::Meter {
 fn meter(mode: u8) -> Meter {
     let mut meter = Meter::blank();
     meter.mode = mode;
+    meter.speed = if mode < 2 { 0 } else { 5 };
     meter.serial = *b"1234567890";
     meter.account = *b"Kiln_7 old";
     meter.password = *b"20304050";

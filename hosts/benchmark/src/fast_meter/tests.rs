@@ -91,6 +91,9 @@ fn state(chance: &mut Chance, mode: u8) -> Meter {
     meter.account = meter.account.map(|_| chance.one_of(b"09AZaz _"));
     meter.password = meter.password.map(|_| chance.one_of(b"0123456789"));
     meter.attempts = chance.below(4) as u8;
+    if mode >= 2 {
+        meter.speed = chance.one_of(&[0, 5]);
+    }
     meter.counters = meter.counters.map(|_| match chance.below(2) {
         0 => chance.below(1_000_000_000) as u32,
         _ => 999_999_999 - chance.below(5) as u32,
@@ -178,7 +181,7 @@ fn command(chance: &mut Chance) -> Vec<u8> {
 /// One field of a state is given any value.
 fn spoil(chance: &mut Chance, meter: &mut Meter) {
     let byte = chance.byte();
-    match chance.below(15) {
+    match chance.below(16) {
         0 => meter.mode = byte % 8,
         1 => meter.count = byte % 80,
         2 => meter.held[chance.below(PLACES)] = byte,
@@ -192,7 +195,8 @@ fn spoil(chance: &mut Chance, meter: &mut Meter) {
         10 => meter.clock.day = byte % 34,
         11 => meter.clock.hour = byte % 26,
         12 => meter.clock.second = byte % 62,
-        13 => meter.counters[chance.below(4)] = 999_999_990 + u32::from(byte % 20),
+        13 => meter.speed = byte % 7,
+        14 => meter.counters[chance.below(4)] = 999_999_990 + u32::from(byte % 20),
         _ => meter.tables[chance.below(24)][chance.below(24)] = byte,
     }
 }

@@ -16,7 +16,12 @@ fn meter_in(mode: u8) -> Meter {
     };
     let (number, meter) = Meter::new(*b"1234567890", *b"Kiln_7 old", *b"20304050", clock);
     assert_eq!(number, 1);
-    Meter { mode, ..meter }
+    let speed = if mode < PASSWORD { 0 } else { 5 };
+    Meter {
+        mode,
+        speed,
+        ..meter
+    }
 }
 
 /// Sends wire bytes; gives the last answer and its reply, stripped of parity.
@@ -249,14 +254,17 @@ fn three_wrong_passwords_lock() {
         assert_eq!(send(&mut meter, &wrong), refused(10));
         assert_eq!((meter.mode, meter.attempts), (LISTENING, attempts));
         meter.mode = PASSWORD;
+        meter.speed = 5;
     }
     let right = true_frame("P1", "(20304050)");
     assert_eq!(send(&mut meter, &right), refused(11));
     meter.mode = PASSWORD;
+    meter.speed = 5;
     assert!(is_done(send(&mut meter, &true_frame("P1", "()"))));
     assert_eq!((meter.mode, meter.attempts), (READ_ONLY, 3));
     assert_eq!(meter.power_up().number, 1);
     meter.mode = PASSWORD;
+    meter.speed = 5;
     assert!(is_done(send(&mut meter, &right)));
     assert_eq!((meter.mode, meter.attempts), (PROGRAMMING, 0));
 }
@@ -389,5 +397,53 @@ fn silence_in_every_mode() {
         assert_eq!(answer.length, reply);
         assert_eq!(buffer[0], if reply == 1 { 0x95 } else { 0xAA });
         assert_eq!(meter, meter_in(LISTENING));
+    }
+}
+
+/// A head that stays slow: '0' in place of '5', and everything up to the ACK of B0 at 300 baud.
+#[test]
+fn a_slow_head_is_answered_slowly() {
+    for choice in *b"07" {
+        let mut meter = meter_in(CONFIRMATION);
+        let (number, speed, block) = send(&mut meter, &[ACK, b'0', b'0', choice, CR, LF]);
+        assert_eq!((number, speed, block.len()), (1, 0, BLOCK));
+        assert_eq!((meter.mode, meter.speed), (LISTENING, 0));
+    }
+    let mut meter = meter_in(CONFIRMATION);
+    let (number, speed, _) = send(&mut meter, b"\x06001\r\n");
+    assert_eq!(
+        (number, speed, meter.mode, meter.speed),
+        (1, 0, PASSWORD, 0)
+    );
+    let slow = (1, 0, vec![ACK]);
+    assert_eq!(send(&mut meter, &true_frame("P1", "(20304050)")), slow);
+    assert_eq!((meter.mode, meter.speed), (PROGRAMMING, 0));
+    assert_eq!(send(&mut meter, &frame("R1", "T()", 0)), (4, 0, vec![NAK]));
+    assert_eq!(send(&mut meter, b"\x01B0\x03\x71"), slow);
+    assert_eq!((meter.mode, meter.speed), (LISTENING, 0));
+}
+
+#[test]
+fn no_other_digit_is_a_speed() {
+    for digit in (0..128).filter(|digit| !b"05".contains(digit)) {
+        for choice in *b"017" {
+            let mut meter = meter_in(CONFIRMATION);
+            let got = send(&mut meter, &[ACK, b'0', digit, choice, CR, LF]);
+            assert_eq!((got.0, got.1, meter.mode), (2, 0, LISTENING));
+        }
+    }
+}
+
+#[test]
+fn speeds_out_of_range_are_malformed() {
+    for mode in LISTENING..=PROGRAMMING {
+        for speed in 0..=255 {
+            let meter = Meter {
+                speed,
+                ..meter_in(mode)
+            };
+            let good = speed == 0 || speed == 5 && mode >= PASSWORD;
+            assert_eq!(meter.well_formed(), good);
+        }
     }
 }

@@ -27,11 +27,11 @@ returns-5 c = (rw (c .before .before .before .before .before .v2 .given .1, c .b
 
 returns-6 : tie.Need-returns-6
 unfolding acted holding
-returns-6 c = (rw (c .before .before .before .before .before .before .before .v3 .given .1, c .before .before .accept3 .ensures .0, c .before .before .before .before .in-mode3 .ensures, c .before .before .before .before .before .take-clock .ensures), rw (c .before .before .before .before .before .before .before .v3 .given .1) (c .before .before .accept3 .ensures .1))
+returns-6 c = (rw (c .before .before .before .before .before .before .before .v3 .given .1, c .before .before .accept3 .ensures .0, c .before .before .before .before .emptied .ensures, c .before .before .before .before .before .take-clock .ensures), rw (c .before .before .before .before .before .before .before .v3 .given .1) (c .before .before .accept3 .ensures .1))
 
 returns-7 : tie.Need-returns-7
 unfolding acted holding
-returns-7 c = (rw (c .before .before .before .before .before .before .enum-told4 .given .1, c .before .before .accept4 .ensures .0, c .before .before .before .before .in-mode4 .ensures, c .before .before .before .before .before .take-account .ensures), rw (c .before .before .before .before .before .before .enum-told4 .given .1) (c .before .before .accept4 .ensures .1))
+returns-7 c = (rw (c .before .before .before .before .before .before .enum-told4 .given .1, c .before .before .accept4 .ensures .0, c .before .before .before .before .emptied2 .ensures, c .before .before .before .before .before .take-account .ensures), rw (c .before .before .before .before .before .before .enum-told4 .given .1) (c .before .before .accept4 .ensures .1))
 
 returns-8 : tie.Need-returns-8
 unfolding acted holding

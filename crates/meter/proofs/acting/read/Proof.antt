@@ -7,7 +7,7 @@ use Rattle.meter.proofs.acting.read.Tie as tie
 
 returns : tie.Need-returns
 unfolding acted holding
-returns c = (rw (c .in-mode .ensures, c .before .before .before .answer .ensures .0), (c .before .before .before .answer .ensures .1))
+returns c = (rw (c .emptied .ensures, c .before .before .before .answer .ensures .0), (c .before .before .before .answer .ensures .1))
 
 pub read-spec : {M : Type 1} → statement M
 read-spec = tie.close (tie.spec (λ c κs. search needs) (λ c κs. search needs) (λ c. search needs) returns)

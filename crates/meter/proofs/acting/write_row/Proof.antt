@@ -15,7 +15,7 @@ take-row-requires c κs =
 
 returns : tie.Need-returns
 unfolding acted holding
-returns c = (rw (← c .before .before .before .before .before .before .before .is-table .ensures, c .before .before .before .before .before .before .if1 .taken, c .before .before .accept .ensures .0, c .before .before .before .before .in-mode .ensures, c .before .before .before .before .before .take-row .ensures), rw (← c .before .before .before .before .before .before .before .is-table .ensures, c .before .before .before .before .before .before .if1 .taken) (c .before .before .accept .ensures .1))
+returns c = (rw (← c .before .before .before .before .before .before .before .is-table .ensures, c .before .before .before .before .before .before .if1 .taken, c .before .before .accept .ensures .0, c .before .before .before .before .emptied .ensures, c .before .before .before .before .before .take-row .ensures), rw (← c .before .before .before .before .before .before .before .is-table .ensures, c .before .before .before .before .before .before .if1 .taken) (c .before .before .accept .ensures .1))
 
 returns-2 : tie.Need-returns-2
 unfolding acted holding

@@ -86,7 +86,9 @@ fn message(chance: &mut Chance, meter: &Meter) -> Vec<u8> {
         },
         1 => {
             let wanted = chance.byte() & 0x7F;
-            confirmation(chance.one_of(&[b'1', b'1', b'1', b'1', b'0', b'7', wanted]))
+            let speed = chance.one_of(b"0000555554");
+            let choice = chance.one_of(&[b'1', b'1', b'1', b'1', b'0', b'7', wanted]);
+            confirmation_at(speed, choice)
         }
         2 => match chance.weighed(&[2, 6, 1, 1]) {
             0 => password(b"()"),
@@ -217,7 +219,7 @@ fn broken(chance: &mut Chance) -> Meter {
         meter = holding(meter, &frame[..frame.len() - 1], true);
     }
     let odd = chance.byte();
-    match chance.below(15) {
+    match chance.below(16) {
         0 => meter.mode = odd,
         1 => meter.attempts = odd,
         2 => meter.count = odd,
@@ -235,6 +237,7 @@ fn broken(chance: &mut Chance) -> Meter {
                 .iter()
                 .fold(0, |sum, wh| sum.wrapping_add(*wh))
         }
+        13 => meter.speed = chance.one_of(&[5, odd]),
         _ => meter.tables[chance.below(24)][chance.below(24)] = odd,
     }
     meter
@@ -251,6 +254,7 @@ fn any_bytes(chance: &mut Chance) -> Meter {
         account: [0; 10].map(|_| chance.byte()),
         password: [0; 8].map(|_| chance.byte()),
         attempts: chance.byte(),
+        speed: chance.byte(),
         clock: Clock {
             year: chance.bits() as u16,
             month: chance.byte(),

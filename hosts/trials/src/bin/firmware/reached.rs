@@ -5,7 +5,7 @@ use model::meter::{data_bits, BLOCK, ROOM};
 use std::collections::{BTreeMap, BTreeSet};
 
 /// What must have happened at least once.
-pub const AIMS: [&str; 85] = [
+pub const AIMS: [&str; 89] = [
     "character: 0",
     "character: 1",
     "character: 2",
@@ -56,6 +56,10 @@ pub const AIMS: [&str; 85] = [
     "mode 4",
     "mode over 4",
     "attempts over 3",
+    "speed that is none",
+    "speed 5 outside a session",
+    "a slow session",
+    "a fast session",
     "mark of 2",
     "mark over 2",
     "mark with nothing held",
@@ -205,6 +209,11 @@ impl Reached {
     fn malformed(&mut self, meter: &Meter) {
         self.when(meter.mode > 4, "mode over 4");
         self.when(meter.attempts > 3, "attempts over 3");
+        self.when(meter.speed != 0 && meter.speed != 5, "speed that is none");
+        self.when(
+            meter.speed == 5 && meter.mode < 2,
+            "speed 5 outside a session",
+        );
         self.when(meter.mark == 2, "mark of 2");
         self.when(meter.mark > 2, "mark over 2");
         self.when(
@@ -238,6 +247,8 @@ impl Reached {
     fn happened(&mut self, before: &Meter, event: (u8, u32), answer: Answer, after: &Meter) {
         let (kind, value) = event;
         self.reach(format!("mode {}", before.mode));
+        self.when(before.mode >= 2 && before.speed == 0, "a slow session");
+        self.when(before.speed == 5, "a fast session");
         match kind {
             0 => {
                 let damaged = data_bits(value as u8).is_none();

@@ -191,7 +191,7 @@ impl Firmware for Wrong {
                 self.meter.count = 0;
             }
             Some(Fault::LengthOfARefusal) if answer.number == 12 => answer.length = 1,
-            Some(Fault::SpeedOfTheOldState) if answer.number == 1 => answer.speed = before.speed(),
+            Some(Fault::SpeedOfTheOldState) if answer.number == 1 => answer.speed = before.speed,
             Some(Fault::KeepsTheMark) if kind == 0 && value as u8 == SOH | 0x80 => {
                 self.meter.mark = u8::from(self.meter.count > 0) & before.mark;
             }

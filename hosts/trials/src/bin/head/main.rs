@@ -254,7 +254,9 @@ fn commands(t: &mut Trial) -> Outcome {
         for byte in 0..=255 {
             let row: [u8; 24] = t.chance.texts(ZONES);
             for command in [
-                Command::Confirm(byte),
+                Command::Confirm(b'0', byte),
+                Command::Confirm(b'5', byte),
+                Command::Confirm(byte, b'1'),
                 Command::ReadZone(byte),
                 Command::ReadTable(byte),
                 Command::WriteTable(byte, &row),
@@ -347,7 +349,8 @@ fn any_command(t: &mut Trial) -> Outcome {
     let row: [u8; 24] = t.chance.texts(ZONES);
     let command = match kind {
         4 => BARE[t.chance.below(BARE.len())],
-        5 => Command::Confirm(t.chance.odd_byte()),
+        5 if t.chance.one_in(2) => Command::Confirm(b'0', t.chance.odd_byte()),
+        5 => Command::Confirm(t.chance.odd_byte(), b'7'),
         6 => Command::ReadZone(number % 8),
         7 => Command::ReadTable(number),
         8 => Command::WriteTable(table, &row),
@@ -738,6 +741,7 @@ enum Fault {
     BuildsInRoom63,
     ClearsPastTheCommand,
     ConfirmsSix,
+    ConfirmsAtAnyDigit,
     WritesPastTheReply,
     StripsUpToTheDamage,
     DamageBeforeRoom,
@@ -761,12 +765,13 @@ enum Fault {
     ZeroCharacters,
 }
 
-const FAULTS: [(Fault, Section); 26] = [
+const FAULTS: [(Fault, Section); 27] = [
     (Fault::WritesBeforeItChecks, commands),
     (Fault::FieldBeforeRoom, commands),
     (Fault::BuildsInRoom63, commands),
     (Fault::ClearsPastTheCommand, commands),
     (Fault::ConfirmsSix, commands),
+    (Fault::ConfirmsAtAnyDigit, commands),
     (Fault::WritesPastTheReply, strips),
     (Fault::StripsUpToTheDamage, strips),
     (Fault::DamageBeforeRoom, strips),
@@ -807,10 +812,19 @@ impl Head for Wrong {
                 return told;
             }
             (Fault::ClearsPastTheCommand, (answer::DONE, length)) => out[length..].fill(0),
-            (Fault::ConfirmsSix, (answer::FIELD, _)) if *command == Command::Confirm(b'6') => {
-                let told = model::build(&Command::Confirm(b'0'), out);
+            (Fault::ConfirmsSix, (answer::FIELD, _))
+                if *command == Command::Confirm(b'5', b'6') =>
+            {
+                let told = model::build(&Command::Confirm(b'5', b'0'), out);
                 out[3] = b'6';
                 return told;
+            }
+            (Fault::ConfirmsAtAnyDigit, (answer::FIELD, _)) => {
+                if let Command::Confirm(speed @ b'1'..=b'4', choice) = *command {
+                    let told = model::build(&Command::Confirm(b'5', choice), out);
+                    out[2] = speed | (speed.count_ones() as u8 & 1) << 7;
+                    return told;
+                }
             }
             _ => (),
         }

@@ -42,7 +42,7 @@ impl Head for Proved {
         match *command {
             Command::SignOn => head::sign_on(out),
             Command::SignOnTo(serial) => self.on(serial, |serial| head::sign_on_to(serial, out)),
-            Command::Confirm(choice) => head::confirm(choice, out),
+            Command::Confirm(speed, choice) => head::confirm(speed, choice, out),
             Command::Enter => head::enter(out),
             Command::Password(word) => self.on(word, |word| head::password(word, out)),
             Command::ReadClock => head::read_clock(out),

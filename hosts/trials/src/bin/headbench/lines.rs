@@ -41,8 +41,15 @@ pub fn fixed() -> Vec<Vec<u8>> {
         "build setclock 64 65536 1 1 0 0 0",
         "build setclock 64 2024 2 29 23 59 59",
         "build confirm 64 31",
-        "build confirm 64 -",
-        "build confirm 64 3131",
+        "build confirm 64 30 31",
+        "build confirm 64 35 31",
+        "build confirm 64 31 31",
+        "build confirm 64 34 31",
+        "build confirm 64 30 -",
+        "build confirm 64 - 31",
+        "build confirm 64 30 3131",
+        "build confirm 64 3030 31",
+        "build confirm 64 30 31 31",
         "build serial 64 -",
         "build serial 64 31",
         "build serial 64 3",
@@ -169,7 +176,11 @@ fn build(chance: &mut Chance) -> String {
                 0 => chance.byte(),
                 _ => chance.one_of(b"0177"),
             };
-            format!("confirm {room} {choice:02x}")
+            let speed = match chance.below(3) {
+                0 => chance.byte(),
+                _ => chance.one_of(b"0055"),
+            };
+            format!("confirm {room} {speed:02x} {choice:02x}")
         }
         2 => format!("password {room} {}", field(chance, DIGITS, 8)),
         3 => format!("energy {room} {}", short(chance, 0, 5)),

@@ -106,13 +106,15 @@ impl Aim<'_> {
 
     fn confirmation(&mut self) -> Vec<u8> {
         let chance = &mut self.chance;
-        match chance.weighed(&[60, 6, 6, 10, 10]) {
-            0 => confirmation(b'1'),
-            1 => confirmation(b'0'),
-            2 => confirmation(b'7'),
-            3 => confirmation(chance.byte() & 0x7F),
+        let speed = chance.one_of(b"05");
+        match chance.weighed(&[60, 6, 6, 10, 4, 10]) {
+            0 => confirmation_at(speed, b'1'),
+            1 => confirmation_at(speed, b'0'),
+            2 => confirmation_at(speed, b'7'),
+            3 => confirmation_at(speed, chance.byte() & 0x7F),
+            4 => confirmation_at(chance.between(b'1'.into(), b'9'.into()) as u8, b'1'),
             _ => {
-                let mut message = confirmation(chance.one_of(b"017"));
+                let mut message = confirmation_at(speed, chance.one_of(b"017"));
                 message[chance.below(6)] = chance.one_of(b"\x06\x15\x01\x030156789\r\n/\0");
                 message
             }
@@ -361,6 +363,7 @@ impl Aim<'_> {
                 8 => meter.clock = any_clock(chance),
                 9 => meter.counters[chance.below(4)] = chance.bits() as u32,
                 10 => meter.total = meter.total.wrapping_add(1 + chance.bits() as u32 % 2),
+                11 => meter.speed = chance.one_of(&[1, 2, 3, 4, 5, 5, 6, 255]),
                 _ => meter.tables[chance.below(24)][chance.below(24)] = chance.byte(),
             }
         }

@@ -34,6 +34,7 @@ struct Shown {
     counters: &'static str,
     /// Table and row, where not all '1'.
     row: (usize, &'static str),
+    speed: u8,
 }
 
 /// The meter of these scripts, just made. Its date is a Thursday.
@@ -48,6 +49,7 @@ const MADE: Shown = Shown {
     clock: "2024 2 29 8 5 9",
     counters: "0 0 0 0",
     row: (1, ALL_ONES),
+    speed: 0,
 };
 
 const BLANK: Shown = Shown {
@@ -58,7 +60,11 @@ const BLANK: Shown = Shown {
     ..MADE
 };
 
-const PROGRAMMING: Shown = Shown { mode: 4, ..MADE };
+const PROGRAMMING: Shown = Shown {
+    mode: 4,
+    speed: 5,
+    ..MADE
+};
 
 fn hex(bytes: impl IntoIterator<Item = u8>) -> String {
     bytes
@@ -90,7 +96,7 @@ impl Shown {
             .sum();
         let total = sum % 1_000_000_000;
         format!(
-            "{} {count} {} {held} {} {} {} {} {} {} {tables} {total}",
+            "{} {count} {} {held} {} {} {} {} {} {} {tables} {} {total}",
             self.mode,
             self.mark,
             hex(self.serial.bytes()),
@@ -99,6 +105,7 @@ impl Shown {
             self.attempts,
             self.clock,
             self.counters,
+            self.speed,
         )
     }
 }
@@ -171,7 +178,7 @@ impl Fixed {
         self.wire(bytes, speed, 0, speed, "")
     }
 
-    /// A whole frame; what is said in modes 2 to 4 goes at speed 5.
+    /// A whole frame of a session at 9600 baud.
     fn frame(self, text: &str, number: u8, reply: &str) -> Fixed {
         self.send(text, 5, number, 5, reply)
     }
@@ -261,7 +268,7 @@ fn by_hand() -> Fixed {
     let taken = "0 5 0 -\n".repeat(35) + "1 5 1 06";
     let state = format!(
         "4 0 0 {} 31323334353637383930 4b696c6e5f37206f6c64 3230333034303530 0 2024 2 29 8 5 9 \
-         0 0 0 0 {tables}",
+         0 0 0 0 {tables} 5",
         "00".repeat(63)
     );
     Fixed::empty("a session byte by byte")
@@ -325,11 +332,19 @@ fn facts() -> Vec<Fixed> {
             .dump(MADE),
         Fixed::confirming("BCC of P0 (0000) is 60")
             .send("\x06051\r\n", 0, 1, 5, "\x01P0\x02(0000)\x03\x60")
-            .dump(Shown { mode: 2, ..MADE }),
+            .dump(Shown {
+                mode: 2,
+                speed: 5,
+                ..MADE
+            }),
         Fixed::asked("BCC of P1 () is 61, on the wire e1")
             .quiet("\x01P1\x02()\x03", 5)
             .line("byte e1", "1 5 1 06")
-            .dump(Shown { mode: 3, ..MADE }),
+            .dump(Shown {
+                mode: 3,
+                speed: 5,
+                ..MADE
+            }),
         Fixed::programming("table 01 in all '1' has BCC 06")
             .set(twos(1))
             .frame(&all_ones("01", "\x06"), 1, ACK)
@@ -357,6 +372,7 @@ fn facts() -> Vec<Fixed> {
         Fixed::reading("1,500 Wh in T1")
             .set(Shown {
                 mode: 3,
+                speed: 5,
                 counters: "1500 0 0 0",
                 ..MADE
             })
@@ -460,7 +476,11 @@ fn signing_on() -> Vec<Fixed> {
             .dump(MADE)
             .ask()
             .quiet_wire("0183", 5)
-            .dump(Shown { mode: 2, ..MADE }),
+            .dump(Shown {
+                mode: 2,
+                speed: 5,
+                ..MADE
+            }),
         Fixed::listening("a damaged '/' or LF does not count")
             .quiet_wire("af3f218d8a", 0)
             .dump(Shown {
@@ -510,7 +530,9 @@ fn confirming() -> Vec<Fixed> {
     vec![
         wrong("choice '2' is wrong", "\x06052\r\n"),
         wrong("choice '6' is wrong", "\x06056\r\n"),
-        wrong("speed '0' is wrong", "\x06001\r\n"),
+        wrong("speed '1' is wrong", "\x06011\r\n"),
+        wrong("speed '4' is wrong", "\x06041\r\n"),
+        wrong("speed '6' is wrong", "\x06061\r\n"),
         wrong("NAK in place of ACK is wrong", "\x15051\r\n"),
         wrong("LF CR is wrong", "\x06051\n\r"),
         wrong(
@@ -521,6 +543,25 @@ fn confirming() -> Vec<Fixed> {
             "six are collected whatever the first: SOH",
             "\x01\x01\x01\x01\x01\x01",
         ),
+        Fixed::confirming("a head that stays slow: its whole session at 300 baud")
+            .send("\x06001\r\n", 0, 1, 0, ASK_PASSWORD)
+            .dump(Shown { mode: 2, ..MADE })
+            .send(RIGHT, 0, 1, 0, ACK)
+            .dump(Shown { mode: 4, ..MADE })
+            .line("tick", "1 0")
+            .send("\x01B0\x03\x72", 0, 4, 0, NAK)
+            .send("\x01B0\x03\x71", 0, 1, 0, ACK)
+            .dump(Shown {
+                clock: "2024 2 29 8 5 10",
+                ..MADE
+            }),
+        Fixed::confirming("a slow head's wrong password: the NAK out of mode 2 at 300 baud")
+            .send("\x06001\r\n", 0, 1, 0, ASK_PASSWORD)
+            .send(WRONG, 0, 10, 0, NAK)
+            .dump(Shown {
+                attempts: 1,
+                ..MADE
+            }),
         Fixed::confirming("damage counts as one of the six, the first too")
             .wire("863035b18d0a", 0, 2, 0, "")
             .dump(MADE)
@@ -595,7 +636,11 @@ fn frames() -> Vec<Fixed> {
             .frame("\x01W1\x02\x03\x67", 8, NAK)
             .frame(NO_PASSWORD, 8, NAK)
             .frame("\x01R1\x02E5()\x03\x13", 9, NAK)
-            .dump(Shown { mode: 3, ..MADE }),
+            .dump(Shown {
+                mode: 3,
+                speed: 5,
+                ..MADE
+            }),
         Fixed::programming("P1 is not allowed while programming")
             .frame(NO_PASSWORD, 8, NAK)
             .frame(WRONG, 8, NAK)
@@ -687,6 +732,7 @@ fn passwords() -> Vec<Fixed> {
             .frame(NO_PASSWORD, 1, ACK)
             .dump(Shown {
                 mode: 3,
+                speed: 5,
                 ..failed(3)
             })
             .line("up", "1 0")
@@ -706,6 +752,7 @@ fn passwords() -> Vec<Fixed> {
             .frame(NO_PASSWORD, 1, ACK)
             .dump(Shown {
                 mode: 3,
+                speed: 5,
                 ..failed(1)
             })
             .line("silence", "1 0 0 -")
@@ -716,6 +763,7 @@ fn passwords() -> Vec<Fixed> {
 fn registers() -> Vec<Fixed> {
     let counted = Shown {
         mode: 3,
+        speed: 5,
         counters: "999999999 2 30 400",
         ..MADE
     };
@@ -773,6 +821,7 @@ fn registers() -> Vec<Fixed> {
         Fixed::reading("the total of four full counters")
             .set(Shown {
                 mode: 3,
+                speed: 5,
                 counters: "999999999 999999999 999999999 999999999",
                 ..MADE
             })
@@ -1070,7 +1119,9 @@ fn script_rules() -> Vec<Fixed> {
         Fixed::listening("a spoiled set changes nothing")
             .line(&format!("set {shown} "), "error")
             .line(&format!("set {}", &shown[..shown.len() - 2]), "error")
-            .line(&format!("set {shown}31"), "error")
+            .line(&format!("set {shown}256"), "error")
+            .line(&format!("set {shown} 0"), "error")
+            .line(&format!("set {}31 0", &shown[..shown.len() - 2]), "error")
             .line(&format!("set 256{}", &shown[1..]), "error")
             .line(&format!("set 0 0 256{}", &shown[5..]), "error")
             .dump(MADE)

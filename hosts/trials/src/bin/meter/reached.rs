@@ -31,6 +31,11 @@ const AIMS: &[&str] = &[
     "confirmation '0'",
     "confirmation '7'",
     "confirmation '1'",
+    "slow confirmation '0'",
+    "slow confirmation '7'",
+    "slow confirmation '1'",
+    "speed digit 1 to 4",
+    "another speed digit",
     "confirmation wrong, unmarked",
     "confirmation with the mark",
     "confirmation that starts damaged",
@@ -148,6 +153,8 @@ const RANGES: &[&str] = &[
     "account",
     "password",
     "attempts",
+    "speed",
+    "speed 5 outside a session",
     "year below",
     "year above",
     "month 0",
@@ -402,14 +409,19 @@ impl Reached {
         if before.held[0] == 0 && before.mark == 1 {
             self.reach("confirmation that starts damaged");
         }
-        self.reach(match (after.mode, before.held[3]) {
+        self.reach(match (after.mode, before.held()) {
+            (2, _) if after.speed == 0 => "slow confirmation '1'",
             (2, _) => "confirmation '1'",
             _ if before.mark == 1 || got.is_none() => "confirmation with the mark",
-            (_, b'0') if before.held().starts_with(b"\x06050\r") && got == Some(LF) => {
-                "confirmation '0'"
+            (_, b"\x06050\r") if got == Some(LF) => "confirmation '0'",
+            (_, b"\x06057\r") if got == Some(LF) => "confirmation '7'",
+            (_, b"\x06000\r") if got == Some(LF) => "slow confirmation '0'",
+            (_, b"\x06007\r") if got == Some(LF) => "slow confirmation '7'",
+            (_, [0x06, b'0', b'1'..=b'4', b'0' | b'1' | b'7', b'\r']) if got == Some(LF) => {
+                "speed digit 1 to 4"
             }
-            (_, b'7') if before.held().starts_with(b"\x06057\r") && got == Some(LF) => {
-                "confirmation '7'"
+            (_, [0x06, b'0', _, b'0' | b'1' | b'7', b'\r']) if got == Some(LF) => {
+                "another speed digit"
             }
             _ => "confirmation wrong, unmarked",
         });
@@ -746,6 +758,11 @@ fn broken_ranges(meter: &Meter) -> Vec<&'static str> {
     must(meter.account.iter().all(account), "account");
     must(meter.password.iter().all(u8::is_ascii_digit), "password");
     must(meter.attempts < 4, "attempts");
+    must(meter.speed == 0 || meter.speed == 5, "speed");
+    must(
+        meter.speed != 5 || meter.mode >= 2,
+        "speed 5 outside a session",
+    );
     let clock = meter.clock;
     must(clock.year > 1999, "year below");
     must(clock.year < 2100, "year above");

@@ -121,6 +121,8 @@ fn damage_everywhere(chance: &mut Chance, player: &mut Player) {
         (1, confirmation(b'0')),
         (1, confirmation(b'1')),
         (1, confirmation(b'7')),
+        (1, confirmation_at(b'0', b'0')),
+        (1, confirmation_at(b'0', b'1')),
         (2, password(b"()")),
         (2, password(&bracketed(&meters[2].password))),
         (2, good_bye()),
@@ -192,9 +194,12 @@ fn confirmations(chance: &mut Chance, player: &mut Player) {
         play(&confirmation(choice));
     }
     for speed in 0..128 {
-        let mut message = confirmation(b'1');
-        message[2] = speed;
-        play(&message);
+        for choice in *b"017" {
+            play(&confirmation_at(speed, choice));
+        }
+    }
+    for choice in 0..128 {
+        play(&confirmation_at(b'0', choice));
     }
     for place in [0, 1, 4, 5] {
         for character in [0, SOH, ETX, 0x06, LF, b'\r', 0x15, b'/', b'0', b'5'] {
@@ -574,6 +579,14 @@ fn broken_states(chance: &mut Chance, player: &mut Player) {
     }
     for attempts in [4, 5, 255] {
         breakings.push((2, Box::new(move |meter, _| meter.attempts = attempts)));
+    }
+    for mode in 0..=4 {
+        for speed in [1, 2, 3, 4, 6, b'0', b'5', 255] {
+            breakings.push((mode, Box::new(move |meter, _| meter.speed = speed)));
+        }
+    }
+    for mode in 0..=1 {
+        breakings.push((mode, Box::new(move |meter, _| meter.speed = 5)));
     }
     for year in [0, 99, 1999, 2100, 2400, 65_535] {
         breakings.push((
