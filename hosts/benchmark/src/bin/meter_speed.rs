@@ -3,7 +3,7 @@
 
 use benchmark::fast_meter;
 use dirgemist::meter::{self as library, Event};
-use model::meter::{bcc, with_parity, Answer, Clock, Meter, BLOCK, ROOM};
+use model::meter::{bcc, total_of, with_parity, Answer, Clock, Meter, BLOCK, ROOM};
 use std::hint::black_box;
 use std::time::Instant;
 use trials::record::record_of;
@@ -69,6 +69,7 @@ fn meter(mode: u8) -> Meter {
     meter.account = *b"Kiln_7 old";
     meter.password = *b"20304050";
     meter.counters = [999_999_999, 1_500, 23_456_789, 400];
+    meter.total = total_of(&meter.counters);
     meter.clock = Clock {
         year: 2024,
         month: 2,

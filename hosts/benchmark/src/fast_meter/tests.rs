@@ -1,6 +1,7 @@
 //! The fast meter and the model side by side: answers, buffers and states must be equal.
 
 use super::*;
+use model::meter::total_of;
 use trials::chance::Chance;
 
 struct Pair {
@@ -98,6 +99,7 @@ fn state(chance: &mut Chance, mode: u8) -> Meter {
         0 => chance.below(1_000_000_000) as u32,
         _ => 999_999_999 - chance.below(5) as u32,
     });
+    meter.total = total_of(&meter.counters);
     meter.tables = meter.tables.map(|row| row.map(|_| chance.one_of(b"1234")));
     let year = 2000 + chance.below(100) as u16;
     let month = 1 + chance.below(12) as u8;
@@ -181,7 +183,7 @@ fn command(chance: &mut Chance) -> Vec<u8> {
 /// One field of a state is given any value.
 fn spoil(chance: &mut Chance, meter: &mut Meter) {
     let byte = chance.byte();
-    match chance.below(16) {
+    match chance.below(17) {
         0 => meter.mode = byte % 8,
         1 => meter.count = byte % 80,
         2 => meter.held[chance.below(PLACES)] = byte,
@@ -197,6 +199,7 @@ fn spoil(chance: &mut Chance, meter: &mut Meter) {
         12 => meter.clock.second = byte % 62,
         13 => meter.speed = byte % 7,
         14 => meter.counters[chance.below(4)] = 999_999_990 + u32::from(byte % 20),
+        15 => meter.total = meter.total.wrapping_add(u32::from(byte % 3)),
         _ => meter.tables[chance.below(24)][chance.below(24)] = byte,
     }
 }

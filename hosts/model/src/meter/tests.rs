@@ -119,6 +119,7 @@ fn all_ones_for_tables_01_04_and_06() {
 fn fifteen_hundred_wh_in_zone_one() {
     let mut meter = meter_in(READ_ONLY);
     meter.counters[0] = 1_500;
+    meter.total = 1_500;
     let got = send(&mut meter, &true_frame("R1", "E1()"));
     let block = b"\x0215.8.1(000001.500*kWh)\r\n\x03\x6C".to_vec();
     assert_eq!(got, (1, 5, block));
@@ -136,8 +137,20 @@ fn first_day_of_2000_is_a_saturday() {
 fn counter_rolls_over() {
     let mut meter = Meter::blank();
     meter.counters[0] = 999_999_999;
+    meter.total = 999_999_999;
     assert_eq!(meter.pulse(1).number, 1);
     assert_eq!(meter, Meter::blank());
+}
+
+#[test]
+fn another_total_is_malformed() {
+    for total in [0, 430, 432, 1_000_000_431, u32::MAX] {
+        let mut meter = Meter::blank();
+        meter.counters = [999_999_999, 2, 30, 400];
+        meter.total = total;
+        let before = meter.clone();
+        assert_eq!((meter.pulse(1).number, meter), (14, before));
+    }
 }
 
 #[test]
@@ -176,6 +189,7 @@ fn data_block_is_1063_characters() {
     for choice in [b'0', b'7'] {
         let mut meter = meter_in(CONFIRMATION);
         meter.counters = [999_999_999, 2, 30, 400];
+        meter.total = 431;
         let after = Meter {
             mode: LISTENING,
             ..meter.clone()

@@ -21,7 +21,7 @@ use wrong::{Wrong, FAULTS};
 const SEED: u64 = 1;
 const EVENTS: u64 = 500_000;
 /// The events that a wrong meter may pass at most before it is found out.
-const PATIENCE: u64 = 100_000;
+const PATIENCE: u64 = 400_000;
 
 /// A meter under trial: the proved one, or a wrong one that the trial must find out.
 trait Firmware {

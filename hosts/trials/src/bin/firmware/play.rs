@@ -219,11 +219,11 @@ fn broken(chance: &mut Chance) -> Meter {
         meter = holding(meter, &frame[..frame.len() - 1], true);
     }
     let odd = chance.byte();
-    match chance.below(16) {
+    match chance.below(15) {
         0 => meter.mode = odd,
         1 => meter.attempts = odd,
         2 => meter.count = odd,
-        3 | 4 | 13 => meter.mark = chance.one_of(&[1, 2, 2, 3, 255]),
+        3 | 4 => meter.mark = chance.one_of(&[1, 2, 2, 3, 255]),
         5 => meter.held[chance.below(PLACES)] = odd,
         6 => meter.serial[chance.below(10)] = odd,
         7 => meter.account[chance.below(10)] = chance.one_of(&[odd, b'-']),
@@ -278,7 +278,7 @@ fn facts(chance: &mut Chance) -> Facts {
         clock: clock(chance),
     };
     let odd = chance.byte();
-    match chance.below(15) {
+    match chance.below(14) {
         0 => facts.serial[chance.below(10)] = odd,
         1 => facts.account[chance.below(10)] = odd,
         2 => facts.password[chance.below(8)] = odd,
