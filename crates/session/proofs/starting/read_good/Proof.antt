@@ -1,0 +1,38 @@
+-- `session::starting::read_good` meets its contract: each way out is the case of the definition that its tests name. Assumes nothing.
+use borrow.Author.Tests.{eq-eqb, ne-eqb}
+use Rattle.session.specs.Messages.{readOf}
+use Rattle.commands.specs.Spoken.{goodFields}
+use Rattle.values.specs.Registers.{goodTable}
+use Rattle.text.specs.Classes.{between}
+use lib.Dec.{eqb}
+use Rattle.session.proofs.Laws.{energy-good}
+use borrow.Author.Needs.{needs}
+use Rattle.session.proofs.starting.read_good.Statement.{statement}
+use Rattle.session.proofs.starting.read_good.Tie as tie
+
+returns : tie.Need-returns
+unfolding readOf goodFields
+returns c = rw (eq-eqb _ _ (c .if1 .taken))
+
+returns-2 : tie.Need-returns-2
+unfolding readOf goodFields
+returns-2 c = rw (ne-eqb _ _ (c .before .if1 .left), eq-eqb _ _ (c .if2 .taken))
+
+returns-3 : tie.Need-returns-3
+unfolding readOf goodFields
+returns-3 c = rw (ne-eqb _ _ (c .before .before .if1 .left), ne-eqb _ _ (c .before .if2 .left), eq-eqb _ _ (c .if3 .taken))
+
+returns-4 : tie.Need-returns-4
+unfolding readOf goodFields
+returns-4 c = rw (ne-eqb _ _ (c .before .before .before .before .if1 .left), ne-eqb _ _ (c .before .before .before .if2 .left), ne-eqb _ _ (c .before .before .if3 .left), eq-eqb _ _ (c .before .if4 .taken), c .is-zone .ensures) (energy-good (c .before .before .before .before .before .args .n) (eqb (c .before .before .before .before .before .args .n) 0))
+
+returns-5 : tie.Need-returns-5
+unfolding readOf goodFields
+returns-5 c = rw (ne-eqb _ _ (c .before .before .before .before .before .if1 .left), ne-eqb _ _ (c .before .before .before .before .if2 .left), ne-eqb _ _ (c .before .before .before .if3 .left), ne-eqb _ _ (c .before .before .if4 .left), eq-eqb _ _ (c .before .if5 .taken), c .is-table .ensures)
+
+returns-6 : tie.Need-returns-6
+unfolding readOf goodFields goodTable between
+returns-6 c = rw (ne-eqb _ _ (c .before .before .before .before .if1 .left), ne-eqb _ _ (c .before .before .before .if2 .left), ne-eqb _ _ (c .before .before .if3 .left), ne-eqb _ _ (c .before .if4 .left), ne-eqb _ _ (c .if5 .left))
+
+pub read-good-spec : {M : Type 1} → statement M
+read-good-spec = tie.close (tie.spec returns returns-2 returns-3 (λ c κs. search needs) returns-4 (λ c κs. search needs) returns-5 returns-6)

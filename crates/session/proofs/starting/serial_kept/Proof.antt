@@ -1,0 +1,20 @@
+-- `session::starting::serial_kept` meets its contract: the characters fill the array. Assumes nothing.
+use borrow.Author.Tests.{eq-eqb, ne-eqb}
+use mathlib.Core.Path.{refl}
+use native.Mathlib.Omega.{arith}
+use Rattle.text.proofs.Writing.{filled}
+use borrow.Author.Needs.{needs}
+use Rattle.session.proofs.starting.serial_kept.Statement.{statement}
+use Rattle.session.proofs.starting.serial_kept.Tie as tie
+
+returns : tie.Need-returns
+returns c = rw (ne-eqb _ _ (c .if1 .taken))
+
+put-requires : tie.Need-put-requires
+put-requires c κs = omega (arith, c .before .before .before .pre (c .before .if1 .left))
+
+returns-2 : tie.Need-returns-2
+returns-2 c = rw (eq-eqb _ _ (c .before .before .before .if1 .left), c .before .put .ensures .1) (filled _ _ (c .before .before .before .before .before .pre (c .before .before .before .if1 .left)))
+
+pub serial-kept-spec : {M : Type 1} → statement M
+serial-kept-spec = tie.close (tie.spec returns (λ c. search needs) put-requires returns-2)

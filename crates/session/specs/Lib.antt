@@ -1,0 +1,4 @@
+pub mod Messages
+pub mod Standing
+pub mod Turns
+pub mod Starting

@@ -1,0 +1,141 @@
+// The messages of a session, built one by one.
+ghost use mathlib.Core.Path.{_≡_};
+ghost use mathlib.Core.Bool.{true};
+ghost use Prim.Native.Nat.{_-_, _≤_};
+ghost use Rattle.values.specs.Edition.{editionTables};
+ghost use Rattle.frames.specs.Frames.{onWire};
+ghost use Rattle.commands.specs.Spoken.{goodFields, spoken};
+ghost use Rattle.commands.specs.Messages.{textOf, goodMessage};
+ghost use Rattle.commands.specs.Building.{Builds};
+ghost use Rattle.session.specs.Messages.{calling, entering, readOf, readAt, wholeLine, rowIn, rowAt, workAt, messageAt};
+use crate::Session;
+use commands::Built;
+use values::TableNo;
+use values::ZoneNo;
+
+// How long a post's line is, and where its number, its bracket, its row and its end stand.
+const LINE: usize = 36;
+
+const NUMBER: usize = 6;
+
+const BRACKET: usize = 8;
+
+const ROW: usize = 9;
+
+const CLOSING: usize = 33;
+
+// The sign-on.
+pub fn call(s: Session, buf: &mut [u8]) -> Built
+    ensures { λ r. ⌜ Builds (now (buf .entry)) (goodMessage editionTables (calling s)) (onWire (textOf (calling s))) r (now (buf .exit)) ⌝ }
+{
+    if s.named == 1 {
+        let serial = s.serial;
+        return commands::sign_on_to(buf, &serial);
+    }
+    commands::sign_on(buf)
+}
+
+// The password or `()`.
+fn enter(s: Session, buf: &mut [u8]) -> Built
+    ensures { λ r. ⌜ Builds (now (buf .entry)) (goodMessage editionTables (entering s)) (onWire (textOf (entering s))) r (now (buf .exit)) ⌝ }
+{
+    if s.access == 1 {
+        let password = s.password;
+        return commands::password(buf, &password);
+    }
+    commands::enter(buf)
+}
+
+// R1 of an energy; 0 is the total.
+fn read_energy(n: u8, buf: &mut [u8]) -> Built
+    ensures { λ r. ⌜ Builds (now (buf .entry)) (goodFields editionTables (readOf 69 n)) (onWire (spoken (readOf 69 n))) r (now (buf .exit)) ⌝ }
+{
+    if n == 0 {
+        return commands::read_total(buf);
+    }
+    commands::read_zone(buf, ZoneNo(n))
+}
+
+// A read of a letter and its number.
+fn read(letter: u8, n: u8, buf: &mut [u8]) -> Built
+    ensures { λ r. ⌜ Builds (now (buf .entry)) (goodFields editionTables (readOf letter n)) (onWire (spoken (readOf letter n))) r (now (buf .exit)) ⌝ }
+{
+    if letter == b'T' {
+        return commands::read_clock(buf);
+    }
+    if letter == b'L' {
+        return commands::read_serial(buf);
+    }
+    if letter == b'K' {
+        return commands::read_account(buf);
+    }
+    if letter == b'E' {
+        return read_energy(n, buf);
+    }
+    if letter == b'Z' {
+        return commands::read_table(buf, TableNo(n));
+    }
+    commands::read_table(buf, TableNo(0))
+}
+
+// Whether a line has all that a post's line has beside its number and its row.
+fn is_whole(s: &[u8]) -> bool
+    ensures { λ r. ⌜ r ≡ wholeLine (now (s .entry)) ⌝ }
+{
+    let opened = text::same(text::first(s, NUMBER), b"131.0.") & (text::at(s, BRACKET) == b'(');
+    opened & text::same(text::rest(s, CLOSING), b")\r\n")
+}
+
+// The write of a post's line.
+fn write_row(s: &[u8], buf: &mut [u8]) -> Built
+    ensures { λ r. ⌜ Builds (now (buf .entry)) (goodFields editionTables (rowIn (now (s .entry)))) (onWire (spoken (rowIn (now (s .entry))))) r (now (buf .exit)) ⌝ }
+{
+    if !is_whole(s) {
+        return commands::write_table(buf, TableNo(0), b"");
+    }
+    let read = values::reading::read_table(text::first(text::rest(s, NUMBER), 2), values::TABLES);
+    let table = read.table;
+    commands::write_table(
+        buf,
+        table,
+        text::first(text::rest(s, ROW), values::ROW_LENGTH),
+    )
+}
+
+// One message of the work.
+fn work_at(s: Session, work: &[u8], i: u8, buf: &mut [u8]) -> Built
+    ensures { λ r. ⌜ Builds (now (buf .entry)) (goodFields editionTables (workAt s (now (work .entry)) i)) (onWire (spoken (workAt s (now (work .entry)) i))) r (now (buf .exit)) ⌝ }
+{
+    if s.work == 1 {
+        return write_row(text::first(text::rest(work, i as usize * LINE), LINE), buf);
+    }
+    let at = i as usize * 2;
+    read(text::at(work, at), text::at(work, at + 1), buf)
+}
+
+// The message of a number, the sign-on being 1.
+pub fn build(s: Session, work: &[u8], n: u8, buf: &mut [u8]) -> Built
+    requires { ⌜ s .count ≤ 32 ⌝ }
+    ensures { λ r. ⌜ Builds (now (buf .entry)) (goodMessage editionTables (messageAt s (now (work .entry)) n)) (onWire (textOf (messageAt s (now (work .entry)) n))) r (now (buf .exit)) ⌝ }
+{
+    if n == 1 {
+        return call(s, buf);
+    }
+    if n == 2 {
+        return commands::confirm(buf, b'5', b'1');
+    }
+    if n == 3 {
+        return enter(s, buf);
+    }
+    if n <= s.count + 3 {
+        return work_at(s, work, less_four(n), buf);
+    }
+    commands::sign_off(buf)
+}
+
+// The number of a message within the work, from 0.
+pub fn less_four(n: u8) -> u8
+    ensures { λ r. ⌜ r ≡ n - 4 ⌝ }
+{
+    if n < 4 { 0 } else { n - 4 }
+}
