@@ -159,6 +159,16 @@ pub fn well_formed(meter: &Meter) -> bool {
         & clock_good(&meter.clock)
 }
 
+/// The total for a display with 1, or 0 with 14.
+#[inline(never)]
+pub fn total(meter: &Meter) -> (u8, u32) {
+    if well_formed(meter) {
+        (1, meter.total)
+    } else {
+        (14, 0)
+    }
+}
+
 fn speed(meter: &Meter) -> u8 {
     if meter.mode < 2 {
         0
