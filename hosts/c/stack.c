@@ -23,6 +23,11 @@ static uint32_t value;
 static void nothing(void) {}
 static void meet(void) { dirgemist_meter_meet(&meter, kind, value, reply, sizeof reply, &length, &speed); }
 static void check(void) { dirgemist_meter_check(&meter); }
+
+static void total(void) {
+    uint32_t shown;
+    dirgemist_meter_total(&meter, &shown);
+}
 static void make(void) {
     dirgemist_meter_make(&meter, (const uint8_t *)"1234567890", 10, (const uint8_t *)"Kiln_7 old", 10,
                          (const uint8_t *)"20304050", 8, 2024, 2, 29, 23, 59, 59);
@@ -72,6 +77,7 @@ int main(void) {
     size_t bare = deep(nothing);
     size_t making = deep(make) - bare;
     size_t checking = deep(check) - bare;
+    size_t showing = deep(total) - bare;
     size_t meeting = 0;
     meeting = most(meeting, SAID("/?!\r\n\006050\r\n/?123 4567890!\r\n\006051\r\n"));
     meeting = most(meeting, SAID("\001P1\002(20304050)\003\x61"));
@@ -86,7 +92,8 @@ int main(void) {
     meeting = most(meeting, happened(DIRGEMIST_POWER_UP, 0));
     meeting = most(meeting, happened(99, 0));
     meeting -= bare;
-    printf("stack: meet %zu, make %zu, check %zu bytes; the record has %zu\n", meeting, making, checking,
-           sizeof meter);
-    return meeting > DIRGEMIST_STACK || making > DIRGEMIST_STACK || checking > DIRGEMIST_STACK;
+    printf("stack: meet %zu, make %zu, check %zu, total %zu bytes; the record has %zu\n", meeting, making,
+           checking, showing, sizeof meter);
+    return meeting > DIRGEMIST_STACK || making > DIRGEMIST_STACK || checking > DIRGEMIST_STACK
+           || showing > DIRGEMIST_STACK;
 }

@@ -160,6 +160,16 @@ pub fn well_formed(meter: &Meter) -> bool {
         & clock_good(&meter.clock)
 }
 
+/// The total for a display with 1, or 0 with 14.
+#[inline(never)]
+pub fn total(meter: &Meter) -> (u8, u32) {
+    if well_formed(meter) {
+        (1, meter.total)
+    } else {
+        (14, 0)
+    }
+}
+
 fn answer(number: u8, speed: u8, length: usize) -> Answer {
     Answer {
         number,

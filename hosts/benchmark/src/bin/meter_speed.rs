@@ -160,6 +160,25 @@ fn block() -> (f64, f64) {
     times
 }
 
+/// Nanoseconds for the call that gives a display the total.
+fn display() -> (f64, f64) {
+    let start = meter(4);
+    let record = record_of(&start);
+    medians(
+        TURNS as usize,
+        || {
+            for _ in 0..TURNS {
+                assert_eq!(black_box(fast_meter::total(black_box(&start))).0, 1);
+            }
+        },
+        || {
+            for _ in 0..TURNS {
+                assert_eq!(black_box(black_box(&record).total()).0, 1);
+            }
+        },
+    )
+}
+
 fn main() {
     let writes = [
         frame("W1", "Z(04;111111111111111111111111)"),
@@ -187,6 +206,7 @@ fn main() {
         ("a character of table writes", stream(&writes)),
         ("a character of mixed frames", stream(&mixed)),
         ("the call that sends the data block", block()),
+        ("the total for a display", display()),
     ] {
         println!(
             "{name:<34}{rust:>9.1}{library:>11.1}{:>7.2}",
