@@ -8,8 +8,8 @@ use lib.ListN.{length}
 use Rattle.clock.specs.Seconds.{realClock}
 use Rattle.clock.specs.declared.Clock.{Clock}
 use Rattle.values.specs.Registers.{goodDigits, goodSerial, goodAccount, goodPassword}
-use Rattle.state.specs.WellFormed.{factsGood}
-use Rattle.state.specs.Making.{madeOf}
+use Rattle.state.specs.WellFormed.{factsGood, factoryGood}
+use Rattle.state.specs.Making.{factsOf, madeOf}
 use Rattle.firmware.specs.Making.{badMade}
 
 -- one of four that is false
@@ -27,13 +27,13 @@ unsuited s e = rw e
 
 module _ (serial account password : List ℕ) (clock : Clock) where
   pub serial-long : eqb (length serial) 10 ≡ false → madeOf serial account password clock ≡ badMade
-  unfolding madeOf factsGood goodDigits
+  unfolding madeOf factoryGood factsGood goodDigits
   serial-long e = rw e
 
   pub account-long : eqb (length account) 10 ≡ false → madeOf serial account password clock ≡ badMade
-  unfolding madeOf factsGood goodAccount
-  account-long e = rw (e, second-off (goodSerial serial) (goodPassword password && realClock clock))
+  unfolding madeOf factoryGood goodAccount
+  account-long e = rw (e, third-off (factsGood (factsOf serial password)))
 
   pub password-long : eqb (length password) 8 ≡ false → madeOf serial account password clock ≡ badMade
-  unfolding madeOf factsGood
-  password-long e = rw (unsuited password e, third-off (goodSerial serial && goodAccount account))
+  unfolding madeOf factoryGood factsGood
+  password-long e = rw (unsuited password e, second-off (goodSerial serial) (goodAccount account && realClock clock))

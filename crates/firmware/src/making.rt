@@ -54,8 +54,8 @@ fn make_from(serial: &[u8], account: &[u8], password: &[u8], clock: Clock) -> Ma
         return bad();
     }
     state::make(
-        changes::ten(serial),
-        changes::ten(account),
+        state::setting::ten(serial),
+        state::setting::ten(account),
         eight(password),
         clock,
     )

@@ -17,7 +17,7 @@ use Rattle.deciding.specs.Verdict.{verdict}
 use Rattle.state.specs.Setting.{withHeld, withMark, withReceiver, inMode, withSpeed, withAttempts, withRegisters, withClock, withAccount, withTables, withCounters, withZones, zonePlace, counterOf, rowStart, withRow}
 use Rattle.tariff.specs.Zones.{tableFor, zoneIn, counted}
 use Rattle.mistakes.specs.RuledOut.{RuledOut}
-use Rattle.mistakes.specs.Samples.{serial, twos, used, heldIn}
+use Rattle.mistakes.specs.Samples.{serial, twos, newMeter, used, heldIn}
 
 -- of `receiving`
 pub record Hearings : Type 0 where

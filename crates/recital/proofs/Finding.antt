@@ -12,7 +12,9 @@ use Rattle.values.specs.Texts.{tableText}
 use Rattle.state.specs.declared.Registers.{Registers}
 use Rattle.state.specs.declared.Meter.{Meter}
 use Rattle.state.specs.WellFormed.{registersGood, wellFormed}
-use Rattle.state.proofs.Facts.{formed}
+use Rattle.values.specs.declared.Energy.the-variants.{Total}
+use Rattle.values.specs.Registers.{energyNo}
+use Rattle.state.proofs.Parts.{formed}
 use Rattle.replies.specs.Shown.{total, rowOf}
 use Rattle.replies.specs.Shown as shown
 use Rattle.replies.specs.Block.{factSets, energySets, tableSets, blockSets, blockData}
@@ -22,7 +24,7 @@ use Rattle.finding.proofs.Promised.{count-is, finds-first}
 use Rattle.recital.specs.Recital.{Register, energy, row, ReadsAs}
 use Rattle.recital.specs.Finding.{FoundAs, totalAddress, lastRowAddress, FoundInBlock}
 use Rattle.recital.proofs.Recital.{block-read}
-use Rattle.recital.proofs.Registers.{energy-small, energy-reads, counters-small, row-reads}
+use Rattle.recital.proofs.Registers.{own-energy-reads, row-reads}
 
 -- the first of the sets that were read, where it reads as a register, is found as that register
 found-as : (c a : List ℕ) (ds : List DataSet) (n : ℕ) (x : Register) → readAll c .sets ≡ ds → among a ds ≡ true → position a ds ≡ n → ReadsAs x (firstWith a ds) → FoundAs c a n x
@@ -36,8 +38,8 @@ module _ (g : Registers) (good : registersGood g ≡ true) where
   total-there = (refl, refl)
 
   total-reads : ReadsAs (energy 0 (total (g .counters))) (firstWith totalAddress (blockSets 24 g))
-  unfolding firstWith totalAddress sameText matching decimal blockSets factSets energySets shown.energy
-  total-reads = energy-reads 0 (total (g .counters)) (energy-small (g .counters) (counters-small g good) 0)
+  unfolding firstWith totalAddress sameText matching decimal blockSets factSets energySets shown.energy energyNo
+  total-reads = own-energy-reads g good Total
 
   last-there : (among lastRowAddress (blockSets 24 g) ≡ true) × (position lastRowAddress (blockSets 24 g) ≡ 33)
   unfolding among position lastRowAddress sameText matching decimal layoutText tableText blockSets factSets energySets tableSets

@@ -8,6 +8,7 @@ ghost use Rattle.text.specs.Writing.{stored};
 ghost use Rattle.numerals.specs.Numerals.{numberLine};
 ghost use Rattle.reporting.specs.Report.{openedMeter, rowLines, detail, ShowsReport};
 use state::Meter;
+use state::Registers;
 
 // What is said: 1 or 20, and how many bytes of the buffer are to be written.
 pub struct Said {
@@ -37,7 +38,7 @@ fn detail(number: u8, place: usize, acknowledged: usize) -> usize
 }
 
 // Puts each row on a line of its own, and gives the place after them.
-fn put_rows(out: &mut [u8], at: usize, tables: &[u8; 576]) -> usize
+fn put_rows(out: &mut [u8], at: usize, tables: &[u8]) -> usize
     requires { ⌜ (at + 600 ≤ length (now out)) × (length (now tables) ≡ 576) ⌝ }
     ensures next { λ r. ⌜ r ≡ at + 600 ⌝ }
     ensures held { λ _. ⌜ now (out .exit) ≡ stored (now (out .entry)) at (rowLines 24 (now (tables .entry))) ⌝ }
@@ -55,13 +56,15 @@ fn put_rows(out: &mut [u8], at: usize, tables: &[u8; 576]) -> usize
 }
 
 // The line of the answer and the rows below it.
-fn put_report(out: &mut [u8], number: u8, behind: usize, tables: &[u8; 576]) -> usize
-    requires { ⌜ (642 ≤ length (now out)) × (length (now tables) ≡ 576) ⌝ }
+fn put_report(out: &mut [u8], number: u8, behind: usize, g: Registers) -> usize
+    requires { ⌜ 642 ≤ length (now out) ⌝ }
     ensures next { λ r. ⌜ r ≡ length (numberLine number behind) + 600 ⌝ }
-    ensures held { λ _. ⌜ now (out .exit) ≡ stored (now (out .entry)) 0 (numberLine number behind ++ rowLines 24 (now (tables .entry))) ⌝ }
+    ensures held { λ _. ⌜ now (out .exit) ≡ stored (now (out .entry)) 0 (numberLine number behind ++ rowLines 24 (g .tables)) ⌝ }
+    ensures all { λ _. ⌜ length (g .tables) ≡ 576 ⌝ }
 {
     let rows = numerals::put_line(out, 0, number as u64, behind as u64);
-    put_rows(out, rows, tables)
+    let tables = g.tables;
+    put_rows(out, rows, &tables)
 }
 
 pub fn report(text: &[u8], out: &mut [u8]) -> Said
@@ -74,7 +77,6 @@ pub fn report(text: &[u8], out: &mut [u8]) -> Said
     let behind = detail(number, delivered.place, delivered.acknowledged);
     let next = delivered.next;
     let registers = next.registers;
-    let tables = registers.tables;
-    let length = put_report(out, number, behind, &tables);
+    let length = put_report(out, number, behind, registers);
     Said { number, length }
 }

@@ -120,10 +120,86 @@ fn place_of(text: &[u8]) -> usize {
         }
         above = number(line[TENS], line[UNIT]);
     }
-    // A byte 0 strays in every column, so what is missing is never shared.
-    let mut line = [0; LINE];
-    line[..rest.len()].copy_from_slice(rest);
-    lines.len() * LINE + first_stray(&line, above).max(shared_with_last(rest, above))
+    lines.len() * LINE + rest_place(rest, above)
+}
+
+/// The place in what stands behind the whole lines.
+#[inline(always)]
+fn rest_place(rest: &[u8], above: u8) -> usize {
+    let column = if rest.len() < 16 {
+        short_stray(rest, above)
+    } else {
+        // A byte 0 strays in every column, so what is missing is never shared.
+        let mut line = [0; LINE];
+        line[..rest.len()].copy_from_slice(rest);
+        first_stray(&line, above)
+    };
+    column.max(shared_with_last(rest, above))
+}
+
+/// Up to eight bytes from a place on as a number, 0 for what is missing.
+#[inline(always)]
+fn word(bytes: &[u8], from: usize) -> u64 {
+    let bytes = &bytes[from.min(bytes.len())..];
+    let four = |at: usize| u64::from(u32::from_le_bytes(bytes[at..at + 4].try_into().unwrap()));
+    match bytes.len() {
+        0 => 0,
+        n @ 1..=3 => {
+            u64::from(bytes[0])
+                | u64::from(bytes[n / 2]) << (8 * (n / 2))
+                | u64::from(bytes[n - 1]) << (8 * (n - 1))
+        }
+        n @ 4..=7 => four(0) | four(n - 4) << (8 * (n - 4)),
+        _ => u64::from_le_bytes(bytes[..8].try_into().unwrap()),
+    }
+}
+
+/// The first column that strays in under sixteen bytes, eight at a time and without a copy.
+#[inline(always)]
+fn short_stray(rest: &[u8], above: u8) -> usize {
+    const HIGH: u64 = 0x8080_8080_8080_8080;
+    let strays = |from: usize| {
+        let low = u64::from_le_bytes(LOWEST[from..from + 8].try_into().unwrap());
+        let mask = u64::from_le_bytes(STRAY[from..from + 8].try_into().unwrap());
+        let bytes = word(rest, from);
+        let less = ((bytes | HIGH) - (low & !HIGH)) ^ ((bytes ^ !low) & HIGH);
+        less & mask
+    };
+    let bytes = word(rest, 0).to_le_bytes();
+    let (tens, unit) = (bytes[TENS], bytes[UNIT]);
+    let largest = number(tens, if tens == b'2' { b'4' } else { b'9' });
+    let first = strays(0)
+        | u64::from(above == TABLES)
+        | u64::from(!follows(above, largest)) << (8 * TENS)
+        | u64::from(!follows(above, number(tens, unit))) << (8 * UNIT);
+    if first != 0 {
+        return first.trailing_zeros() as usize / 8;
+    }
+    let second = strays(8);
+    8 + (second.trailing_zeros() as usize / 8).min(8)
+}
+
+/// The check once over the text: each line is judged before the next is looked at.
+#[inline(never)]
+pub fn check_once(text: &[u8], place: &mut usize) -> u8 {
+    let (lines, rest) = text.as_chunks::<LINE>();
+    let mut above = 0;
+    for (at, line) in lines.iter().enumerate() {
+        let any = (0..LINE).fold(0, |any, column| any | stray(line, column));
+        let number = number(line[TENS], line[UNIT]);
+        if (any != 0) | !follows(above, number) {
+            let column = first_stray(line, above);
+            *place = at * LINE + column.max(shared_with_last(line, above));
+            return 20;
+        }
+        above = number;
+    }
+    if rest == LAST && above != 0 {
+        *place = 0;
+        return 1;
+    }
+    *place = lines.len() * LINE + rest_place(rest, above);
+    20
 }
 
 /// How much of the last line these bytes share, if lines stand above.

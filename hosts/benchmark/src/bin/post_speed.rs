@@ -17,6 +17,12 @@ mod fast {
         (number, place)
     }
 
+    pub fn check_once(text: &[u8]) -> (u8, usize) {
+        let mut place = usize::MAX;
+        let number = fast_post::check_once(text, &mut place);
+        (number, place)
+    }
+
     pub fn export(text: &[u8], out: &mut [u8]) -> (u8, usize, usize) {
         let (mut length, mut place) = (usize::MAX, usize::MAX);
         let number = fast_post::export(text, out, &mut length, &mut place);
@@ -80,7 +86,7 @@ fn equal(text: &[u8]) -> bool {
         ];
         alike(&answers) && alike(&outs)
     });
-    alike(&checks) && exports == [true; 3]
+    alike(&checks) && fast::check_once(text) == checks[0] && exports == [true; 3]
 }
 
 fn alike<T: PartialEq>(three: &[T; 3]) -> bool {
@@ -118,8 +124,15 @@ fn main() -> ExitCode {
     let mut damaged = longest.clone();
     damaged[23 * post::LINE + 30] = b'5';
     let cut = longest[..30].to_vec();
+    // Under 16 bytes behind the last whole line.
+    let (five, twelve) = (longest[..5].to_vec(), longest[..12].to_vec());
+    let below = longest[..2 * post::LINE + 10].to_vec();
+    let no_end = [&longest[..2 * post::LINE], b"!\r"].concat();
     assert_eq!(longest.len(), post::LONGEST);
-    if !all_equal(&[&longest, &short, &damaged, &cut]) {
+    let texts = [
+        &longest, &short, &damaged, &cut, &five, &twelve, &below, &no_end,
+    ];
+    if !all_equal(&texts.map(|text| &text[..])) {
         println!("post: the sides differ; nothing is timed");
         return ExitCode::FAILURE;
     }
@@ -139,13 +152,24 @@ fn main() -> ExitCode {
             };
             medians(out, rust, library)
         } else {
-            let rust = |_: &mut [u8]| {
+            // Beside the faster of two ways by hand: all lines without a way out, then again for
+            // the place; or once, line by line.
+            let twice = |_: &mut [u8]| {
                 black_box(fast::check(black_box(text)));
+            };
+            let once = |_: &mut [u8]| {
+                black_box(fast::check_once(black_box(text)));
             };
             let library = |_: &mut [u8]| {
                 black_box(forum::check(black_box(text)));
             };
-            medians(out, rust, library)
+            let first = medians(out, twice, library);
+            let second = medians(out, once, library);
+            if first.0 < second.0 {
+                first
+            } else {
+                second
+            }
         }
     };
     println!(
@@ -157,6 +181,10 @@ fn main() -> ExitCode {
         ("check, short non-post", timed(&short, false)),
         ("check, wrong in line 24", timed(&damaged, false)),
         ("check, 30 bytes of a line", timed(&cut, false)),
+        ("check, 12 bytes of a line", timed(&twelve, false)),
+        ("check, 5 bytes of a line", timed(&five, false)),
+        ("check, 10 below two lines", timed(&below, false)),
+        ("check, two lines, no LF", timed(&no_end, false)),
         ("export, longest post", timed(&longest, true)),
     ] {
         println!(
