@@ -36,7 +36,12 @@ pub extern "C" fn dirgemist_head_sign_on_to(serial: &[u8], out: &mut [u8], size:
 
 // The confirmation, at 300 baud or 9600.
 #[no_mangle]
-pub extern "C" fn dirgemist_head_confirm(speed: u8, choice: u8, out: &mut [u8], size: &mut usize) -> u8
+pub extern "C" fn dirgemist_head_confirm(
+    speed: u8,
+    choice: u8,
+    out: &mut [u8],
+    size: &mut usize,
+) -> u8
     ensures { λ r. ⌜ Builds (now (out .entry)) (goodSpeed speed && goodChoice choice) (onWire (confirmation speed choice)) (record { number = r; length = now (size .exit) }) (now (out .exit)) ⌝ }
 {
     let b = commands::confirm(out, speed, choice);

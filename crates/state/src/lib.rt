@@ -199,7 +199,9 @@ pub fn is_well_formed(m: Meter) -> bool
     ensures { λ r. ⌜ r ≡ wellFormed m ⌝ }
 {
     let r = m.receiver;
-    if (((m.mode <= 4) & (m.attempts <= 3)) & speed_good(m.mode, m.speed)) & receiver_good(m.mode, r) {
+    if (((m.mode <= 4) & (m.attempts <= 3)) & speed_good(m.mode, m.speed))
+        & receiver_good(m.mode, r)
+    {
         let g = m.registers;
         return registers_good(g);
     }
