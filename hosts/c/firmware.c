@@ -242,6 +242,7 @@ static void passes(struct dirgemist_meter *meter) {
     expect(dirgemist_meter_pulse(meter, 1000000, speed) == 1, "the largest pulse, in zone 2");
     expect(dirgemist_meter_pulse(meter, 0, speed) == 1, "a pulse of nothing");
     meter->mode = 3;
+    meter->speed = 5;
     SAY(meter, "zone 1", "\001R1\002E1()\003\x17", 1, "\00215.8.1(001001.499*kWh)\r\n\003\x6c", 5);
     SAY(meter, "zone 2", "\001R1\002E2()\003\x14", 1, "\00215.8.2(001000.000*kWh)\r\n\003\x6a", 5);
     meter->attempts = 3;

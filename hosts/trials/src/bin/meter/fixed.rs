@@ -262,7 +262,7 @@ fn by_hand() -> Fixed {
     let taken = "0 5 0 -\n".repeat(35) + "1 5 1 06";
     let state = format!(
         "4 0 0 {} 31323334353637383930 4b696c6e5f37206f6c64 3230333034303530 0 2024 2 29 8 5 9 \
-         0 0 0 0 {tables}",
+         0 0 0 0 {tables} 5",
         "00".repeat(63)
     );
     Fixed::empty("a session byte by byte")
@@ -1113,7 +1113,9 @@ fn script_rules() -> Vec<Fixed> {
         Fixed::listening("a spoiled set changes nothing")
             .line(&format!("set {shown} "), "error")
             .line(&format!("set {}", &shown[..shown.len() - 2]), "error")
-            .line(&format!("set {shown}31"), "error")
+            .line(&format!("set {shown}256"), "error")
+            .line(&format!("set {shown} 0"), "error")
+            .line(&format!("set {}31 0", &shown[..shown.len() - 2]), "error")
             .line(&format!("set 256{}", &shown[1..]), "error")
             .line(&format!("set 0 0 256{}", &shown[5..]), "error")
             .dump(MADE)
