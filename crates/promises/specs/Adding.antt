@@ -13,7 +13,7 @@ use Rattle.state.specs.declared.Facts.{Facts}
 use Rattle.state.specs.declared.Counters.{Counters}
 use Rattle.state.specs.declared.Registers.{Registers}
 use Rattle.state.specs.declared.Meter.{Meter}
-use Rattle.state.specs.WellFormed.{sumOf, total, zonesGood, receiverGood, tablesGood, factoryGood, wellFormed}
+use Rattle.state.specs.WellFormed.{speedGood, sumOf, total, zonesGood, receiverGood, tablesGood, factoryGood, wellFormed}
 use Rattle.state.specs.Setting.{zonePlace, counterOf}
 use Rattle.tariff.specs.Zones.{grown, counted}
 use Rattle.datasets.specs.Sets.{energySet}
@@ -27,6 +27,7 @@ use Rattle.meter.specs.Life.{met, lived}
 pub record Bare : Type 0 where
   pub mode : ℕ
   pub attempts : ℕ
+  pub speed : ℕ
   pub receiver : Receiver
   pub facts : Facts
   pub account : List ℕ
@@ -37,7 +38,7 @@ pub record Bare : Type 0 where
 -- what such a state is well-formed by: document 01's ranges
 unfoldable pub bareFormed : Bare → Bool
 bareFormed b =
-    ((leb (b .mode) 4 && leb (b .attempts) 3) && receiverGood (b .mode) (b .receiver))
+    (((leb (b .mode) 4 && leb (b .attempts) 3) && speedGood (b .mode) (b .speed)) && receiverGood (b .mode) (b .receiver))
     && (factoryGood (b .facts) (b .account) (b .clock) && (zonesGood (b .zones) && tablesGood tables (b .tables)))
 
 -- a state whose total is forgotten, and one whose total is added up
@@ -46,6 +47,7 @@ bare m =
     record {
       mode = m .mode;
       attempts = m .attempts;
+      speed = m .speed;
       receiver = m .receiver;
       facts = m .registers .facts;
       account = m .registers .account;
@@ -62,6 +64,7 @@ addedUp b =
     record {
       mode = b .mode;
       attempts = b .attempts;
+      speed = b .speed;
       receiver = b .receiver;
       registers = record { facts = b .facts; account = b .account; clock = b .clock; counters = summed (b .zones); tables = b .tables };
     }
