@@ -19,7 +19,7 @@ use trials::record::record_of;
 use wrong::{Wrong, FAULTS};
 
 const SEED: u64 = 1;
-const EVENTS: u64 = 500_000;
+const EVENTS: u64 = 2_500_000;
 /// The events that a wrong meter may pass at most before it is found out.
 const PATIENCE: u64 = 400_000;
 
@@ -185,9 +185,10 @@ fn run() -> Result<(), String> {
         return Err(format!("never reached: {}", missed.join("; ")));
     }
     println!(
-        "firmware: {} events, {} meters made, {} records checked, all equal; reached all of {}; \
-         answers {}",
+        "firmware: {} events, {} of slow sessions, {} meters made, {} records checked, all equal; \
+         reached all of {}; answers {}",
         reached.events,
+        reached.slow,
         reached.made,
         reached.checks,
         reached::AIMS.len(),

@@ -5,7 +5,7 @@ use model::meter::{data_bits, BLOCK, ROOM};
 use std::collections::{BTreeMap, BTreeSet};
 
 /// What must have happened at least once.
-pub const AIMS: [&str; 89] = [
+pub const AIMS: [&str; 90] = [
     "character: 0",
     "character: 1",
     "character: 2",
@@ -59,6 +59,7 @@ pub const AIMS: [&str; 89] = [
     "speed that is none",
     "speed 5 outside a session",
     "a slow session",
+    "half a million events of slow sessions",
     "a fast session",
     "mark of 2",
     "mark over 2",
@@ -102,6 +103,7 @@ pub struct Reached {
     pub events: u64,
     pub made: u64,
     pub checks: u64,
+    pub slow: u64,
     numbers: BTreeMap<u8, u64>,
     zones: [bool; 4],
     met: BTreeSet<String>,
@@ -247,7 +249,13 @@ impl Reached {
     fn happened(&mut self, before: &Meter, event: (u8, u32), answer: Answer, after: &Meter) {
         let (kind, value) = event;
         self.reach(format!("mode {}", before.mode));
-        self.when(before.mode >= 2 && before.speed == 0, "a slow session");
+        let slow = before.mode >= 2 && before.speed == 0;
+        self.slow += u64::from(slow);
+        self.when(slow, "a slow session");
+        self.when(
+            self.slow == 500_000,
+            "half a million events of slow sessions",
+        );
         self.when(before.speed == 5, "a fast session");
         match kind {
             0 => {
