@@ -11,11 +11,11 @@
  * Each is proved, for all records, numbers and buffers, to do what its paragraph says. Pointers
  * must not be null, and what they point to must not overlap.
  *
- * Stack: an event takes some 5,100 bytes (64-bit Arm), a test 1,700, making 350; DIRGEMIST_STACK
+ * Stack: an event takes some 4,500 bytes (64-bit Arm), a test 1,700, making 350; DIRGEMIST_STACK
  * is above each, and hosts/stack measures them. The steps of an event hand the state on by value,
  * and up to eight copies of its tables are alive at once.
  *
- * Link with libfirmware.a.
+ * Link with libfirmware.a for events, and with libkeeping.a for making, testing and showing.
  */
 #ifndef DIRGEMIST_METER_H
 #define DIRGEMIST_METER_H

@@ -4,28 +4,18 @@ ghost use mathlib.Core.Path.{_≡_};
 ghost use lib.ListN.{length};
 ghost use Rattle.text.specs.Writing.{holding};
 ghost use Rattle.frames.specs.Frames.{onWire};
-ghost use Rattle.state.specs.Making.{madeOf};
 ghost use Rattle.meter.specs.Life.{eventOf, met};
-ghost use Rattle.firmware.specs.Making.{clockOf, checkedAs, shownAs};
 ghost use Rattle.firmware.specs.Replies.{replyTo, replyOf, settledReply};
 use meter::Answer;
 use settling::Heard;
 use state::Meter;
 use state::Receiver;
 
-mod making;
-
 // What is left of an answer once its next state lies in the record.
 pub struct Reply {
     pub number: u8,
     pub length: usize,
     pub speed: u8,
-}
-
-// What a display shows of a record: the total with 1, or 0 with 14.
-pub struct Shown {
-    pub number: u8,
-    pub total: u32,
 }
 
 fn reply_of(a: Answer) -> Reply
@@ -111,86 +101,4 @@ pub extern "C" fn dirgemist_meter_meet(
 {
     let r = meet_in_place(m, kind, value, reply);
     tell(r, count, speed)
-}
-
-// A new meter in the record, whatever stood there.
-#[no_mangle]
-pub extern "C" fn dirgemist_meter_make(
-    m: &mut Meter,
-    serial: &[u8],
-    account: &[u8],
-    password: &[u8],
-    year: u16,
-    month: u8,
-    day: u8,
-    hour: u8,
-    minute: u8,
-    second: u8,
-) -> u8
-    ensures { λ r. ⌜ (r ≡ madeOf (now (serial .entry)) (now (account .entry)) (now (password .entry)) (clockOf year month day hour minute second) .number)
-        × (now (m .exit) ≡ madeOf (now (serial .entry)) (now (account .entry)) (now (password .entry)) (clockOf year month day hour minute second) .meter) ⌝ }
-{
-    let a = making::make(
-        serial,
-        account,
-        password,
-        year,
-        month,
-        day,
-        hour,
-        minute,
-        second,
-    );
-    *m = making::meter_of(a);
-    making::number_of(a)
-}
-
-fn check(m: Meter) -> u8
-    ensures { λ r. ⌜ r ≡ checkedAs m ⌝ }
-{
-    if state::is_well_formed(m) {
-        return 1;
-    }
-    14
-}
-
-// Whether the record is well-formed.
-#[no_mangle]
-pub extern "C" fn dirgemist_meter_check(m: &Meter) -> u8
-    ensures { λ r. ⌜ r ≡ checkedAs (now (m .entry)) ⌝ }
-{
-    check(*m)
-}
-
-fn show(m: Meter) -> Shown
-    ensures { λ r. ⌜ r ≡ shownAs m ⌝ }
-{
-    let g = m.registers;
-    let c = g.counters;
-    if state::is_well_formed(m) {
-        return Shown {
-            number: 1,
-            total: c.total,
-        };
-    }
-    Shown {
-        number: 14,
-        total: 0,
-    }
-}
-
-fn hand_out(s: Shown, total: &mut u32) -> u8
-    ensures { λ n. ⌜ (n ≡ s .number) × (now (total .exit) ≡ s .total) ⌝ }
-{
-    *total = s.total;
-    s.number
-}
-
-// The total for a display, from a record that is only read. Nothing is added up on its way but for the check.
-#[no_mangle]
-pub extern "C" fn dirgemist_meter_total(m: &Meter, total: &mut u32) -> u8
-    ensures { λ r. ⌜ (r ≡ shownAs (now (m .entry)) .number) × (now (total .exit) ≡ shownAs (now (m .entry)) .total) ⌝ }
-{
-    let s = show(*m);
-    hand_out(s, total)
 }

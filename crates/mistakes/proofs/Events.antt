@@ -1,4 +1,4 @@
--- The wrong answers for `meter`, `settling` and `firmware` are ruled out, by computing. Assumes nothing.
+-- The wrong answers for `meter`, `settling`, `firmware` and `keeping` are ruled out, by computing. Assumes nothing.
 use mathlib.Core.Path.{refl}
 use mathlib.Core.Bool.{cond}
 use Prim.Native.Nat.{ℕ}
@@ -40,11 +40,11 @@ use Rattle.meter.specs.declared.Event.the-variants.{Character, Silence, Tick, P
 use Rattle.meter.specs.Life.{eventOf, met, refusal, happened}
 use Rattle.settling.specs.declared.Heard.{Heard}
 use Rattle.settling.specs.Settling.{heardAs, heardBy, heardOf, settles}
-use Rattle.firmware.specs.declared.Shown.{Shown}
-use Rattle.firmware.specs.Making.{checkedAs, shownAs}
+use Rattle.keeping.specs.declared.Shown.{Shown}
+use Rattle.keeping.specs.Shown.{checkedAs, shownAs}
 use Rattle.firmware.specs.declared.Reply.{Reply}
 use Rattle.mistakes.specs.Samples.{serial, account, password, twos, newMeter, heldIn}
-use Rattle.mistakes.specs.Events.{told, toldAll, toldMet, shortPassword, shortTried, signedOn, slowConfirmed, oddConfirmed, slowEntered, fastLeft, restarted, Receiving, Passing, Happening, Settling, Lent}
+use Rattle.mistakes.specs.Events.{told, toldAll, toldMet, shortPassword, shortTried, signedOn, slowConfirmed, oddConfirmed, slowEntered, fastLeft, restarted, Receiving, Passing, Happening, Settling, Lent, Kept}
 use Rattle.mistakes.proofs.Differing.{seen, number, byte}
 
 -- the kinds of event, as numbers
@@ -56,7 +56,7 @@ kindOf (Pulse wh) = 3
 kindOf PowerUp = 4
 kindOf Unknown = 5
 
-pub events : Receiving × Passing × Happening × Settling × Lent
+pub events : Receiving × Passing × Happening × Settling × Lent × Kept
 unfolding ones damagedAt seven sent bccOf every stored holding between isDigit isLetter isPrintable matching sameText decimal valueFrom valueOf numberAt layoutText pattern agrees fits leap thirty daysIn realDate realTime realClock goodDigits isAccountCharacter goodAccount goodRow goodTable tableText tableRead closed frameOf bracketed setTable signOn limit firstGood heldGood markGood receiverGood tablesGood factsGood registersGood wellFormed hearing listening confirming framing startGood bareShape content framedShape enclosed inner tableTold toldBy entry bareVerdict framedVerdict shapeVerdict verdict fallen tried acted signsOnBy symbol lineEnded confirmed heard taken character serial account password twos newMeter heldIn told toldAll toldMet shortPassword shortTried signedOn restarted daysBefore dayNumber weekday nextSecond tableFor zoneIn counted afterSilence silence tick pulse powerUp heardAs heardBy heardOf settles eventOf met refusal happened madeOf checkedAs shownAs kindOf below zonesGood sumOf total factoryGood confirms wantsBlock wantsProgram confirmation speedSaid bareFrame speedGood slowConfirmed oddConfirmed slowEntered fastLeft
 events = (
   record {
@@ -93,6 +93,8 @@ events = (
     «meet_in_place» = (seen (λ (r : Reply). r .length) refl, seen (λ (m : Meter). m .receiver .count) refl);
     «dirgemist_meter_meet» = (number refl, number refl);
     dirgemist-meter-meet-lent = (seen (λ (m : Meter). getD (m .registers .tables) 144 0) refl, byte 0 refl);
+  },
+  record {
     «dirgemist_meter_make» = (number refl, byte 0 refl);
     «dirgemist_meter_check» = (number refl, number refl);
     «dirgemist_meter_total» = (seen (λ (s : Shown). s .number) refl, seen (λ (s : Shown). s .number) refl);

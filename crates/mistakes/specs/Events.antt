@@ -1,4 +1,4 @@
--- Two wrong answers for each call of `meter`, `settling` and `firmware`, and some that document 01 warns of.
+-- Two wrong answers for each call of `meter`, `settling`, `firmware` and `keeping`, and some that document 01 warns of.
 use mathlib.Core.Bool.{true}
 use mathlib.Core.List.{[], _∷_}
 use lib.ListN.{length, getD, take, replicate}
@@ -18,7 +18,7 @@ use Rattle.meter.specs.Events.{silence, tick, pulse, powerUp}
 use Rattle.meter.specs.declared.Event.the-variants.{Character, Silence, Tick, Pulse, Unknown}
 use Rattle.meter.specs.Life.{eventOf, met, refusal, happened}
 use Rattle.settling.specs.Settling.{goesOn, refuses, settles}
-use Rattle.firmware.specs.Making.{checkedAs, shownAs}
+use Rattle.keeping.specs.Shown.{checkedAs, shownAs}
 use Rattle.firmware.specs.Replies.{replyOf}
 use Rattle.mistakes.specs.RuledOut.{RuledOut}
 use Rattle.mistakes.specs.Samples.{clockAt, serial, account, password, twos, newMeter, heldIn}
@@ -150,6 +150,9 @@ pub record Lent : Type 0 where
   pub «dirgemist_meter_meet» : RuledOut (toldMet .number) 9 × RuledOut (toldMet .speed) 0
   -- the old tables in the record; the buffer as it was
   pub dirgemist-meter-meet-lent : RuledOut (toldMet .next) (inMode newMeter 4) × RuledOut (holding (replicate replyRoom 9) (onWire (toldMet .reply))) (replicate replyRoom 9)
+
+-- of `keeping`
+pub record Kept : Type 0 where
   -- a serial of nine digits taken; the account of bad facts kept
   pub «dirgemist_meter_make» : RuledOut (madeOf (take 9 serial) account password (clockAt 2000 1 1 12 0 0) .number) 1
       × RuledOut (madeOf serial account (take 7 password) (clockAt 2000 1 1 12 0 0) .meter .registers .account) account

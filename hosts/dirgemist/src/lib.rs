@@ -7,7 +7,7 @@
 //! headers in `include/` say what each number means; here stand only the words that Rust needs.
 //!
 //! Nothing is kept between calls and nothing is allocated. The archives are made by
-//! `hosts/archive forum headlink firmware mercurylink`.
+//! `hosts/archive forum headlink firmware keeping mercurylink`.
 
 pub mod head;
 pub mod mercury;

@@ -140,6 +140,19 @@ pub struct Answer {
 
 #[link(name = "firmware", kind = "static")]
 extern "C" {
+    fn dirgemist_meter_meet(
+        meter: *mut Meter,
+        kind: u8,
+        value: u32,
+        reply: *mut u8,
+        room: usize,
+        length: *mut usize,
+        speed: *mut u8,
+    ) -> u8;
+}
+
+#[link(name = "keeping", kind = "static")]
+extern "C" {
     fn dirgemist_meter_make(
         meter: *mut Meter,
         serial: *const u8,
@@ -157,15 +170,6 @@ extern "C" {
     ) -> u8;
     fn dirgemist_meter_check(meter: *const Meter) -> u8;
     fn dirgemist_meter_total(meter: *const Meter, total: *mut u32) -> u8;
-    fn dirgemist_meter_meet(
-        meter: *mut Meter,
-        kind: u8,
-        value: u32,
-        reply: *mut u8,
-        room: usize,
-        length: *mut usize,
-        speed: *mut u8,
-    ) -> u8;
 }
 
 impl Meter {

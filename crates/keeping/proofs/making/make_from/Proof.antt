@@ -1,9 +1,9 @@
--- `firmware::making::make_from` meets its contract: where the lengths are right the arrays are the texts. Assumes nothing.
+-- `keeping::making::make_from` meets its contract: where the lengths are right the arrays are the texts. Assumes nothing.
 use borrow.Author.Tests.{ne-eqb}
 use borrow.Author.Needs.{needs}
-use Rattle.firmware.proofs.Lengths.{serial-long, account-long, password-long}
-use Rattle.firmware.proofs.making.make_from.Statement.{statement}
-use Rattle.firmware.proofs.making.make_from.Tie as tie
+use Rattle.keeping.proofs.Lengths.{serial-long, account-long, password-long}
+use Rattle.keeping.proofs.making.make_from.Statement.{statement}
+use Rattle.keeping.proofs.making.make_from.Tie as tie
 
 returns : tie.Need-returns
 returns c = rw (serial-long _ _ _ _ (ne-eqb _ _ (c .before .if1 .taken)), c .bad .ensures)

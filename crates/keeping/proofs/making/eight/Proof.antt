@@ -1,4 +1,4 @@
--- `firmware::making::eight` meets its contract: a list of eight, taken off one by one. Assumes nothing.
+-- `keeping::making::eight` meets its contract: a list of eight, taken off one by one. Assumes nothing.
 use mathlib.Core.Path.{_≡_}
 use mathlib.Core.List.{List, [], _∷_}
 use Prim.Native.Nat.{ℕ, _≤_}
@@ -6,8 +6,8 @@ use native.Mathlib.Omega.{arith}
 use lib.ListN.{length, getD, drop, drop-of-length-le}
 use Rattle.line.proofs.Runs.{left-next}
 use borrow.Author.Needs.{needs}
-use Rattle.firmware.proofs.making.eight.Statement.{statement}
-use Rattle.firmware.proofs.making.eight.Tie as tie
+use Rattle.keeping.proofs.making.eight.Statement.{statement}
+use Rattle.keeping.proofs.making.eight.Tie as tie
 
 one-by-one : (s : List ℕ) → length s ≡ 8 → getD s 0 0 ∷ getD s 1 0 ∷ getD s 2 0 ∷ getD s 3 0 ∷ getD s 4 0 ∷ getD s 5 0 ∷ getD s 6 0 ∷ getD s 7 0 ∷ [] ≡ drop 0 s
 one-by-one s n =

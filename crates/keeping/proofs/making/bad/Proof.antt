@@ -1,7 +1,7 @@
--- `firmware::making::bad` meets its contract. Assumes nothing.
+-- `keeping::making::bad` meets its contract. Assumes nothing.
 use borrow.Author.Needs.{needs}
-use Rattle.firmware.proofs.making.bad.Statement.{statement}
-use Rattle.firmware.proofs.making.bad.Tie as tie
+use Rattle.keeping.proofs.making.bad.Statement.{statement}
+use Rattle.keeping.proofs.making.bad.Tie as tie
 
 returns : tie.Need-returns
 returns c = rw (c .blank .ensures)

@@ -1,4 +1,4 @@
--- `firmware::dirgemist_meter_total` meets its contract: a walk of its MIR, by hand. The borrow is looked into and the state copied out, as for the check;
+-- `keeping::dirgemist_meter_total` meets its contract: a walk of its MIR, by hand. The borrow is looked into and the state copied out, as for the check;
 -- `show` is called on the copy, and the number goes to `hand_out` for good. Assumes nothing.
 use mathlib.Core.Path.{_≡_, refl, _∙_, ap}
 use Prim.Native.Nat.{ℕ}
@@ -38,22 +38,22 @@ use denote.Exit.{yes}
 use Rattle.state.specs.declared.Meter.{Meter}
 use Rattle.state.proofs.Meter as S
 use Rattle.state.proofs.Meter.Laws as S′
-use Rattle.firmware.specs.declared.Shown.{Shown}
-use Rattle.firmware.specs.Making.{shownAs}
-use Rattle.firmware.proofs.Shown as P
-use Rattle.firmware.proofs.Shown.Laws as P′
-use Rattle.firmware.proofs.show as show
-use Rattle.firmware.proofs.show.Symbol as show-def
-use Rattle.firmware.proofs.show.Symbol.{name as #firmware·show}
-use Rattle.firmware.proofs.show.Met as show-thm
-use Rattle.firmware.proofs.hand_out as hand
-use Rattle.firmware.proofs.hand_out.Symbol as hand-def
-use Rattle.firmware.proofs.hand_out.Symbol.{name as #firmware·hand-out}
-use Rattle.firmware.proofs.hand_out.Met as hand-thm
-use Rattle.firmware.proofs.dirgemist_meter_total.Key.{name as #firmware·dirgemist-meter-total}
-use Rattle.firmware.proofs.dirgemist_meter_total as f
-use Rattle.firmware.proofs.dirgemist_meter_total.Statement as stated
-use Rattle.firmware.proofs.dirgemist_meter_total.Code as code
+use Rattle.keeping.specs.declared.Shown.{Shown}
+use Rattle.keeping.specs.Shown.{shownAs}
+use Rattle.keeping.proofs.Shown as P
+use Rattle.keeping.proofs.Shown.Laws as P′
+use Rattle.keeping.proofs.show as show
+use Rattle.keeping.proofs.show.Symbol as show-def
+use Rattle.keeping.proofs.show.Symbol.{name as #keeping·show}
+use Rattle.keeping.proofs.show.Met as show-thm
+use Rattle.keeping.proofs.hand_out as hand
+use Rattle.keeping.proofs.hand_out.Symbol as hand-def
+use Rattle.keeping.proofs.hand_out.Symbol.{name as #keeping·hand-out}
+use Rattle.keeping.proofs.hand_out.Met as hand-thm
+use Rattle.keeping.proofs.dirgemist_meter_total.Key.{name as #keeping·dirgemist-meter-total}
+use Rattle.keeping.proofs.dirgemist_meter_total as f
+use Rattle.keeping.proofs.dirgemist_meter_total.Statement as stated
+use Rattle.keeping.proofs.dirgemist_meter_total.Code as code
 
 abbrev stayed : Stays (f.ended .signature .params) (f.ended .kept)
 stayed = (stay-none-ref (0 ∷ []) tt (plain (λ _. S.the-row)) yes, (gave-ref (1 ∷ []) tt (plain (λ _. u32)), tt))
@@ -118,7 +118,7 @@ module _ {M : Type 1} (𝓤 : URA M) (H : Heap 𝓤) (A : Atoms 𝓤) (W : Given
       -- [what the number returned owns; the last total; the record's ghost; the fractured borrow]
       nothing ! $ move ! (2 ∷ 0 ∷ []) $ fjoin ! $ move ! (2 ∷ 3 ∷ []) $ feqI ! (List Val) (vptr b o ∷ []) (vptr b o ∷ []) refl $ fjoin3 ! $ fjoin ! $ frame ! $ done !
 
-  module _ (C : Calls 𝓤 H) (Λ : Loops 𝓤 H) (fm : FmC 𝓤 H (W .laws) C) (known-show : Triple 𝓤 (C #firmware·show) (Show 𝓤 H A at-mem run)) (known-hand : Triple 𝓤 (C #firmware·hand-out) (Hand 𝓤 H A at-mem run)) where
+  module _ (C : Calls 𝓤 H) (Λ : Loops 𝓤 H) (fm : FmC 𝓤 H (W .laws) C) (known-show : Triple 𝓤 (C #keeping·show) (Show 𝓤 H A at-mem run)) (known-hand : Triple 𝓤 (C #keeping·hand-out) (Hand 𝓤 H A at-mem run)) where
     walk : ent 𝓤 (onEntry 𝓤 H A f.signature (κ, (κ₁, tt)) (q, (q₁, tt)) x at) (WpFn 𝓤 H C Λ code.function (vptr b o ∷ out ∷ []) Post)
     walk =
         qed W ((‵ (flft κ q) ⊛ (‵ (flft κ₁ q₁) ⊛ ‵ ftrue)) ∷ ‵ (owns (ShrRef (named 0) κ S.the-row ∷ MutRef (named 1) κ₁ u32 ∷ []) x at) ∷ []) ∵
@@ -153,7 +153,7 @@ module _ {M : Type 1} (𝓤 : URA M) (H : Heap 𝓤) (A : Atoms 𝓤) (W : Given
         keep ! (0 ∷ 1 ∷ 2 ∷ 5 ∷ 7 ∷ 6 ∷ []) $ by ! (exits k v (ws .1 .0) (said h t k (ws .1 .0) e e₁)))))))))))))))))))
 
 module _ {M : Type 1} (𝓤 : URA M) (H : Heap 𝓤) (A : Atoms 𝓤) (W : Given 𝓤 H A) (at-mem : Memory → SProp 𝓤) (run : Routine → Fun 𝓤) where
-  walks : (C : Calls 𝓤 H) (Λ : Loops 𝓤 H) → FmC 𝓤 H (W .laws) C → Triple 𝓤 (C #firmware·show) (Show 𝓤 H A at-mem run) → Triple 𝓤 (C #firmware·hand-out) (Hand 𝓤 H A at-mem run)
+  walks : (C : Calls 𝓤 H) (Λ : Loops 𝓤 H) → FmC 𝓤 H (W .laws) C → Triple 𝓤 (C #keeping·show) (Show 𝓤 H A at-mem run) → Triple 𝓤 (C #keeping·hand-out) (Hand 𝓤 H A at-mem run)
       → Walks 𝓤 H A f.ended stayed (WpFn 𝓤 H C Λ code.function) (f.clauses 𝓤 H A at-mem run)
   walks C Λ fm known-show known-hand = walked 𝓤 H A f.ended stayed (f.clauses 𝓤 H A at-mem run) (WpFn 𝓤 H C Λ code.function) (λ κs. (ptr-vals, (ptr-vals, tt))) (λ κs. (shr-tells (named 0) (κs .0) S.the-row, (mut-tells (named 1) (κs .1 .0) u32, tt)))
       (λ κs qs bounds a _ _. via 𝓤 _ (fst∗ 𝓤 _ (emp 𝓤)) (walk 𝓤 H A W at-mem run (κs .0) (κs .1 .0) (qs .0) (qs .1 .0) (a .0 .ptr .0) (a .0 .ptr .1) (a .0 .name) (a .0 .now) (a .1 .0) C Λ fm known-show known-hand))
@@ -162,7 +162,7 @@ module _ {M : Type 1} (𝓤 : URA M) (H : Heap 𝓤) (A : Atoms 𝓤) (W : Given
   goes = (goes-none-ref 𝓤 H A W 2 (0 ∷ []) tt (plain (λ _. S.the-row)) yes, (goes-gave-ref 𝓤 H A W 2 1 tt (plain (λ _. u32)), tt))
 
 meets : {M : Type 1} (𝓤 : URA M) (H : Heap 𝓤) (A : Atoms 𝓤) → Given 𝓤 H A → (at-mem : Memory → SProp 𝓤) (run : Routine → Fun 𝓤) (𝓣 : Tables 𝓤 H)
-    → Triple 𝓤 (𝓣 .C #firmware·show) (Show 𝓤 H A at-mem run) → Triple 𝓤 (𝓣 .C #firmware·hand-out) (Hand 𝓤 H A at-mem run)
+    → Triple 𝓤 (𝓣 .C #keeping·show) (Show 𝓤 H A at-mem run) → Triple 𝓤 (𝓣 .C #keeping·hand-out) (Hand 𝓤 H A at-mem run)
     → Meets 𝓤 H A f.signature (WpFn 𝓤 H (𝓣 .C) (𝓣 .Λ) code.function) (f.spec 𝓤 H A at-mem run)
 meets 𝓤 H A W at-mem run 𝓣 known-show known-hand = walk-meets 𝓤 H A f.ended stayed W (goes 𝓤 H A W at-mem run) (f.clauses 𝓤 H A at-mem run) (WpFn 𝓤 H (𝓣 .C) (𝓣 .Λ) code.function) (WpFn-mono 𝓤 H (W .laws) 𝓣 code.function)
     (walks 𝓤 H A W at-mem run (𝓣 .C) (𝓣 .Λ) (fmOf 𝓤 H (W .laws) 𝓣) known-show known-hand)
@@ -171,7 +171,7 @@ pub dirgemist-meter-total-spec : {M : Type 1} → stated.statement M
 unfolding code.routine tablesOf
 dirgemist-meter-total-spec 𝓤 H 𝓜 𝓖 𝓡 =
     entered 𝓤 H (tripleOf 𝓤 H (𝓖 .A) f.signature (f.spec 𝓤 H (𝓖 .A) (𝓜 .mem) (𝓡 .run)))
-    (tables 𝓤 H 𝓜 𝓡 code.env .C) (tables 𝓤 H 𝓜 𝓡 code.env .Λ) #firmware·dirgemist-meter-total code.function (code.unfolded 𝓤 H 𝓜 𝓡)
+    (tables 𝓤 H 𝓜 𝓡 code.env .C) (tables 𝓤 H 𝓜 𝓡 code.env .Λ) #keeping·dirgemist-meter-total code.function (code.unfolded 𝓤 H 𝓜 𝓡)
     (meets 𝓤 H (𝓖 .A) (givenOf 𝓤 H 𝓜 𝓖) (𝓜 .mem) (𝓡 .run) (tablesOf 𝓤 H 𝓜 (tables 𝓤 H 𝓜 𝓡 code.env))
-    (cited 𝓤 H (Show 𝓤 H (𝓖 .A) (𝓜 .mem) (𝓡 .run)) 𝓜 𝓡 code.env #firmware·show show-def.routine code.calls-firmware·show (show-thm.met 𝓤 H 𝓜 𝓖 𝓡))
-    (cited 𝓤 H (Hand 𝓤 H (𝓖 .A) (𝓜 .mem) (𝓡 .run)) 𝓜 𝓡 code.env #firmware·hand-out hand-def.routine code.calls-firmware·hand-out (hand-thm.met 𝓤 H 𝓜 𝓖 𝓡)))
+    (cited 𝓤 H (Show 𝓤 H (𝓖 .A) (𝓜 .mem) (𝓡 .run)) 𝓜 𝓡 code.env #keeping·show show-def.routine code.calls-keeping·show (show-thm.met 𝓤 H 𝓜 𝓖 𝓡))
+    (cited 𝓤 H (Hand 𝓤 H (𝓖 .A) (𝓜 .mem) (𝓡 .run)) 𝓜 𝓡 code.env #keeping·hand-out hand-def.routine code.calls-keeping·hand-out (hand-thm.met 𝓤 H 𝓜 𝓖 𝓡)))

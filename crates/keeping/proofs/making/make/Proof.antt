@@ -1,7 +1,7 @@
--- `firmware::making::make` meets its contract. Assumes nothing.
+-- `keeping::making::make` meets its contract. Assumes nothing.
 use borrow.Author.Needs.{needs}
-use Rattle.firmware.proofs.making.make.Statement.{statement}
-use Rattle.firmware.proofs.making.make.Tie as tie
+use Rattle.keeping.proofs.making.make.Statement.{statement}
+use Rattle.keeping.proofs.making.make.Tie as tie
 
 returns : tie.Need-returns
 returns c = rw (c .make-from .ensures, c .before .clock-of .ensures)

@@ -10,7 +10,7 @@ use Rattle.clock.specs.declared.Clock.{Clock}
 use Rattle.values.specs.Registers.{goodDigits, goodSerial, goodAccount, goodPassword}
 use Rattle.state.specs.WellFormed.{factsGood, factoryGood}
 use Rattle.state.specs.Making.{factsOf, madeOf}
-use Rattle.firmware.specs.Making.{badMade}
+use Rattle.keeping.specs.Making.{badMade}
 
 -- one of four that is false
 second-off : (p r : Bool) → (p && false) && r ≡ false

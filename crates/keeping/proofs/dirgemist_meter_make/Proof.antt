@@ -1,4 +1,4 @@
--- `firmware::dirgemist_meter_make` meets its contract: a walk of its MIR, by hand. `making::make` is called on copies of the slices' shares, the borrow of the record is opened, the new state is stored over
+-- `keeping::dirgemist_meter_make` meets its contract: a walk of its MIR, by hand. `making::make` is called on copies of the slices' shares, the borrow of the record is opened, the new state is stored over
 -- whatever stood there, and the borrow is closed at it. All that is known of the callees is that each meets its contract, so nothing here reads a field. Assumes nothing.
 use mathlib.Core.Path.{_≡_, refl, _∙_, ap}
 use Prim.Native.Nat.{ℕ, _<_, _^_}
@@ -46,23 +46,23 @@ use Rattle.state.proofs.Made as K
 use Rattle.state.proofs.Made.Laws as K′
 use Rattle.state.proofs.Meter as S
 use Rattle.state.proofs.Meter.Laws as S′
-use Rattle.firmware.specs.Making.{clockOf}
-use Rattle.firmware.proofs.making.make as make
-use Rattle.firmware.proofs.making.make.Symbol as make-def
-use Rattle.firmware.proofs.making.make.Symbol.{name as #make}
-use Rattle.firmware.proofs.making.make.Met as make-thm
-use Rattle.firmware.proofs.making.meter_of as meter
-use Rattle.firmware.proofs.making.meter_of.Symbol as meter-def
-use Rattle.firmware.proofs.making.meter_of.Symbol.{name as #meter-of}
-use Rattle.firmware.proofs.making.meter_of.Met as meter-thm
-use Rattle.firmware.proofs.making.number_of as number
-use Rattle.firmware.proofs.making.number_of.Symbol as number-def
-use Rattle.firmware.proofs.making.number_of.Symbol.{name as #number-of}
-use Rattle.firmware.proofs.making.number_of.Met as number-thm
-use Rattle.firmware.proofs.dirgemist_meter_make.Key.{name as #firmware·dirgemist-meter-make}
-use Rattle.firmware.proofs.dirgemist_meter_make as f
-use Rattle.firmware.proofs.dirgemist_meter_make.Statement as stated
-use Rattle.firmware.proofs.dirgemist_meter_make.Code as code
+use Rattle.keeping.specs.Making.{clockOf}
+use Rattle.keeping.proofs.making.make as make
+use Rattle.keeping.proofs.making.make.Symbol as make-def
+use Rattle.keeping.proofs.making.make.Symbol.{name as #make}
+use Rattle.keeping.proofs.making.make.Met as make-thm
+use Rattle.keeping.proofs.making.meter_of as meter
+use Rattle.keeping.proofs.making.meter_of.Symbol as meter-def
+use Rattle.keeping.proofs.making.meter_of.Symbol.{name as #meter-of}
+use Rattle.keeping.proofs.making.meter_of.Met as meter-thm
+use Rattle.keeping.proofs.making.number_of as number
+use Rattle.keeping.proofs.making.number_of.Symbol as number-def
+use Rattle.keeping.proofs.making.number_of.Symbol.{name as #number-of}
+use Rattle.keeping.proofs.making.number_of.Met as number-thm
+use Rattle.keeping.proofs.dirgemist_meter_make.Key.{name as #keeping·dirgemist-meter-make}
+use Rattle.keeping.proofs.dirgemist_meter_make as f
+use Rattle.keeping.proofs.dirgemist_meter_make.Statement as stated
+use Rattle.keeping.proofs.dirgemist_meter_make.Code as code
 
 abbrev stayed : Stays (f.ended .signature .params) (f.ended .kept)
 stayed = (stay-ref (0 ∷ []) tt (plain (λ _. S.the-row)), (stay-none-slice (1 ∷ []) tt (plain (λ _. u8)) yes, (stay-none-slice (2 ∷ []) tt (plain (λ _. u8)) yes, (stay-none-slice (3 ∷ []) tt (plain (λ _. u8)) yes, (stay-none (λ _. u16) yes, (stay-none (λ _. u8) yes, (stay-none (λ _. u8) yes, (stay-none (λ _. u8) yes, (stay-none (λ _. u8) yes, (stay-none (λ _. u8) yes, tt))))))))))
@@ -220,8 +220,8 @@ pub dirgemist-meter-make-spec : {M : Type 1} → stated.statement M
 unfolding code.routine tablesOf
 dirgemist-meter-make-spec 𝓤 H 𝓜 𝓖 𝓡 =
     entered 𝓤 H (tripleOf 𝓤 H (𝓖 .A) f.signature (f.spec 𝓤 H (𝓖 .A) (𝓜 .mem) (𝓡 .run)))
-    (tables 𝓤 H 𝓜 𝓡 code.env .C) (tables 𝓤 H 𝓜 𝓡 code.env .Λ) #firmware·dirgemist-meter-make code.function (code.unfolded 𝓤 H 𝓜 𝓡)
+    (tables 𝓤 H 𝓜 𝓡 code.env .C) (tables 𝓤 H 𝓜 𝓡 code.env .Λ) #keeping·dirgemist-meter-make code.function (code.unfolded 𝓤 H 𝓜 𝓡)
     (meets 𝓤 H (𝓖 .A) (givenOf 𝓤 H 𝓜 𝓖) (𝓜 .mem) (𝓡 .run) (tablesOf 𝓤 H 𝓜 (tables 𝓤 H 𝓜 𝓡 code.env))
-    (cited 𝓤 H (Make 𝓤 H (𝓖 .A) (𝓜 .mem) (𝓡 .run)) 𝓜 𝓡 code.env #make make-def.routine code.calls-firmware·making·make (make-thm.met 𝓤 H 𝓜 𝓖 𝓡))
-    (cited 𝓤 H (MeterOf 𝓤 H (𝓖 .A) (𝓜 .mem) (𝓡 .run)) 𝓜 𝓡 code.env #meter-of meter-def.routine code.calls-firmware·making·meter-of (meter-thm.met 𝓤 H 𝓜 𝓖 𝓡))
-    (cited 𝓤 H (NumberOf 𝓤 H (𝓖 .A) (𝓜 .mem) (𝓡 .run)) 𝓜 𝓡 code.env #number-of number-def.routine code.calls-firmware·making·number-of (number-thm.met 𝓤 H 𝓜 𝓖 𝓡)))
+    (cited 𝓤 H (Make 𝓤 H (𝓖 .A) (𝓜 .mem) (𝓡 .run)) 𝓜 𝓡 code.env #make make-def.routine code.calls-keeping·making·make (make-thm.met 𝓤 H 𝓜 𝓖 𝓡))
+    (cited 𝓤 H (MeterOf 𝓤 H (𝓖 .A) (𝓜 .mem) (𝓡 .run)) 𝓜 𝓡 code.env #meter-of meter-def.routine code.calls-keeping·making·meter-of (meter-thm.met 𝓤 H 𝓜 𝓖 𝓡))
+    (cited 𝓤 H (NumberOf 𝓤 H (𝓖 .A) (𝓜 .mem) (𝓡 .run)) 𝓜 𝓡 code.env #number-of number-def.routine code.calls-keeping·making·number-of (number-thm.met 𝓤 H 𝓜 𝓖 𝓡)))

@@ -1,8 +1,8 @@
--- `firmware::check` meets its contract: each way out is the case of the definition that its tests name. Assumes nothing.
-use Rattle.firmware.specs.Making.{checkedAs}
+-- `keeping::check` meets its contract: each way out is the case of the definition that its tests name. Assumes nothing.
+use Rattle.keeping.specs.Shown.{checkedAs}
 use borrow.Author.Needs.{needs}
-use Rattle.firmware.proofs.check.Statement.{statement}
-use Rattle.firmware.proofs.check.Tie as tie
+use Rattle.keeping.proofs.check.Statement.{statement}
+use Rattle.keeping.proofs.check.Tie as tie
 
 returns : tie.Need-returns
 unfolding checkedAs

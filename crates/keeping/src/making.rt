@@ -3,7 +3,7 @@ ghost use mathlib.Core.Path.{_≡_};
 ghost use lib.ListN.{length};
 ghost use Rattle.clock.specs.Seconds.{dateOf, timeOf};
 ghost use Rattle.state.specs.Making.{madeOf};
-ghost use Rattle.firmware.specs.Making.{badMade, clockOf};
+ghost use Rattle.keeping.specs.Making.{badMade, clockOf};
 use clock::Clock;
 use clock::Date;
 use clock::Time;

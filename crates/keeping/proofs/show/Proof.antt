@@ -1,8 +1,8 @@
--- `firmware::show` meets its contract: each way out is the case of the definition that its test names. Assumes nothing.
-use Rattle.firmware.specs.Making.{shownAs}
+-- `keeping::show` meets its contract: each way out is the case of the definition that its test names. Assumes nothing.
+use Rattle.keeping.specs.Shown.{shownAs}
 use borrow.Author.Needs.{needs}
-use Rattle.firmware.proofs.show.Statement.{statement}
-use Rattle.firmware.proofs.show.Tie as tie
+use Rattle.keeping.proofs.show.Statement.{statement}
+use Rattle.keeping.proofs.show.Tie as tie
 
 returns : tie.Need-returns
 unfolding shownAs
