@@ -18,6 +18,13 @@ pub struct Bench {
 }
 
 impl Bench {
+    /// The session that goes on or has ended, and its work.
+    pub fn session(&self) -> Option<(&Session, &[u8])> {
+        self.session
+            .as_ref()
+            .map(|(session, work)| (session, &work[..]))
+    }
+
     /// The answer to one line, given without its LF; nothing for an error.
     pub fn answer(&mut self, line: &[u8]) -> Option<String> {
         if line.len() > LINE_MOST {
