@@ -94,25 +94,41 @@ pub fn asked(letter: u8, number: u8) -> Option<Command<'static>> {
     }
 }
 
-/// The messages of some work, in their order; nothing for one that can't be built.
-fn messages_of(kind: u8, given: &[u8]) -> Vec<Option<Vec<u8>>> {
+/// The letter and the number of a read of the list that is lent. What is not there is 0.
+fn read_at(given: &[u8], place: usize) -> [u8; READ] {
+    let byte = |at| given.get(at).copied().unwrap_or(0);
+    [byte(READ * place), byte(READ * place + 1)]
+}
+
+/// The message of a place of some work; nothing where it can't be built.
+fn work_message(kind: u8, given: &[u8], place: usize) -> Option<Vec<u8>> {
     let wire = |command: Command| Some(line::wires(&head::characters(&command)?));
     match kind {
+        work::READS => {
+            let [letter, number] = read_at(given, place);
+            wire(asked(letter, number)?)
+        }
+        work::POST => {
+            // A line is one that makes a post alone.
+            let line = given.chunks(post::LINE).nth(place)?;
+            let [table] = post::read(&[line, post::LAST].concat())?[..] else {
+                return None;
+            };
+            wire(Command::WriteTable(table.number, &table.row))
+        }
+        _ => None,
+    }
+}
+
+/// How many messages some work has; nothing for work of no kind, or half a read.
+fn count_of(kind: u8, given: &[u8]) -> Option<usize> {
+    match kind {
         work::READS => given
-            .chunks(READ)
-            .map(|read| match *read {
-                [letter, number] => wire(asked(letter, number)?),
-                _ => None,
-            })
-            .collect(),
-        work::POST => match post::read(given) {
-            Some(tables) => tables
-                .iter()
-                .map(|table| wire(Command::WriteTable(table.number, &table.row)))
-                .collect(),
-            None => vec![None],
-        },
-        _ => vec![None],
+            .len()
+            .is_multiple_of(READ)
+            .then_some(given.len() / READ),
+        work::POST => Some(given.len() / post::LINE),
+        _ => None,
     }
 }
 
@@ -134,7 +150,7 @@ fn enter(access: u8, password: &[u8]) -> Option<Vec<u8>> {
     Some(line::wires(&head::characters(&command)?))
 }
 
-/// The number of the refusal and the place, or the messages of the work.
+/// The number of the refusal and the place, or the messages that can be told before any reply.
 fn looked_at(told: &Told, room: usize) -> Result<Vec<Vec<u8>>, (u8, usize)> {
     let (reads, post) = (told.kind == work::READS, told.kind == work::POST);
     if room < head::COMMAND_ROOM {
@@ -152,13 +168,19 @@ fn looked_at(told: &Told, room: usize) -> Result<Vec<Vec<u8>>, (u8, usize)> {
     if post && told.access == 0 {
         return Err((answer::READ_ONLY, 0));
     }
-    let all = [
-        vec![sign_on(told.named, told.serial)],
-        vec![enter(told.access, told.password)],
-        messages_of(told.kind, told.work),
+    messages(told).ok_or((answer::FIELD, 0))
+}
+
+/// The sign-on, P1 and the messages of the work; nothing where one of them can't be built.
+fn messages(told: &Told) -> Option<Vec<Vec<u8>>> {
+    let mut messages = vec![
+        sign_on(told.named, told.serial)?,
+        enter(told.access, told.password)?,
     ];
-    let built: Option<Vec<Vec<u8>>> = all.concat().into_iter().collect();
-    built.ok_or((answer::FIELD, 0))
+    for place in 0..count_of(told.kind, told.work)? {
+        messages.push(work_message(told.kind, told.work, place)?);
+    }
+    Some(messages)
 }
 
 /// Starts a session: the sign-on stands at the front of `out`.
@@ -231,10 +253,7 @@ impl Session {
             2 => wire(Command::Confirm(b'5', b'1')),
             3 => enter(self.access, &self.password),
             _ if number == self.last() => wire(Command::SignOff),
-            _ => {
-                let mut messages = messages_of(self.work, given).into_iter();
-                messages.nth(usize::from(number - BESIDE)).flatten()
-            }
+            _ => work_message(self.work, given, usize::from(number - BESIDE)),
         }
     }
 
@@ -248,11 +267,8 @@ impl Session {
             3 => reply == [ACK],
             sent if sent == self.last() || self.work == work::POST => reply == [ACK],
             sent => {
-                let mut reads = given.chunks(READ);
-                match reads.nth(usize::from(sent - BESIDE)) {
-                    Some(&[letter, number]) => tells(letter, number, reply),
-                    _ => false,
-                }
+                let [letter, number] = read_at(given, usize::from(sent - BESIDE));
+                tells(letter, number, reply)
             }
         }
     }

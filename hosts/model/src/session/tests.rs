@@ -274,6 +274,9 @@ fn other_work_gives_its_own_messages_or_none() {
     assert_eq!(session.reply(b"", &[ACK], &mut out).number, 31);
     assert_eq!(session.reply(b"E\x09", &[ACK], &mut out).number, 31);
     assert_eq!((session, out), (kept, [0; 64]));
+    // What is not there counts as 0.
+    let mut half = session;
+    assert_eq!(half.reply(b"E", &[ACK], &mut [0; 64]).message, 4);
     let heard = session.reply(b"L\0", &[ACK], &mut out);
     assert_eq!((heard.number, heard.message), (1, 4));
     let asked = head::characters(&Command::ReadSerial).unwrap();

@@ -308,6 +308,11 @@ fn told(pair: &mut Pair, chance: &mut Chance) -> Outcome {
             reads(chance, count)
         }
         (_, 3) => (0..chance.below(80)).map(|_| chance.byte()).collect(),
+        (work::READS, 4) => {
+            let mut half = reads(chance, 33);
+            half.truncate(chance.one_of(&[1, 1, 3, 63, 65, 65]));
+            half
+        }
         (work::READS, _) => {
             let count = chance.between(1, 32);
             reads(chance, count)

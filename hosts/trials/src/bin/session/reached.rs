@@ -70,6 +70,8 @@ pub fn aims() -> Vec<String> {
         "start: 9 for a flag",
         "start: 9 for a kind",
         "start: 9 for half a read",
+        "start: 9 for one byte",
+        "start: 29 for 32 reads and a half",
         "start: 29 for 33",
         "start: 30 with a bad serial",
         "start: 20 with `()`",
@@ -83,6 +85,7 @@ pub fn aims() -> Vec<String> {
         "reply: 31 at the last message of work",
         "reply: an empty one",
         "reply: other work, and its message",
+        "reply: half a read lent, and its message",
         "reply: a block, damaged",
         "a post delivered",
     ];
@@ -158,7 +161,17 @@ impl Reached {
         let count = told.work.len() / 2;
         self.when(
             number == answer::MANY_READS && count == 33,
+            "start: 9 for one byte",
+            "start: 29 for 32 reads and a half",
             "start: 29 for 33",
+        );
+        self.when(
+            number == answer::MANY_READS && told.work.len() == 65,
+            "start: 29 for 32 reads and a half",
+        );
+        self.when(
+            refused && reads && told.work.len() == 1,
+            "start: 9 for one byte",
         );
         let done = number == answer::DONE;
         self.when(done && reads && count == 32, "start: 1 with 32 reads");
@@ -218,6 +231,10 @@ impl Reached {
         }
         self.stands(before, heard);
         self.when(reply.is_empty(), "reply: an empty one");
+        let half = before.work == work::READS
+            && heard.fact == fact::GOES_ON
+            && usize::from(heard.message) * 2 == lent.len() + 7;
+        self.when(half, "reply: half a read lent, and its message");
         let of_work = 4 <= before.sent && before.sent < before.last();
         if !of_work || before.work == work::POST {
             let next = heard.fact == fact::GOES_ON && heard.message >= 4;
