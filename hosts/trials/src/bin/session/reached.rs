@@ -161,8 +161,6 @@ impl Reached {
         let count = told.work.len() / 2;
         self.when(
             number == answer::MANY_READS && count == 33,
-            "start: 9 for one byte",
-            "start: 29 for 32 reads and a half",
             "start: 29 for 33",
         );
         self.when(
