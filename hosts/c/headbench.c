@@ -14,6 +14,9 @@
  * same, and the bytes that would follow are FILLING, which is not shown. */
 #define ROOM_LENT (BYTES_MOST + 1)
 
+/* The most bytes of a text: those of a word, or two for each word that is a read. */
+#define TEXT_MOST (2 * WORDS_MOST)
+
 /* ---- The words of a call: what each must be, and what they are. */
 
 enum word_kind {
@@ -435,7 +438,7 @@ static bool play(const struct word *words, size_t count) {
 int main(void) {
     buffer = buffer_for(ROOM_LENT);
     for (size_t at = 0; at < COUNT(texts); at++) {
-        texts[at] = guarded(BYTES_MOST);
+        texts[at] = guarded(TEXT_MOST);
     }
     for (size_t at = 0; at < NUMBERS; at++) {
         numbers[at] = own(sizeof *numbers[at]);
@@ -449,7 +452,7 @@ int main(void) {
         quantities[at] = own(sizeof *quantities[at]);
     }
     session = own(sizeof *session);
-    kept = guarded(BYTES_MOST);
+    kept = guarded(TEXT_MOST);
     play_all(play);
     return 0;
 }
