@@ -1,11 +1,13 @@
 /* head-tty.c: a visit of the head to a meter, over a serial device or a pseudo-terminal.
  *
- *     head-tty [-w SECONDS] [-g SECONDS] DEVICE METER ACCESS reads READ..
- *     head-tty [-w SECONDS] [-g SECONDS] DEVICE METER ACCESS post FILE
+ *     head-tty [-b] [-w SECONDS] [-g SECONDS] DEVICE METER ACCESS reads READ..
+ *     head-tty [-b] [-w SECONDS] [-g SECONDS] DEVICE METER ACCESS post FILE
  *
  * METER is `any` or ten digits of a serial; ACCESS is `open` or eight digits of a password; a READ
  * is T, L, K, E0 to E4, Z1 to Z24, or `all` for these 32. Each line that is read goes to standard
  * output as its address, a space and its value; of a post, how many tables were written.
+ *
+ * With -b the bytes take their time on a pseudo-terminal too, as they do on a serial device.
  *
  * Status: 0 the visit was done; 1 it was refused before anything was sent; 2 the words, the file or
  * the line are not such as it takes; 3 the meter said NAK; 4 a wrong reply came; 5 none came.
@@ -39,7 +41,7 @@ enum { DONE = 0, REFUSED = 1, STOPPED_BY_NAK = 3, STOPPED_BY_WRONG = 4, STOPPED_
 static double patience = 2, gap = 0.5;
 
 static _Noreturn void usage(void) {
-    fprintf(stderr, "usage: head-tty [-w SECONDS] [-g SECONDS] DEVICE METER ACCESS WORK..\n"
+    fprintf(stderr, "usage: head-tty [-b] [-w SECONDS] [-g SECONDS] DEVICE METER ACCESS WORK..\n"
                     "  METER   any, or a serial's ten digits\n"
                     "  ACCESS  open, or a password's eight digits\n"
                     "  WORK    reads T L K E0..E4 Z1..Z24, reads all, or post FILE\n");
@@ -261,8 +263,10 @@ static int visit(int line, struct dirgemist_session *session, uint8_t *message, 
 
 int main(int count, char **words) {
     program = "head-tty";
-    for (int option; (option = getopt(count, words, "+w:g:")) != -1;) {
-        if (option == '?' || !seconds_of(optarg, option == 'w' ? &patience : &gap)) {
+    for (int option; (option = getopt(count, words, "+bw:g:")) != -1;) {
+        if (option == 'b') {
+            paced = true;
+        } else if (option == '?' || !seconds_of(optarg, option == 'w' ? &patience : &gap)) {
             usage();
         }
     }

@@ -1,11 +1,12 @@
 /* meter-tty.c: a meter on a line, a serial device or a pseudo-terminal.
  *
- *     meter-tty [-p] [-s SECONDS] [-w WH] [-n SERIAL,ACCOUNT,PASSWORD] DEVICE STATE
+ *     meter-tty [-pb] [-s SECONDS] [-w WH] [-n SERIAL,ACCOUNT,PASSWORD] DEVICE STATE
  *
  * Each character that comes, each second, and each silence (8 seconds without a character, or those
  * of -s, counted from the last one that came or went) is told to the proved meter, and what it
  * replies goes out at the reply's speed. With -p the DEVICE is a name, and a pseudo-terminal is made
- * under it. With -w each second uses so many Wh.
+ * under it; with -b its bytes take their time, as on a serial device. With -w each second uses so
+ * many Wh.
  *
  * The record is kept in the file STATE. It is written anew, beside the old one and then in its
  * place, before a change of it is acknowledged; a power cut at any time loses the session and
@@ -17,6 +18,7 @@
 #include "dirgemist_meter.h"
 
 #define SILENCE 8.0 /* seconds */
+#define TURN 0.2    /* seconds that a head has to change its speed in */
 
 /* ---- The file: a mark, a sum and the record. */
 
@@ -198,6 +200,9 @@ static void meet(uint8_t kind, uint32_t value) {
         keep();
     }
     if (length > 0) {
+        if (paced && baud_of(speed) != baud) {
+            rest_until(now() + TURN);
+        }
         set_speed(line, speed);
         if (!say(line, reply, length)) {
             fail("the line");
@@ -235,8 +240,8 @@ static void serve(double silence, uint32_t wh) {
 }
 
 static _Noreturn void usage(void) {
-    fprintf(stderr, "usage: meter-tty [-p] [-s SECONDS] [-w WH] [-n SERIAL,ACCOUNT,PASSWORD] "
-                    "DEVICE STATE\n");
+    fprintf(stderr, "usage: meter-tty [-pb] [-s SECONDS] [-w WH] "
+                    "[-n SERIAL,ACCOUNT,PASSWORD] DEVICE STATE\n");
     exit(UNABLE);
 }
 
@@ -247,9 +252,10 @@ int main(int count, char **words) {
     struct facts facts = {0};
     char *stop;
     program = "meter-tty";
-    for (int option; (option = getopt(count, words, "ps:w:n:")) != -1;) {
+    for (int option; (option = getopt(count, words, "pbs:w:n:")) != -1;) {
         switch (option) {
         case 'p': made_here = true; break;
+        case 'b': paced = true; break;
         case 's':
             if (!seconds_of(optarg, &silence)) {
                 usage();

@@ -16,6 +16,7 @@
 #include <stdlib.h>
 #include <string.h>
 #include <sys/stat.h>
+#include <sys/sysmacros.h>
 #include <termios.h>
 #include <time.h>
 #include <unistd.h>
@@ -36,6 +37,13 @@ static inline double now(void) {
     struct timespec time;
     clock_gettime(CLOCK_MONOTONIC, &time);
     return (double)time.tv_sec + (double)time.tv_nsec / 1e9;
+}
+
+static inline void rest_until(double then) {
+    for (double left = then - now(); left > 0; left = then - now()) {
+        struct timespec rest = {(time_t)left, (long)((left - (double)(time_t)left) * 1e9)};
+        nanosleep(&rest, NULL);
+    }
 }
 
 /* Seconds as a person writes them: 8, or 0.5. */
@@ -63,6 +71,22 @@ static inline void end_by_signals(void) {
     sigaction(SIGHUP, &action, NULL);
 }
 
+/* Whether bytes take the time that the line's speed gives them. On a serial device they do, and some
+ * drivers say that all has left while the last bytes are still on their way: the speed must not
+ * change before. A pseudo-terminal takes no time unless it is told to. */
+static bool paced;
+static double baud = 300;
+
+static inline double baud_of(uint8_t identifier) {
+    return identifier == 5 ? 9600 : 300;
+}
+
+/* Linux gives the far ends of pseudo-terminals these numbers. */
+static inline bool is_pseudo(int line) {
+    struct stat found;
+    return fstat(line, &found) == 0 && major(found.st_rdev) >= 136 && major(found.st_rdev) <= 143;
+}
+
 /* Bytes as they are: nothing is echoed, turned, counted or waited for. */
 static inline bool set_raw(int line) {
     struct termios settings;
@@ -81,6 +105,7 @@ static inline bool set_raw(int line) {
 static inline void set_speed(int line, uint8_t identifier) {
     struct termios settings;
     speed_t speed = identifier == 5 ? B9600 : B300;
+    baud = baud_of(identifier);
     if (tcgetattr(line, &settings) != 0) {
         fail("the line");
     }
@@ -101,6 +126,7 @@ static inline int open_line(const char *device) {
         fprintf(stderr, "%s: %s is no serial device and no terminal\n", program, device);
         exit(UNABLE);
     }
+    paced = paced || !is_pseudo(line);
     return line;
 }
 
@@ -151,6 +177,7 @@ static inline ssize_t hear(int line, uint8_t *bytes, size_t most, double until) 
 
 /* Sends bytes and waits until they have left; false where the line is gone. */
 static inline bool say(int line, const uint8_t *bytes, size_t length) {
+    double gone = now() + 10 * (double)length / baud; /* eight bits, a start and a stop */
     while (length > 0) {
         ssize_t count = write(line, bytes, length);
         if (count < 0 && errno != EINTR) {
@@ -161,7 +188,13 @@ static inline bool say(int line, const uint8_t *bytes, size_t length) {
             length -= (size_t)count;
         }
     }
-    return tcdrain(line) == 0;
+    if (tcdrain(line) != 0) {
+        return false;
+    }
+    if (paced) {
+        rest_until(gone);
+    }
+    return true;
 }
 
 #endif
