@@ -228,7 +228,6 @@ static int stopped(const struct dirgemist_session *session, uint8_t fact, uint8_
 
 static int visit(int line, struct dirgemist_session *session, uint8_t *message, size_t length) {
     static uint8_t reply[REPLY_MOST];
-    tcflush(line, TCIFLUSH);
     for (;;) {
         uint8_t sent = session->sent, fact, number, answer;
         if (!say(line, message, length)) {

@@ -127,6 +127,8 @@ static inline int open_line(const char *device) {
         exit(UNABLE);
     }
     paced = paced || !is_pseudo(line);
+    /* What came while nobody had the line was heard by nobody. */
+    tcflush(line, TCIOFLUSH);
     return line;
 }
 
