@@ -1,5 +1,6 @@
 //! The head's half of a conversation, from document 02, [7]: sign on, confirm, enter, a list of
-//! reads or one post, and B0. It takes each reply and gives the next message, or a stop.
+//! reads or one post, and B0. It takes each reply and gives the next message, or a stop. What work
+//! that is lent anew must be for a message to be made of it is the proved session's reading.
 
 use crate::head::{self, Command};
 use crate::line::{self, ACK, ETX, NAK, SOH, STX};
