@@ -8,7 +8,7 @@ use borrow.Author.Needs.{needs}
 use Rattle.session.specs.declared.Session.{Session}
 use Rattle.session.specs.declared.Step.{Step}
 use Rattle.session.specs.Standing.{sessionGood}
-use Rattle.session.specs.Turns.{Turn, stepOf, unturned, ends, silent}
+use Rattle.session.specs.Turns.{stepOf, unturned, ends, silent}
 use Rattle.sessionlink.proofs.hear_nothing.Statement.{statement}
 use Rattle.sessionlink.proofs.hear_nothing.Tie as tie
 
