@@ -1,3 +1,4 @@
 pub mod Right
 pub mod Telling
 pub mod Exchange
+pub mod Course
