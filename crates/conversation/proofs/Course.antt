@@ -136,3 +136,88 @@ module _ (s : Session) (work : List ℕ) (a : ℕ) (g : Registers) (few : a ≤ 
       leaves : (i : ℕ) → i ≤ 4 → speedGood i 5 ≡ true → allowedIn leave i ≡ true → Right leave (idle i a 5 g) (idle 0 a 0 g) accepts
       leaves i h k l =
           acknowledged leave (idle i a 5 g) (idle 0 a 0 g) 5 (unfold goodMessage in refl) (idle-listens i a 5 g leave (fit-here i 5 h k) l) (unfold outcomeOf in refl)
+
+-- ---- all of it
+
+-- the meter before each message, by how many exchanges there were: g i are its registers after i messages of work
+unfoldable pub stage : ℕ → ℕ → ℕ → ℕ → (ℕ → Registers) → ℕ → Meter
+stage count a mode b g zero = idle 0 a 0 (g 0)
+stage count a mode b g (suc zero) = idle 1 a 0 (g 0)
+stage count a mode b g (suc (suc zero)) = idle 2 a 5 (g 0)
+stage count a mode b g (suc (suc (suc i))) = cond (leb i count) (idle mode b 5 (g i)) (idle 0 b 0 (g count))
+
+-- what a session that goes well stands on
+pub record Goes (s : Session) (work : List ℕ) (a mode b : ℕ) (g : ℕ → Registers) : Type 0 where
+  pub sound : Sound s
+  pub few : a ≤ 3
+  pub fewer : b ≤ 3
+  pub good : (i : ℕ) → i ≤ s .count → registersGood (g i) ≡ true
+  pub ours : Ours s (g 0)
+  pub enters : Enters s a (g 0) mode b
+  pub works : (i : ℕ) → i < s .count → Right (command (workAt s work i)) (idle mode b 5 (g i)) (idle mode b 5 (g (suc i))) (rightWork s work i)
+
+module _ (s : Session) (work : List ℕ) (a mode b : ℕ) (g : ℕ → Registers) (goes : Goes s work a mode b g) where
+  abbrev at : ℕ → Meter
+  at = stage (s .count) a mode b g
+
+  at-working : (i : ℕ) → i ≤ s .count → at (suc (suc (suc i))) ≡ idle mode b 5 (g i)
+  unfolding stage
+  at-working i h = rw (le-leb i (s .count) h)
+
+  pub at-end : (i : ℕ) → s .count < i → at (suc (suc (suc i))) ≡ idle 0 b 0 (g (s .count))
+  unfolding stage
+  at-end i h = rw (lt-leb i (s .count) h)
+
+  abbrev RightHere : ℕ → Meter → Meter → Type 0
+  RightHere n m next = Right (messageAt s work n) m next (rightAt s work n)
+
+  right-working : (i : ℕ) → i < s .count → RightHere (i + 4) (at (suc (suc (suc i)))) (at (suc (suc (suc (suc i)))))
+  right-working i h =
+      rw (at-working i (omega arith), at-working (suc i) h)
+      (renamed (command (workAt s work i)) (messageAt s work (i + 4)) _ _ (rightAt s work (i + 4)) (rightWork s work i) (message-work s work i h) (right-work s work i h) (goes .works i h))
+
+  right-last : (i : ℕ) → i ≡ s .count → RightHere (i + 4) (at (suc (suc (suc i)))) (at (suc (suc (suc (suc i)))))
+  right-last i e =
+      rw (at-working i (omega (arith, e)), at-end (suc i) (omega (arith, e)), e)
+      (right-leaving s work b (g (s .count)) (goes .fewer) (goes .good (s .count) (omega arith)) mode (s .count + 4) (working s a (g 0) mode b (goes .enters)) (omega arith))
+
+  pub right-at : (k : ℕ) → k < s .count + 4 → RightHere (k + 1) (at k) (at (suc k))
+  right-at zero h = unfold stage in (right-call s work a (g 0) (goes .few) (goes .good 0 (omega arith)) (goes .ours))
+  right-at (suc zero) h = unfold stage in (right-confirm s work a (g 0) (goes .few) (goes .good 0 (omega arith)))
+  right-at (suc (suc zero)) h =
+      rw (at-working 0 (omega arith)) (unfold stage in (right-enter s work a (g 0) (goes .few) (goes .good 0 (omega arith)) mode b (goes .enters)))
+  right-at (suc (suc (suc i))) h =
+      subst (λ (n : ℕ). RightHere n (at (suc (suc (suc i)))) (at (suc (suc (suc (suc i)))))) {x = i + 4} {y = suc (suc (suc i)) + 1} (omega arith)
+      (⊎-elim (λ l. right-last i (omega arith)) (λ l. right-working i l) (le-or-lt (s .count) i))
+
+  module _ (rooms : ℕ → ℕ → ℕ) (large : (k i : ℕ) → replyRoom ≤ rooms k i) (buffers : ℕ → ℕ) (long : (k : ℕ) → 64 ≤ buffers k) where
+    abbrev talk : ℕ → Talk
+    talk = converse rooms buffers work (record { turn = asking s work 1; meter = at 0 })
+
+    -- what the exchange after so many comes to
+    exchanged : (k : ℕ) → k < s .count + 4 → talk k ≡ record { turn = asking s work (k + 1); meter = at k }
+        → talk (suc k) ≡ record { turn = answeredRight (standing s (k + 1) 0) work; meter = at (suc k) }
+    unfolding converse
+    exchanged k h e =
+        ap (exchange (rooms k) (buffers k) work) e
+        ∙ exchange-right s work (goes .sound) (rooms k) (large k) (buffers k) (long k) (k + 1) (omega arith) (omega arith) (at k) (at (suc k)) (right-at k h)
+
+    -- it goes on at each
+    pub talks : (k : ℕ) → k < s .count + 4 → talk k ≡ record { turn = asking s work (k + 1); meter = at k }
+    talks zero h = unfold converse in refl
+    talks (suc k) h =
+        let e : k + 1 + 1 ≡ suc k + 1 = omega arith in
+        exchanged k (omega arith) (talks k (omega arith))
+        ∙ ap (λ (u : Turn). record { turn = u; meter = at (suc k) })
+        (goes-on s work (goes .sound) (k + 1) (omega arith) (rw e (right-at (suc k) h .good)) ∙ ap (asking s work) e)
+
+    -- and is done after the last
+    pub talked : talk (s .count + 4) ≡ record { turn = stopped s (s .count + 4) 1; meter = idle 0 b 0 (g (s .count)) }
+    talked =
+        let k = s .count + 3 in
+        let e : s .count + 4 ≡ suc k = omega arith in
+        let n : k + 1 ≡ s .count + 4 = omega arith in
+        ap talk e
+        ∙ exchanged k (omega arith) (talks k (omega arith))
+        ∙ ap₂ (λ (u : Turn) (m : Meter). record { turn = u; meter = m }) (is-done s work (goes .sound) (k + 1) n ∙ ap (λ (i : ℕ). stopped s i 1) n)
+        (ap at {x = suc k} {y = suc (suc (suc (suc (s .count))))} (omega arith) ∙ at-end (suc (s .count)) (omega arith))
