@@ -137,6 +137,40 @@ module _ (s : Session) (work : List ℕ) (a : ℕ) (g : Registers) (few : a ≤ 
       leaves i h k l =
           acknowledged leave (idle i a 5 g) (idle 0 a 0 g) 5 (unfold goodMessage in refl) (idle-listens i a 5 g leave (fit-here i 5 h k) l) (unfold outcomeOf in refl)
 
+-- ---- some messages, one after the other
+
+abbrev pub RightHere : Session → List ℕ → ℕ → Meter → Meter → Type 0
+RightHere s work n m next = Right (messageAt s work n) m next (rightAt s work n)
+
+-- all but the message after the last are answered right, and that one can be built
+module _ (s : Session) (work : List ℕ) (sound : Sound s) (at : ℕ → Meter) (last : ℕ) (within : last < s .count + 4)
+    (rights : (k : ℕ) → k < last → RightHere s work (k + 1) (at k) (at (suc k))) (built : goodMessage editionTables (messageAt s work (last + 1)) ≡ true)
+    (rooms : ℕ → ℕ → ℕ) (large : (k i : ℕ) → replyRoom ≤ rooms k i) (buffers : ℕ → ℕ) (long : (k : ℕ) → 64 ≤ buffers k) where
+  abbrev pub talk : ℕ → Talk
+  talk = converse rooms buffers work (record { turn = asking s work 1; meter = at 0 })
+
+  builds : (k : ℕ) → suc k ≤ last → goodMessage editionTables (messageAt s work (k + 1 + 1)) ≡ true
+  builds k h =
+      ⊎-elim (λ l. subst (λ (i : ℕ). goodMessage editionTables (messageAt s work i) ≡ true) {x = last + 1} {y = k + 1 + 1} (omega arith) built)
+      (λ l. subst (λ (i : ℕ). goodMessage editionTables (messageAt s work i) ≡ true) {x = suc k + 1} {y = k + 1 + 1} (omega arith) (rights (suc k) l .good))
+      (le-or-lt last (suc k))
+
+  -- it goes on at each
+  pub talks : (k : ℕ) → k ≤ last → talk k ≡ record { turn = asking s work (k + 1); meter = at k }
+  unfolding converse
+  talks zero h = refl
+  talks (suc k) h =
+      ap (exchange (rooms k) (buffers k) work) (talks k (omega arith))
+      ∙ exchange-right s work sound (rooms k) (large k) (buffers k) (long k) (k + 1) (omega arith) (omega arith) (at k) (at (suc k)) (rights k h)
+      ∙ ap (λ (u : Turn). record { turn = u; meter = at (suc k) })
+      (goes-on s work sound (k + 1) (omega arith) (builds k h) ∙ ap (asking s work) {x = k + 1 + 1} {y = suc k + 1} (omega arith))
+
+  -- and what the exchange after the last comes to
+  pub talk-last : (u : Turn) (next : Meter) → exchange (rooms last) (buffers last) work (record { turn = asking s work (last + 1); meter = at last }) ≡ record { turn = u; meter = next }
+      → talk (suc last) ≡ record { turn = u; meter = next }
+  unfolding converse
+  talk-last u next e = ap (exchange (rooms last) (buffers last) work) (talks last (omega arith)) ∙ e
+
 -- ---- all of it
 
 -- the meter before each message, by how many exchanges there were: g i are its registers after i messages of work
@@ -168,56 +202,44 @@ module _ (s : Session) (work : List ℕ) (a mode b : ℕ) (g : ℕ → Registers
   unfolding stage
   at-end i h = rw (lt-leb i (s .count) h)
 
-  abbrev RightHere : ℕ → Meter → Meter → Type 0
-  RightHere n m next = Right (messageAt s work n) m next (rightAt s work n)
-
-  right-working : (i : ℕ) → i < s .count → RightHere (i + 4) (at (suc (suc (suc i)))) (at (suc (suc (suc (suc i)))))
+  right-working : (i : ℕ) → i < s .count → RightHere s work (i + 4) (at (suc (suc (suc i)))) (at (suc (suc (suc (suc i)))))
   right-working i h =
       rw (at-working i (omega arith), at-working (suc i) h)
       (renamed (command (workAt s work i)) (messageAt s work (i + 4)) _ _ (rightAt s work (i + 4)) (rightWork s work i) (message-work s work i h) (right-work s work i h) (goes .works i h))
 
-  right-last : (i : ℕ) → i ≡ s .count → RightHere (i + 4) (at (suc (suc (suc i)))) (at (suc (suc (suc (suc i)))))
+  right-last : (i : ℕ) → i ≡ s .count → RightHere s work (i + 4) (at (suc (suc (suc i)))) (at (suc (suc (suc (suc i)))))
   right-last i e =
       rw (at-working i (omega (arith, e)), at-end (suc i) (omega (arith, e)), e)
       (right-leaving s work b (g (s .count)) (goes .fewer) (goes .good (s .count) (omega arith)) mode (s .count + 4) (working s a (g 0) mode b (goes .enters)) (omega arith))
 
-  pub right-at : (k : ℕ) → k < s .count + 4 → RightHere (k + 1) (at k) (at (suc k))
+  pub right-at : (k : ℕ) → k < s .count + 4 → RightHere s work (k + 1) (at k) (at (suc k))
   right-at zero h = unfold stage in (right-call s work a (g 0) (goes .few) (goes .good 0 (omega arith)) (goes .ours))
   right-at (suc zero) h = unfold stage in (right-confirm s work a (g 0) (goes .few) (goes .good 0 (omega arith)))
   right-at (suc (suc zero)) h =
       rw (at-working 0 (omega arith)) (unfold stage in (right-enter s work a (g 0) (goes .few) (goes .good 0 (omega arith)) mode b (goes .enters)))
   right-at (suc (suc (suc i))) h =
-      subst (λ (n : ℕ). RightHere n (at (suc (suc (suc i)))) (at (suc (suc (suc (suc i)))))) {x = i + 4} {y = suc (suc (suc i)) + 1} (omega arith)
+      subst (λ (n : ℕ). RightHere s work n (at (suc (suc (suc i)))) (at (suc (suc (suc (suc i)))))) {x = i + 4} {y = suc (suc (suc i)) + 1} (omega arith)
       (⊎-elim (λ l. right-last i (omega arith)) (λ l. right-working i l) (le-or-lt (s .count) i))
 
   module _ (rooms : ℕ → ℕ → ℕ) (large : (k i : ℕ) → replyRoom ≤ rooms k i) (buffers : ℕ → ℕ) (long : (k : ℕ) → 64 ≤ buffers k) where
-    abbrev talk : ℕ → Talk
-    talk = converse rooms buffers work (record { turn = asking s work 1; meter = at 0 })
+    abbrev pub course : ℕ → Talk
+    course = converse rooms buffers work (record { turn = asking s work 1; meter = at 0 })
 
-    -- what the exchange after so many comes to
-    exchanged : (k : ℕ) → k < s .count + 4 → talk k ≡ record { turn = asking s work (k + 1); meter = at k }
-        → talk (suc k) ≡ record { turn = answeredRight (standing s (k + 1) 0) work; meter = at (suc k) }
-    unfolding converse
-    exchanged k h e =
-        ap (exchange (rooms k) (buffers k) work) e
-        ∙ exchange-right s work (goes .sound) (rooms k) (large k) (buffers k) (long k) (k + 1) (omega arith) (omega arith) (at k) (at (suc k)) (right-at k h)
+    rights : (k : ℕ) → k < s .count + 3 → RightHere s work (k + 1) (at k) (at (suc k))
+    rights k h = right-at k (omega arith)
 
-    -- it goes on at each
-    pub talks : (k : ℕ) → k < s .count + 4 → talk k ≡ record { turn = asking s work (k + 1); meter = at k }
-    talks zero h = unfold converse in refl
-    talks (suc k) h =
-        let e : k + 1 + 1 ≡ suc k + 1 = omega arith in
-        exchanged k (omega arith) (talks k (omega arith))
-        ∙ ap (λ (u : Turn). record { turn = u; meter = at (suc k) })
-        (goes-on s work (goes .sound) (k + 1) (omega arith) (rw e (right-at (suc k) h .good)) ∙ ap (asking s work) e)
+    pub courses : (k : ℕ) → k < s .count + 4 → course k ≡ record { turn = asking s work (k + 1); meter = at k }
+    courses k h =
+        talks s work (goes .sound) at (s .count + 3) (omega arith) rights (right-at (s .count + 3) (omega arith) .good) rooms large buffers long k (omega arith)
 
-    -- and is done after the last
-    pub talked : talk (s .count + 4) ≡ record { turn = stopped s (s .count + 4) 1; meter = idle 0 b 0 (g (s .count)) }
-    talked =
+    -- done after the last, and the meter listens again
+    pub course-ends : course (s .count + 4) ≡ record { turn = stopped s (s .count + 4) 1; meter = idle 0 b 0 (g (s .count)) }
+    course-ends =
         let k = s .count + 3 in
-        let e : s .count + 4 ≡ suc k = omega arith in
         let n : k + 1 ≡ s .count + 4 = omega arith in
-        ap talk e
-        ∙ exchanged k (omega arith) (talks k (omega arith))
+        let last = right-at k (omega arith) in
+        ap course {x = s .count + 4} {y = suc k} (omega arith)
+        ∙ talk-last s work (goes .sound) at k (omega arith) rights (last .good) rooms large buffers long (answeredRight (standing s (k + 1) 0) work) (at (suc k))
+        (exchange-right s work (goes .sound) (rooms k) (large k) (buffers k) (long k) (k + 1) (omega arith) (omega arith) (at k) (at (suc k)) last)
         ∙ ap₂ (λ (u : Turn) (m : Meter). record { turn = u; meter = m }) (is-done s work (goes .sound) (k + 1) n ∙ ap (λ (i : ℕ). stopped s i 1) n)
         (ap at {x = suc k} {y = suc (suc (suc (suc (s .count))))} (omega arith) ∙ at-end (suc (s .count)) (omega arith))
