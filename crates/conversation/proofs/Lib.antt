@@ -2,3 +2,4 @@ pub mod Right
 pub mod Telling
 pub mod Exchange
 pub mod Course
+pub mod Started
