@@ -194,7 +194,7 @@ module _ (s : Session) (work : List ℕ) (a mode b : ℕ) (g : ℕ → Registers
   abbrev at : ℕ → Meter
   at = stage (s .count) a mode b g
 
-  at-working : (i : ℕ) → i ≤ s .count → at (suc (suc (suc i))) ≡ idle mode b 5 (g i)
+  pub at-working : (i : ℕ) → i ≤ s .count → at (suc (suc (suc i))) ≡ idle mode b 5 (g i)
   unfolding stage
   at-working i h = rw (le-leb i (s .count) h)
 

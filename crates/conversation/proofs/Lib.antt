@@ -3,3 +3,5 @@ pub mod Telling
 pub mod Exchange
 pub mod Course
 pub mod Started
+pub mod Done
+pub mod Readings

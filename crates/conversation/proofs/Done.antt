@@ -1,0 +1,144 @@
+-- A session that goes well with a meter that waits: done after as many exchanges as there are messages of work and four more. Assumes nothing.
+use mathlib.Core.Path.{_≡_, refl, sym, ap, ap₂, subst, _∙_}
+use mathlib.Core.Bool.{Bool, true, false, cond, _||_}
+use mathlib.Core.List.{List}
+use Prim.Native.Nat.{ℕ, suc, _+_, _*_, _/_, _≤_, _<_}
+use native.Mathlib.Omega.{arith}
+use borrow.Author.Tests.{eq-eqb, ne-eqb}
+use lib.Dec.{eqb, lit≤}
+use lib.ListN.{length, getD, replicate}
+use Rattle.line.specs.Quoted.{char}
+use Rattle.text.specs.Classes.{sameText}
+use Rattle.text.proofs.Matching.{same-self}
+use Rattle.values.specs.Edition.{editionTables}
+use Rattle.values.specs.Registers.{goodSerial, goodPassword}
+use Rattle.frames.specs.Frames.{blockOf, onWire}
+use Rattle.state.specs.declared.Registers.{Registers}
+use Rattle.state.specs.declared.Meter.{Meter}
+use Rattle.state.specs.WellFormed.{speedGood, registersGood}
+use Rattle.state.specs.Setting.{withAttempts}
+use Rattle.state.proofs.Parts.{formed, slow-low}
+use Rattle.replies.specs.Answers.{askedData}
+use Rattle.meter.specs.Outcomes.{Outcome}
+use Rattle.commands.specs.Spoken.{goodFields}
+use Rattle.commands.specs.Messages.{Message, command, textOf, goodMessage}
+use Rattle.judging.specs.Right.{tells}
+use Rattle.session.specs.declared.Session.{Session}
+use Rattle.session.specs.Messages.{readOf, readAt, workAt, messageAt}
+use Rattle.session.specs.Starting.{Told, Opening, Opens, sessionOf}
+use Rattle.session.specs.Standing.{toldGood}
+use Rattle.session.specs.Turns.{Turn, rightRead, rightWork}
+use Rattle.session.proofs.Laws.{told-is}
+use Rattle.dialogue.specs.Messages.{allowedIn, obeyed, outcomeOf}
+use Rattle.dialogue.proofs.Held.{Fit, idle, idle-is, idle-formed}
+use Rattle.dialogue.proofs.Dialogue.{idle-listens}
+use Rattle.readback.proofs.Blocks.{block-long}
+use Rattle.recital.proofs.Recital.{answer-block-reads-back}
+use Rattle.conversation.specs.Conversation.{Talk, begun, replyTo, converse, asking, stopped}
+use Rattle.conversation.specs.Ends.{Waits, Calls, anyone, by-serial, by-zeros, Enters, plainly, by-password, attemptsAfter, Roomy, StopsAfter, talkOf, saidAfter, Stops, ReadBack, ReadsDone}
+use Rattle.conversation.proofs.Right.{block-is-no-nak}
+use Rattle.conversation.proofs.Telling.{Answered, read-answered, read-right}
+use Rattle.conversation.proofs.Exchange.{Right, Sound, message-work, reply-is}
+use Rattle.conversation.proofs.Course.{Ours, anyone as ours-any, this, Enters as EntersAs, plainly as enters-plainly, knowing, working, renamed, stage, Goes, at-working, right-at, courses, course-ends}
+use Rattle.conversation.proofs.Started.{Began, sound, begins, ReadsBegan, reads-began}
+
+-- ---- the meter that waits
+
+pub waits-is : (m : Meter) → Waits m → m ≡ idle 0 (m .attempts) 0 (m .registers)
+waits-is m w =
+    let f = formed m (w .formed) in
+    let slow : m .speed ≡ 0 = slow-low (m .mode) (m .speed) (omega (arith, w .listening)) (f .speed) in
+    idle-is m (w .formed) (w .empty) ∙ ap₂ (λ (mode speed : ℕ). idle mode (m .attempts) speed (m .registers)) (w .listening) slow
+
+pub waiting : (a : ℕ) (g : Registers) → a ≤ 3 → registersGood g ≡ true → Waits (idle 0 a 0 g)
+waiting a g few good =
+    record {
+      formed = idle-formed 0 a 0 g (record { known = lit≤ tt; attempts = few; speed = unfold speedGood in refl; registers = good });
+      listening = refl;
+      empty = refl;
+    }
+
+-- ---- whom it calls, and how it enters
+
+either-true : (a b : Bool) → b ≡ true → (a || b) ≡ true
+either-true true b h = refl
+either-true false b h = h
+
+module _ (t : Told) (count : ℕ) (o : Opening) (b : Began t count o) where
+  pub ours : (m : Meter) → Calls t m → Ours (sessionOf t count) (m .registers)
+  unfolding sessionOf
+  ours m (anyone h) = ours-any (rw h)
+  ours m (by-serial h e) =
+      this (rw h) (rw h (told-is (t .named) (goodSerial (t .serial)) (b .named) h)) (rw h (rw (e, same-self (m .registers .facts .serial))))
+  ours m (by-zeros h e) =
+      this (rw h) (rw h (told-is (t .named) (goodSerial (t .serial)) (b .named) h))
+      (rw h (either-true (sameText (t .serial) (m .registers .facts .serial)) _ (rw e (same-self (replicate 10 48)))))
+
+  -- the mode and the attempts that an entry leads to
+  pub record Entered (m : Meter) : Type 0 where
+    pub mode : ℕ
+    pub attempts : ℕ
+    pub as-said : EntersAs (sessionOf t count) (m .attempts) (m .registers) mode attempts
+    pub after : attemptsAfter t m ≡ attempts
+
+  pub entered : (m : Meter) → Enters t m → Entered m
+  unfolding sessionOf attemptsAfter
+  entered m (plainly h) = record { mode = 3; attempts = m .attempts; as-said = enters-plainly (rw h); after = rw h }
+  entered m (by-password h e few) =
+      record {
+        mode = 4;
+        attempts = 0;
+        as-said = knowing (rw h) (rw h (told-is (t .access) (goodPassword (t .password)) (b .access) h)) (rw h e) few;
+        after = rw h;
+      }
+
+pub few-after : (s : Session) (a : ℕ) (g : Registers) (mode b : ℕ) → a ≤ 3 → EntersAs s a g mode b → b ≤ 3
+few-after s a g mode b few (enters-plainly h) = few
+few-after s a g mode b few (knowing h p k l) = lit≤ tt
+
+pub known-mode : (s : Session) (a : ℕ) (g : Registers) (mode b : ℕ) → EntersAs s a g mode b → (mode ≤ 4) × (speedGood mode 5 ≡ true)
+unfolding speedGood
+known-mode s a g mode b (enters-plainly h) = (lit≤ tt, refl)
+known-mode s a g mode b (knowing h p k l) = (lit≤ tt, refl)
+
+-- ---- the whole
+
+module _ (t : Told) (work : List ℕ) (o : Opening) (count : ℕ) (began : Began t count o) (a mode b : ℕ) (g : ℕ → Registers)
+    (goes : Goes (sessionOf t count) work a mode b g) (rooms : ℕ → ℕ → ℕ) (buffers : ℕ → ℕ) (roomy : Roomy rooms buffers) where
+  abbrev s : Session
+  s = sessionOf t count
+
+  counted : s .count ≡ count
+  unfolding sessionOf
+  counted = refl
+
+  abbrev talk : ℕ → Talk
+  talk = talkOf t work o (idle 0 a 0 (g 0)) rooms buffers
+
+  abbrev from : ℕ → Talk
+  from = converse rooms buffers work (record { turn = asking s work 1; meter = stage (s .count) a mode b g 0 })
+
+  from-start : (k : ℕ) → talk k ≡ from k
+  unfolding stage
+  from-start k = ap (λ (x : Talk). converse rooms buffers work x k) (begins t count o began work (idle 0 a 0 (g 0)))
+
+  -- where it stands after some of the exchanges, and after all
+  pub stands-at : (k : ℕ) → k < count + 4 → talk k ≡ record { turn = asking s work (k + 1); meter = stage (s .count) a mode b g k }
+  stands-at k h = from-start k ∙ courses s work a mode b g goes rooms (roomy .replies) buffers (roomy .messages) k (omega (arith, counted))
+
+  ends-so : talk (count + 4) ≡ record { turn = stopped s (count + 4) 1; meter = idle 0 b 0 (g count) }
+  ends-so =
+      from-start (count + 4)
+      ∙ ap from {x = count + 4} {y = s .count + 4} (omega (arith, counted))
+      ∙ course-ends s work a mode b g goes rooms (roomy .replies) buffers (roomy .messages)
+      ∙ ap (λ (n : ℕ). record { turn = stopped s (n + 4) 1; meter = idle 0 b 0 (g n) }) counted
+
+  pub all-done : Stops t work o (idle 0 a 0 (g 0)) rooms buffers (count + 4) 1 (idle 0 b 0 (g count))
+  all-done =
+      subst (λ (x : Session). StopsAfter x work talk (count + 4) 1 (idle 0 b 0 (g count))) (sym (ap (λ (x : Opening). x .session) (began .is)))
+      (record {
+        going = λ k h. ap (λ (x : Talk). x .turn) (stands-at k h);
+        stops = ap (λ (x : Talk). x .turn) ends-so;
+        meter = ap (λ (x : Talk). x .meter) ends-so;
+        waits = waiting b (g count) (goes .fewer) (goes .good count (omega (arith, counted)));
+      })
