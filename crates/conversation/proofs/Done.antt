@@ -81,16 +81,14 @@ module _ (t : Told) (count : ℕ) (o : Opening) (b : Began t count o) where
     pub as-said : EntersAs (sessionOf t count) (m .attempts) (m .registers) mode attempts
     pub after : attemptsAfter t m ≡ attempts
 
+  pub knows : (m : Meter) → t .access ≡ 1 → t .password ≡ m .registers .facts .password → m .attempts < 3 → EntersAs (sessionOf t count) (m .attempts) (m .registers) 4 0
+  unfolding sessionOf
+  knows m h e few = knowing (rw h) (rw h (told-is (t .access) (goodPassword (t .password)) (b .access) h)) (rw h e) few
+
   pub entered : (m : Meter) → Enters t m → Entered m
   unfolding sessionOf attemptsAfter
   entered m (plainly h) = record { mode = 3; attempts = m .attempts; as-said = enters-plainly (rw h); after = rw h }
-  entered m (by-password h e few) =
-      record {
-        mode = 4;
-        attempts = 0;
-        as-said = knowing (rw h) (rw h (told-is (t .access) (goodPassword (t .password)) (b .access) h)) (rw h e) few;
-        after = rw h;
-      }
+  entered m (by-password h e few) = record { mode = 4; attempts = 0; as-said = knows m h e few; after = rw h }
 
 pub few-after : (s : Session) (a : ℕ) (g : Registers) (mode b : ℕ) → a ≤ 3 → EntersAs s a g mode b → b ≤ 3
 few-after s a g mode b few (enters-plainly h) = few

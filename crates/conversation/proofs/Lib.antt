@@ -5,3 +5,4 @@ pub mod Course
 pub mod Started
 pub mod Done
 pub mod Readings
+pub mod Posting
