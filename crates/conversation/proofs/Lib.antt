@@ -6,3 +6,4 @@ pub mod Started
 pub mod Done
 pub mod Readings
 pub mod Posting
+pub mod Stopping

@@ -187,3 +187,19 @@ post-began t work room o (reads h k e) one kind = absurd (omega (arith, k, kind)
 post-began t work room o (posts h k p) one kind =
     subst (PostBegan t work) (sym (p .opens)) (post-opened t work kind (p .is-post) (sym (ap (λ (x : Opening). x .number) (p .opens)) ∙ one))
 post-began t work room o (others h k p) one kind = absurd (omega (arith, sym (ap (λ (x : Opening). x .number) (p .refused)) ∙ one))
+
+-- ---- either
+
+pub record SomeBegan (t : Told) (o : Opening) : Type 0 where
+  pub count : ℕ
+  pub began : Began t count o
+
+pub some-began : (t : Told) (work : List ℕ) (room : ℕ) (o : Opening) → Opens t work room o → o .number ≡ 1 → SomeBegan t o
+some-began t work room o (small h e) one = absurd (omega (arith, sym (ap (λ (x : Opening). x .number) e) ∙ one))
+some-began t work room o (nothing h a b e) one = absurd (omega (arith, sym (ap (λ (x : Opening). x .number) e) ∙ one))
+some-began t work room o (reads h k e) one =
+    record { count = length work / 2; began = reads-began t work room o (reads h k e) one k .began }
+some-began t work room o (posts h k p) one =
+    let q = post-began t work room o (posts h k p) one k in
+    record { count = length (q .is-post .entries); began = q .began }
+some-began t work room o (others h k p) one = absurd (omega (arith, sym (ap (λ (x : Opening). x .number) (p .refused)) ∙ one))
