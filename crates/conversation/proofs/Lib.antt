@@ -7,3 +7,4 @@ pub mod Done
 pub mod Readings
 pub mod Posting
 pub mod Stopping
+pub mod Spoilt
