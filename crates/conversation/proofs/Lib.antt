@@ -8,3 +8,4 @@ pub mod Readings
 pub mod Posting
 pub mod Stopping
 pub mod Spoilt
+pub mod Damage
