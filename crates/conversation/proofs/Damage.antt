@@ -1,7 +1,7 @@
 -- One damaged byte in a message: the meter keeps its registers, and says nothing or NAK at the last byte. Assumes nothing.
 use mathlib.Core.Path.{_≡_, refl, sym, ap, ap₂, subst, _∙_}
 use mathlib.Core.Logic.{_⊎_, inl, inr, ⊎-elim}
-use mathlib.Core.Bool.{Bool, true, false, cond, not, _&&_, _||_}
+use mathlib.Core.Bool.{Bool, true, false, cond, not, _&&_, _||_, and-false}
 use mathlib.Core.List.{List, [], _∷_, _++_, map}
 use Prim.Native.Nat.{ℕ, zero, suc, _+_, _-_, _≤_, _<_}
 use native.Mathlib.Omega.{arith}
@@ -207,3 +207,96 @@ last-join : (xs ys : List Said) (r : List ℕ) → lastReply r (xs ++ ys) ≡ la
 unfolding lastReply
 last-join [] ys r = refl
 last-join (x ∷ xs) ys r = last-join xs ys (x .reply)
+
+stray-zero : (mode : ℕ) → stray mode 0 ≡ false
+unfolding stray
+stray-zero mode = rw (and-false (leb 2 mode), and-false (leb mode 2))
+
+-- behind a damaged byte
+module _ (m : Meter) (f : wellFormed m ≡ true) (b : ℕ) (d : damagedAt b ≡ true) where
+  abbrev hurt : Outcome
+  hurt = character m replyRoom b
+
+  hurt-quiet : Quiet m (symbol b) hurt
+  hurt-quiet = damaged-quiet m f b d
+
+  is-zero : symbol b ≡ 0
+  unfolding symbol
+  is-zero = rw d
+
+  hurt-spoilt : Spoilt (hurt .next)
+  hurt-spoilt = hurt-quiet .spoilt (ap (stray (m .mode)) is-zero ∙ stray-zero (m .mode))
+
+  hurt-spared : (text : List ℕ) (s : Shape (m .mode) text) (j : ℕ) → Spared m (b ∷ drop (suc j) (onWire text))
+  hurt-spared text s j =
+      spared-next m b (symbol b) (drop (suc j) (onWire text)) hurt-quiet
+      (subst (Spared (hurt .next)) (sym (ap (λ (t : List ℕ). drop (suc j) (onWire t)) (s .is) ∙ drop-sent j (s .inside ++ (s .last ∷ []))))
+      (⊎-elim inner outer (le-or-lt j (length (s .inside)))))
+    where
+      inner : j ≤ length (s .inside) → Spared (hurt .next) (onWire (drop j (s .inside ++ (s .last ∷ []))))
+      inner h =
+          subst (λ (t : List ℕ). Spared (hurt .next) (onWire t)) (sym (drop-append-le j (s .inside) (s .last ∷ []) h))
+          (rest-spared (drop j (s .inside)) (s .last) (hurt .next) (character-stays m f replyRoom b) hurt-spoilt
+          (every-weaker (calm (m .mode)) (calm (hurt .next .mode)) (λ x. calm-still (m .mode) (hurt .next .mode) x (hurt-quiet .modes x)) (drop j (s .inside))
+          (every-drop (calm (m .mode)) j (s .inside) (s .opens-none))))
+
+      outer : length (s .inside) < j → Spared (hurt .next) (onWire (drop j (s .inside ++ (s .last ∷ []))))
+      outer h =
+          subst (λ (t : List ℕ). Spared (hurt .next) (onWire t)) (sym (drop-of-length-le (s .inside ++ (s .last ∷ [])) {i = j} (omega (arith, length-append (s .inside) (s .last ∷ [])))))
+          (spared-none (hurt .next))
+
+-- the reply at the last of some bytes is that of the last
+same-last : (m : Meter) (b : ℕ) (bs r t : List ℕ) → lastReply r (answered m full (b ∷ bs)) ≡ lastReply t (answered m full (b ∷ bs))
+unfolding answered lastReply
+same-last m b bs r t = refl
+
+-- a message with one byte damaged
+pub record Unheeded (m : Meter) (rooms : ℕ → ℕ) (bytes : List ℕ) : Type 0 where
+  pub registers : left m rooms bytes .registers ≡ m .registers
+  pub reply : (replyTo m rooms bytes ≡ []) ⊎ (replyTo m rooms bytes ≡ refused)
+
+module _ (m : Meter) (x : Message) (good : goodMessage editionTables x ≡ true) (l : Listens m x) (s : Shape (m .mode) (textOf x))
+    (j b : ℕ) (there : j < length (textOf x)) (d : damagedAt b ≡ true) where
+  abbrev wire : List ℕ
+  wire = onWire (textOf x)
+
+  abbrev pre : List ℕ
+  pre = take j wire
+
+  abbrev mid : Meter
+  mid = left m full pre
+
+  wire-long : length wire ≡ length (textOf x)
+  wire-long = length-map (textOf x) sent
+
+  before : Before m mid
+  before =
+      still-before pre (drop j wire) m (length wire - 1) (m .speed) (saidIn (outcomeOf m x)) (l .formed)
+      (ap (answered m full) (take-append-drop j wire) ∙ message-taken m x good l .said full (λ i. omega arith))
+      (omega (arith, wire-long, length-take-le j wire (omega (arith, wire-long))))
+
+  after : Spared mid (b ∷ drop (suc j) wire)
+  after = hurt-spared mid (before .formed) b d (textOf x) (subst (λ (mode : ℕ). Shape mode (textOf x)) (sym (before .mode)) s) j
+
+  abbrev bytes : List ℕ
+  bytes = pre ++ (b ∷ drop (suc j) wire)
+
+  fed : Fed m bytes (answered m full pre ++ answered mid full (b ∷ drop (suc j) wire)) (left mid full (b ∷ drop (suc j) wire))
+  fed =
+      fed-append m pre (b ∷ drop (suc j) wire) (answered m full pre) (answered mid full (b ∷ drop (suc j) wire)) mid (left mid full (b ∷ drop (suc j) wire))
+      (record { said-is = refl; after-is = refl }) (record { said-is = refl; after-is = refl })
+
+  pub unheeded : (rooms : ℕ → ℕ) → ((i : ℕ) → replyRoom ≤ rooms i) → Unheeded m rooms (set wire j b)
+  unfolding replyTo
+  unheeded rooms large =
+      let rest = b ∷ drop (suc j) wire in
+      let both = fed-in m rooms bytes _ _ large fed in
+      let said : lastReply [] (answered m rooms bytes) ≡ lastReply [] (answered mid full rest) =
+      ap (lastReply []) (both .0)
+      ∙ last-join (answered m full pre) (answered mid full rest) []
+      ∙ same-last mid b (drop (suc j) wire) (lastReply [] (answered m full pre)) [] in
+      subst (Unheeded m rooms) (sym (set-split wire j b (omega (arith, wire-long))))
+      (record {
+        registers = ap (λ (n : Meter). n .registers) (both .1) ∙ after .registers ∙ before .registers;
+        reply = ⊎-elim (λ e. inl (said ∙ e)) (λ e. inr (said ∙ e)) (after .reply [] (inl refl));
+      })

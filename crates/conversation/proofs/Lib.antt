@@ -9,3 +9,4 @@ pub mod Posting
 pub mod Stopping
 pub mod Spoilt
 pub mod Damage
+pub mod Shapes
