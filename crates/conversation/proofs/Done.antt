@@ -26,10 +26,10 @@ use Rattle.judging.specs.Right.{tells}
 use Rattle.session.specs.declared.Session.{Session}
 use Rattle.session.specs.Messages.{readOf, readAt, workAt, messageAt}
 use Rattle.session.specs.Starting.{Told, Opening, Opens, sessionOf}
-use Rattle.session.specs.Standing.{toldGood}
+use Rattle.session.specs.Standing.{toldGood, factGood}
 use Rattle.session.specs.Turns.{Turn, rightRead, rightWork}
 use Rattle.session.proofs.Laws.{told-is}
-use Rattle.dialogue.specs.Messages.{allowedIn, obeyed, outcomeOf}
+use Rattle.dialogue.specs.Messages.{Listens}
 use Rattle.dialogue.proofs.Held.{Fit, idle, idle-is, idle-formed}
 use Rattle.dialogue.proofs.Dialogue.{idle-listens}
 use Rattle.readback.proofs.Blocks.{block-long}
@@ -38,7 +38,7 @@ use Rattle.conversation.specs.Conversation.{Talk, begun, replyTo, conver
 use Rattle.conversation.specs.Ends.{Waits, Calls, anyone, by-serial, by-zeros, Enters, plainly, by-password, attemptsAfter, Roomy, StopsAfter, talkOf, saidAfter, Stops, ReadBack, ReadsDone}
 use Rattle.conversation.proofs.Right.{block-is-no-nak}
 use Rattle.conversation.proofs.Telling.{Answered, read-answered, read-right}
-use Rattle.conversation.proofs.Exchange.{Right, Sound, message-work, reply-is}
+use Rattle.conversation.proofs.Exchange.{Right, Sound, Ended, stays-long}
 use Rattle.conversation.proofs.Course.{Ours, anyone as ours-any, this, Enters as EntersAs, plainly as enters-plainly, knowing, working, renamed, stage, Goes, at-working, right-at, courses, course-ends}
 use Rattle.conversation.proofs.Started.{Began, sound, begins, ReadsBegan, reads-began}
 
@@ -131,12 +131,29 @@ module _ (t : Told) (work : List ℕ) (o : Opening) (count : ℕ) (began : Began
       ∙ course-ends s work a mode b g goes rooms (roomy .replies) buffers (roomy .messages)
       ∙ ap (λ (n : ℕ). record { turn = stopped s (n + 4) 1; meter = idle 0 b 0 (g n) }) counted
 
+  ended : Ended s (count + 4) 1
+  unfolding factGood
+  ended =
+      record {
+        sound = sound t count o began;
+        low = omega arith;
+        high = omega (arith, counted);
+        some = λ e. omega arith;
+        known = eq-eqb (count + 4) (s .count + 4) (omega (arith, counted));
+      }
+
   pub all-done : Stops t work o (idle 0 a 0 (g 0)) rooms buffers (count + 4) 1 (idle 0 b 0 (g count))
   all-done =
       subst (λ (x : Session). StopsAfter x work talk (count + 4) 1 (idle 0 b 0 (g count))) (sym (ap (λ (x : Opening). x .session) (began .is)))
       (record {
+        within = omega (arith, counted);
         going = λ k h. ap (λ (x : Talk). x .turn) (stands-at k h);
+        built = λ k h. right-at s work a mode b g goes k (omega (arith, counted)) .good;
+        heard = λ k h.
+            subst (λ (x : Meter). Listens x (messageAt s work (k + 1))) (sym (ap (λ (x : Talk). x .meter) (stands-at k h)))
+            (right-at s work a mode b g goes k (omega (arith, counted)) .hears);
         stops = ap (λ (x : Talk). x .turn) ends-so;
         meter = ap (λ (x : Talk). x .meter) ends-so;
         waits = waiting b (g count) (goes .fewer) (goes .good count (omega (arith, counted)));
+        stays = stays-long s work (count + 4) 1 ended rooms buffers (begun o (idle 0 a 0 (g 0))) (idle 0 b 0 (g count)) ends-so;
       })

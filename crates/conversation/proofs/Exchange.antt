@@ -23,7 +23,7 @@ use Rattle.session.specs.Turns.{Turn, standing, rightWork, rightAt, answeredRig
 use Rattle.dialogue.specs.Feeding.{Said, saidIn, quiet, answered, left}
 use Rattle.dialogue.specs.Messages.{outcomeOf, Listens}
 use Rattle.dialogue.proofs.Dialogue.{message-taken}
-use Rattle.conversation.specs.Conversation.{Talk, lastReply, replyTo, heardAs, exchangeOf, exchange, asking, stopped}
+use Rattle.conversation.specs.Conversation.{Talk, lastReply, replyTo, heardAs, exchangeOf, exchange, converse, asking, stopped}
 use Rattle.conversation.proofs.Right.{ack-accepts, ack-is-no-nak, nak-refuses}
 
 -- ---- what a message comes to
@@ -147,3 +147,34 @@ module _ (s : Session) (work : List ℕ) (sound : Sound s) where
         exchange-is (r .good) (r .hears)
         ∙ ap₂ (λ (l : List ℕ) (y : Meter). record { turn = heardAs (standing s n 0) work (onWire l) room; meter = y }) (r .said) (r .after)
         ∙ ap (λ (u : Turn). record { turn = u; meter = next }) (heard-right n low high room long (r .reply) (r .some) (r .no-nak) (r .right))
+
+-- ---- once stopped
+
+-- a session that ended with a fact
+pub record Ended (s : Session) (n fact : ℕ) : Type 0 where
+  pub sound : Sound s
+  pub low : 1 ≤ n
+  pub high : n ≤ s .count + 4
+  pub some : fact ≡ 0 → ⊥
+  pub known : factGood (s .count) n fact ≡ true
+
+-- nothing is sent, and it says the same again
+pub stays : (s : Session) (work : List ℕ) (n fact : ℕ) → Ended s n fact → (rooms : ℕ → ℕ) (room : ℕ) (m : Meter)
+    → exchange rooms room work (record { turn = stopped s n fact; meter = m }) ≡ record { turn = stopped s n fact; meter = m }
+unfolding exchangeOf replyTo answered left lastReply heardAs silent sessionGood sessionTold placeGood
+stays s work n fact e rooms room m =
+    let k = e .sound in
+    rw (k .told, k .works, le-leb 1 (s .count) (k .some), le-leb (s .count) 32 (k .few), le-leb 1 n (e .low), le-leb n (s .count + 4) (e .high), e .known, ne-eqb fact 0 (e .some))
+
+module _ (s : Session) (work : List ℕ) (n fact : ℕ) (e : Ended s n fact) (rooms : ℕ → ℕ → ℕ) (buffers : ℕ → ℕ) (first : Talk) (m : Meter)
+    (here : converse rooms buffers work first n ≡ record { turn = stopped s n fact; meter = m }) where
+  stays-on : (i : ℕ) → converse rooms buffers work first (i + n) ≡ record { turn = stopped s n fact; meter = m }
+  unfolding converse
+  stays-on zero = ap (converse rooms buffers work first) {x = 0 + n} {y = n} (omega arith) ∙ here
+  stays-on (suc i) =
+      ap (converse rooms buffers work first) {x = suc i + n} {y = suc (i + n)} (omega arith)
+      ∙ ap (exchange (rooms (i + n)) (buffers (i + n)) work) (stays-on i)
+      ∙ stays s work n fact e (rooms (i + n)) (buffers (i + n)) m
+
+  pub stays-long : (k : ℕ) → n ≤ k → converse rooms buffers work first k ≡ converse rooms buffers work first n
+  stays-long k h = ap (converse rooms buffers work first) {x = k} {y = k - n + n} (omega arith) ∙ stays-on (k - n) ∙ sym here

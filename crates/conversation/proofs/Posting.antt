@@ -43,9 +43,9 @@ use Rattle.delivery.proofs.Rows.{tables-stay-good, others-kept, named-held}
 use Rattle.conversation.specs.Conversation.{Talk}
 use Rattle.conversation.specs.Ends.{Waits, Calls, Enters, plainly, by-password, Roomy, talkOf, Stops, PostDone}
 use Rattle.conversation.proofs.Exchange.{Right, acknowledged}
-use Rattle.conversation.proofs.Course.{Enters as EntersAs, knowing, renamed, Goes}
+use Rattle.conversation.proofs.Course.{Enters as EntersAs, knowing, renamed, stage, Goes, at-working}
 use Rattle.conversation.proofs.Started.{Began, sound, PostBegan, post-began}
-use Rattle.conversation.proofs.Done.{waits-is, ours, knows, all-done}
+use Rattle.conversation.proofs.Done.{waits-is, ours, knows, stands-at, all-done}
 
 -- ---- the lines of a post
 
@@ -209,6 +209,13 @@ module _ (t : Told) (work : List ℕ) (o : Opening) (p : PostBegan t work o) (ki
         subst (λ (l : List Entry). Stops t work o m rooms buffers (length es + 4) 1 (idle 0 0 0 (withTables g (rowsAfter (g .tables) l)))) (take-length es)
         (all-done t work o (length es) (p .began) a 4 0 with-lines goes rooms buffers roomy)
 
+    so-far : (i : ℕ) → i ≤ length es → talkOf t work o m rooms buffers (i + 3) .meter .registers ≡ with-lines i
+    unfolding rowsAfter
+    so-far i h =
+        ap (λ (x : Talk). x .meter .registers) (stands-at t work o (length es) (p .began) a 4 0 with-lines goes rooms buffers roomy (i + 3) (omega arith))
+        ∙ ap (λ (k : ℕ). stage (s .count) a 4 0 with-lines k .registers) {x = i + 3} {y = suc (suc (suc i))} (omega arith)
+        ∙ ap (λ (x : Meter). x .registers) (at-working s work a 4 0 with-lines goes i (omega (arith, counted)))
+
     post-so : length (g .tables) ≡ tables * rowLength → PostDone t work o m rooms buffers
     unfolding goodTable between
     post-so long =
@@ -217,6 +224,7 @@ module _ (t : Told) (work : List ℕ) (o : Opening) (p : PostBegan t work o) (ki
         record {
           is-post = p .is-post;
           done = stops;
+          so-far = so-far;
           named = λ e i. ap (λ (l : List ℕ). rowOf l (e .number)) rows ∙ named-held (g .tables) 0 es rise long e i;
           others = λ n h other. ap (λ (l : List ℕ). rowOf l n) rows ∙ others-kept (g .tables) 0 es rise n (leb-true 1 n (and-left (leb 1 n) (leb n tables) h)) other;
         }

@@ -1,5 +1,6 @@
 -- A session that does not go well: a wrong password and a spent one stop it with NAK at message 3, another meter's serial with silence at the sign-on. Assumes nothing.
 use mathlib.Core.Path.{_≡_, refl, sym, ap, ap₂, subst, _∙_}
+use mathlib.Core.Logic.{_⊎_, inl, inr, ⊎-elim}
 use mathlib.Core.Bool.{Bool, true, false, cond, _||_}
 use mathlib.Core.List.{List, []}
 use Prim.Native.Nat.{ℕ, zero, suc, _+_, _≤_, _<_}
@@ -10,6 +11,7 @@ use lib.ListN.{replicate}
 use Rattle.line.specs.Quoted.{char}
 use Rattle.text.specs.Classes.{sameText, matching}
 use Rattle.text.proofs.Matching.{same-is}
+use Rattle.text.proofs.Beginnings.{le-or-lt}
 use Rattle.values.specs.Edition.{editionTables}
 use Rattle.values.specs.Registers.{goodSerial, goodPassword}
 use Rattle.frames.specs.Frames.{onWire}
@@ -24,15 +26,16 @@ use Rattle.commands.specs.Spoken.{password, goodFields, lettersOf}
 use Rattle.commands.specs.Messages.{Message, callTo, command, goodMessage}
 use Rattle.session.specs.declared.Session.{Session}
 use Rattle.session.specs.Messages.{calling, entering, messageAt}
+use Rattle.session.specs.Standing.{factGood}
 use Rattle.session.specs.Starting.{Told, Opening, Opens, sessionOf}
 use Rattle.session.specs.Turns.{Turn, standing}
 use Rattle.session.proofs.Laws.{told-is}
 use Rattle.dialogue.specs.Messages.{allowedAt, allowedIn, triedWith, obeyed, outcomeOf, Listens}
 use Rattle.dialogue.proofs.Held.{Fit, idle}
 use Rattle.dialogue.proofs.Dialogue.{idle-listens}
-use Rattle.conversation.specs.Conversation.{Talk, heardAs, exchange, converse, asking, stopped}
+use Rattle.conversation.specs.Conversation.{Talk, begun, heardAs, exchange, converse, asking, stopped}
 use Rattle.conversation.specs.Ends.{Waits, Calls, Roomy, StopsAfter, talkOf, Stops}
-use Rattle.conversation.proofs.Exchange.{Sound, exchange-is, heard-nak, heard-nothing}
+use Rattle.conversation.proofs.Exchange.{Sound, Ended, exchange-is, heard-nak, heard-nothing, stays-long}
 use Rattle.conversation.proofs.Course.{Ours, RightHere, right-call, right-confirm, stage, talks, talk-last}
 use Rattle.conversation.proofs.Started.{Began, sound, begins, SomeBegan, some-began}
 use Rattle.conversation.proofs.Done.{waits-is, waiting, ours}
@@ -65,7 +68,8 @@ module _ (t : Told) (work : List ℕ) (o : Opening) (count : ℕ) (began : Began
   module _ (last : ℕ) (within : last ≤ 2) (rights : (k : ℕ) → k < last → RightHere s work (k + 1) (at k) (at (suc k)))
       (built : goodMessage editionTables (messageAt s work (last + 1)) ≡ true) (hears : Listens (at last) (messageAt s work (last + 1)))
       (reply : List ℕ) (fact b : ℕ) (fewer : b ≤ 3) (outcome : (outcomeOf (at last) (messageAt s work (last + 1)) .reply ≡ reply) × (outcomeOf (at last) (messageAt s work (last + 1)) .next ≡ idle 0 b 0 g))
-      (heard : (room : ℕ) → 64 ≤ room → heardAs (standing s (last + 1) 0) work (onWire reply) room ≡ stopped s (last + 1) fact) where
+      (other : (fact ≡ 2) ⊎ (fact ≡ 4))
+      (turned : (room : ℕ) → 64 ≤ room → heardAs (standing s (last + 1) 0) work (onWire reply) room ≡ stopped s (last + 1) fact) where
     talk-is : (k : ℕ) → talkOf t work o m rooms buffers k ≡ converse rooms buffers work (record { turn = asking s work 1; meter = at 0 }) k
     unfolding stage
     talk-is k = ap (λ (x : Talk). converse rooms buffers work x k) (begins t count o began work m)
@@ -76,18 +80,44 @@ module _ (t : Told) (work : List ℕ) (o : Opening) (count : ℕ) (began : Began
         ∙ talk-last s work (sound t count o began) at last (omega (arith, counted)) rights built rooms (roomy .replies) buffers (roomy .messages) (stopped s (last + 1) fact) (idle 0 b 0 g)
         (exchange-is s work (sound t count o began) (rooms last) (roomy .replies last) (buffers last) (roomy .messages last) (last + 1) (omega arith) (omega (arith, counted)) (at last) built hears
         ∙ ap₂ (λ (r : List ℕ) (x : Meter). record { turn = heardAs (standing s (last + 1) 0) work (onWire r) (buffers last); meter = x }) (outcome .0) (outcome .1)
-        ∙ ap (λ (u : Turn). record { turn = u; meter = idle 0 b 0 g }) (heard (buffers last) (roomy .messages last)))
+        ∙ ap (λ (u : Turn). record { turn = u; meter = idle 0 b 0 g }) (turned (buffers last) (roomy .messages last)))
+
+    ended : Ended s (suc last) fact
+    unfolding factGood
+    ended =
+        record {
+          sound = sound t count o began;
+          low = omega arith;
+          high = omega (arith, counted);
+          some = ⊎-elim (λ e z. omega arith) (λ e z. omega arith) other;
+          known = ⊎-elim (λ e. rw e) (λ e. rw e) other;
+        }
+
+    stands-at : (k : ℕ) → k < suc last → talkOf t work o m rooms buffers k ≡ record { turn = asking s work (k + 1); meter = at k }
+    stands-at k h =
+        talk-is k ∙ talks s work (sound t count o began) at last (omega (arith, counted)) rights built rooms (roomy .replies) buffers (roomy .messages) k (omega arith)
+
+    -- each message is one that the meter listens for
+    abbrev Heard : ℕ → Type 0
+    Heard k = (goodMessage editionTables (messageAt s work (k + 1)) ≡ true) × Listens (at k) (messageAt s work (k + 1))
+
+    heard-each : (k : ℕ) → k < suc last → Heard k
+    heard-each k h =
+        ⊎-elim (λ l. subst Heard {x = last} {y = k} (omega arith) (built, hears)) (λ l. (rights k l .good, rights k l .hears)) (le-or-lt last k)
 
     pub stops-at : Stops t work o m rooms buffers (suc last) fact (idle 0 b 0 g)
     stops-at =
         subst (λ (x : Session). StopsAfter x work (talkOf t work o m rooms buffers) (suc last) fact (idle 0 b 0 g)) (sym (ap (λ (x : Opening). x .session) (began .is)))
         (record {
-          going = λ k h.
-              ap (λ (x : Talk). x .turn)
-              (talk-is k ∙ talks s work (sound t count o began) at last (omega (arith, counted)) rights built rooms (roomy .replies) buffers (roomy .messages) k (omega arith));
+          within = omega (arith, counted);
+          going = λ k h. ap (λ (x : Talk). x .turn) (stands-at k h);
+          built = λ k h. heard-each k h .0;
+          heard = λ k h. subst (λ (x : Meter). Listens x (messageAt s work (k + 1))) (sym (ap (λ (x : Talk). x .meter) (stands-at k h))) (heard-each k h .1);
           stops = ap (λ (x : Talk). x .turn) stops-here ∙ ap (λ (n : ℕ). stopped s n fact) {x = last + 1} {y = suc last} (omega arith);
           meter = ap (λ (x : Talk). x .meter) stops-here;
           waits = waiting b g fewer good;
+          stays = stays-long s work (suc last) fact ended rooms buffers (begun o m) (idle 0 b 0 g)
+              (stops-here ∙ ap (λ (n : ℕ). record { turn = stopped s n fact; meter = idle 0 b 0 g }) {x = last + 1} {y = suc last} (omega arith));
         })
 
   -- ---- the password
@@ -123,7 +153,7 @@ module _ (t : Told) (work : List ℕ) (o : Opening) (count : ℕ) (began : Began
     refused-there b number fewer e =
         let outcome : outcomeOf (at 2) (messageAt s work 3) ≡ saying number 5 refused (idle 0 b 0 g) = ap (outcomeOf (at 2)) is-password ∙ password-tried ∙ e in
         stops-at 2 (lit≤ tt) first-two (subst (λ (x : Message). goodMessage editionTables x ≡ true) (sym is-password) password-good)
-        (subst (Listens (at 2)) (sym is-password) password-heard) refused 2 b fewer (ap (λ (x : Outcome). x .reply) outcome, ap (λ (x : Outcome). x .next) outcome)
+        (subst (Listens (at 2)) (sym is-password) password-heard) refused 2 b fewer (ap (λ (x : Outcome). x .reply) outcome, ap (λ (x : Outcome). x .next) outcome) (inl refl)
         (λ room long. heard-nak s work (sound t count o began) 3 (lit≤ tt) (omega (arith, counted)) room long)
 
     pub wrong : (t .password ≡ g .facts .password → ⊥) → a < 3 → Stops t work o m rooms buffers 3 2 (idle 0 (a + 1) 0 g)
@@ -157,7 +187,7 @@ module _ (t : Told) (work : List ℕ) (o : Opening) (count : ℕ) (began : Began
     unanswered =
         let outcome : outcomeOf (at 0) (messageAt s work 1) ≡ silent 0 m = ap (outcomeOf (at 0)) is-call ∙ not-called in
         stops-at 0 (lit≤ tt) (λ k h. absurd (omega arith)) (subst (λ (x : Message). goodMessage editionTables x ≡ true) (sym is-call) call-good)
-        (subst (Listens (at 0)) (sym is-call) call-heard) [] 4 a few (ap (λ (x : Outcome). x .reply) outcome, ap (λ (x : Outcome). x .next) outcome)
+        (subst (Listens (at 0)) (sym is-call) call-heard) [] 4 a few (ap (λ (x : Outcome). x .reply) outcome, ap (λ (x : Outcome). x .next) outcome) (inr refl)
         (λ room long. heard-nothing s work (sound t count o began) 1 (lit≤ tt) (omega (arith, counted)) room long)
 
 -- ---- any started session, with any meter that waits
