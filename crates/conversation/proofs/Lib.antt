@@ -10,3 +10,4 @@ pub mod Stopping
 pub mod Spoilt
 pub mod Damage
 pub mod Shapes
+pub mod Hurt

@@ -40,7 +40,7 @@ use Rattle.conversation.proofs.Course.{Ours, RightHere, right-call, rig
 use Rattle.conversation.proofs.Started.{Began, sound, begins, SomeBegan, some-began}
 use Rattle.conversation.proofs.Done.{waits-is, waiting, ours}
 
-not-same : (s t : List ℕ) → (s ≡ t → ⊥) → sameText s t ≡ false
+pub not-same : (s t : List ℕ) → (s ≡ t → ⊥) → sameText s t ≡ false
 not-same s t h = pick (sameText s t) refl
   where
     pick : (b : Bool) → sameText s t ≡ b → b ≡ false
