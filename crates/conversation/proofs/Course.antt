@@ -1,8 +1,8 @@
 -- The course of a session that goes well: the meter before each message, and that the head stands there. Assumes nothing.
 use mathlib.Core.Path.{_≡_, refl, sym, ap, ap₂, subst, _∙_}
-use mathlib.Core.Logic.{_⊎_, ⊎-elim}
-use mathlib.Core.Bool.{Bool, true, false, cond, _&&_, _||_}
-use mathlib.Core.List.{List, [], _∷_}
+use mathlib.Core.Logic.{⊎-elim}
+use mathlib.Core.Bool.{Bool, true, false, cond, _||_}
+use mathlib.Core.List.{List}
 use Prim.Native.Nat.{ℕ, zero, suc, _+_, _≤_, _<_}
 use native.Mathlib.Omega.{arith}
 use borrow.Author.Tests.{le-leb, lt-leb, ne-eqb, eqb-true}
@@ -25,12 +25,12 @@ use Rattle.meter.specs.Outcomes.{Outcome, saying, ack}
 use Rattle.commands.specs.Building.{goodChoice}
 use Rattle.commands.specs.Spoken.{enter, password, goodFields, lettersOf}
 use Rattle.commands.specs.Messages.{Message, call, callTo, confirm, command, leave, goodMessage}
-use Rattle.judging.specs.Right.{identifies, asksPassword, accepts}
+use Rattle.judging.specs.Right.{identifies, accepts}
 use Rattle.session.specs.declared.Session.{Session}
 use Rattle.session.specs.Messages.{calling, entering, workAt, messageAt}
 use Rattle.session.specs.Turns.{Turn, standing, rightWork, rightAt, answeredRight}
 use Rattle.reading.proofs.Leading.{or-cases}
-use Rattle.dialogue.specs.Messages.{allowedAt, allowedIn, triedWith, obeyed, outcomeOf, Listens}
+use Rattle.dialogue.specs.Messages.{allowedAt, allowedIn, triedWith, obeyed, outcomeOf}
 use Rattle.dialogue.proofs.Held.{Fit, idle}
 use Rattle.dialogue.proofs.Dialogue.{idle-listens}
 use Rattle.conversation.specs.Conversation.{Talk, exchange, converse, asking, stopped}

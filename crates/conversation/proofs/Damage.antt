@@ -1,15 +1,15 @@
 -- One damaged byte in a message: the meter keeps its registers, and says nothing or NAK at the last byte. Assumes nothing.
-use mathlib.Core.Path.{_≡_, refl, sym, ap, ap₂, subst, _∙_}
+use mathlib.Core.Path.{_≡_, refl, sym, ap, subst, _∙_}
 use mathlib.Core.Logic.{_⊎_, inl, inr, ⊎-elim}
-use mathlib.Core.Bool.{Bool, true, false, cond, not, _&&_, _||_, and-false}
-use mathlib.Core.List.{List, [], _∷_, _++_, map}
-use Prim.Native.Nat.{ℕ, zero, suc, _+_, _-_, _≤_, _<_}
+use mathlib.Core.Bool.{Bool, true, false, not, _&&_, _||_, and-false}
+use mathlib.Core.List.{List, [], _∷_, _++_}
+use Prim.Native.Nat.{ℕ, zero, suc, _-_, _≤_, _<_}
 use native.Mathlib.Omega.{arith}
 use borrow.Author.Tests.{eqb-true, leb-true, not-true}
 use lib.Dec.{eqb, leb}
-use lib.ListN.{length, take, drop, set, replicate, take-append-drop, length-append, length-map, drop-of-length-le}
+use lib.ListN.{length, take, drop, set, take-append-drop, length-append, length-map, drop-of-length-le}
 use lib.Seq.{set-split, drop-append-le, length-take-le}
-use Rattle.line.specs.Characters.{damagedAt, sent, seven}
+use Rattle.line.specs.Characters.{damagedAt, sent}
 use Rattle.line.specs.Runs.{every}
 use Rattle.line.proofs.Runs.{and-left, and-right, and-both, every-weaker, every-drop}
 use Rattle.line.proofs.Parity.{sent-comes-back, sent-undamaged}
@@ -23,7 +23,6 @@ use Rattle.state.specs.declared.Meter.{Meter}
 use Rattle.state.specs.WellFormed.{wellFormed, marked}
 use Rattle.replies.specs.Fixed.{refused}
 use Rattle.receiving.specs.declared.Hearing.{Hearing}
-use Rattle.receiving.specs.declared.Hearing.the-variants.{Drop, Hold, Restart, Empty, Line, Confirm, Frame, TooLong}
 use Rattle.receiving.specs.Hearing.{hearing, listening, confirming, framing}
 use Rattle.receiving.specs.Receivers.{heldText, lastHeld}
 use Rattle.deciding.specs.declared.Verdict.{Verdict}
@@ -33,11 +32,11 @@ use Rattle.meter.specs.SignOn.{signsOnBy, wantsBlock, wantsProgram}
 use Rattle.meter.specs.Acting.{passwordGiven, tried, acted}
 use Rattle.meter.specs.Character.{symbol, lineEnded, confirmed, heard, taken, character}
 use Rattle.promises.proofs.Choices as choice
-use Rattle.promises.proofs.Verdicts.{FrameNumber, parity, checksum, shape, unknown, not-allowed, content-wrong, Known, Told, verdict-all}
+use Rattle.promises.proofs.Verdicts.{FrameNumber, parity, checksum, shape, unknown, not-allowed, content-wrong, verdict-all}
 use Rattle.promises.proofs.Kept.{refused-keeps}
 use Rattle.promises.proofs.Formed.{character-stays}
 use Rattle.commands.specs.Messages.{Message, textOf, goodMessage}
-use Rattle.dialogue.specs.Feeding.{Said, saidIn, quiet, answered, left, full, atLast}
+use Rattle.dialogue.specs.Feeding.{Said, saidIn, answered, left, full, atLast}
 use Rattle.dialogue.specs.Messages.{outcomeOf, Listens}
 use Rattle.dialogue.proofs.Feeding.{Fed, fed-append, fed-in}
 use Rattle.dialogue.proofs.Dialogue.{message-taken}

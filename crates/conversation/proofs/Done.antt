@@ -1,46 +1,31 @@
 -- A session that goes well with a meter that waits: done after as many exchanges as there are messages of work and four more. Assumes nothing.
 use mathlib.Core.Path.{_≡_, refl, sym, ap, ap₂, subst, _∙_}
-use mathlib.Core.Bool.{Bool, true, false, cond, _||_}
+use mathlib.Core.Bool.{Bool, true, false, _||_}
 use mathlib.Core.List.{List}
-use Prim.Native.Nat.{ℕ, suc, _+_, _*_, _/_, _≤_, _<_}
+use Prim.Native.Nat.{ℕ, _+_, _≤_, _<_}
 use native.Mathlib.Omega.{arith}
-use borrow.Author.Tests.{eq-eqb, ne-eqb}
-use lib.Dec.{eqb, lit≤}
-use lib.ListN.{length, getD, replicate}
-use Rattle.line.specs.Quoted.{char}
+use borrow.Author.Tests.{eq-eqb}
+use lib.Dec.{lit≤}
+use lib.ListN.{replicate}
 use Rattle.text.specs.Classes.{sameText}
 use Rattle.text.proofs.Matching.{same-self}
-use Rattle.values.specs.Edition.{editionTables}
 use Rattle.values.specs.Registers.{goodSerial, goodPassword}
-use Rattle.frames.specs.Frames.{blockOf, onWire}
 use Rattle.state.specs.declared.Registers.{Registers}
 use Rattle.state.specs.declared.Meter.{Meter}
 use Rattle.state.specs.WellFormed.{speedGood, registersGood}
-use Rattle.state.specs.Setting.{withAttempts}
 use Rattle.state.proofs.Parts.{formed, slow-low}
-use Rattle.replies.specs.Answers.{askedData}
-use Rattle.meter.specs.Outcomes.{Outcome}
-use Rattle.commands.specs.Spoken.{goodFields}
-use Rattle.commands.specs.Messages.{Message, command, textOf, goodMessage}
-use Rattle.judging.specs.Right.{tells}
 use Rattle.session.specs.declared.Session.{Session}
-use Rattle.session.specs.Messages.{readOf, readAt, workAt, messageAt}
-use Rattle.session.specs.Starting.{Told, Opening, Opens, sessionOf}
-use Rattle.session.specs.Standing.{toldGood, factGood}
-use Rattle.session.specs.Turns.{Turn, rightRead, rightWork}
+use Rattle.session.specs.Messages.{messageAt}
+use Rattle.session.specs.Starting.{Told, Opening, sessionOf}
+use Rattle.session.specs.Standing.{factGood}
 use Rattle.session.proofs.Laws.{told-is}
 use Rattle.dialogue.specs.Messages.{Listens}
-use Rattle.dialogue.proofs.Held.{Fit, idle, idle-is, idle-formed}
-use Rattle.dialogue.proofs.Dialogue.{idle-listens}
-use Rattle.readback.proofs.Blocks.{block-long}
-use Rattle.recital.proofs.Recital.{answer-block-reads-back}
-use Rattle.conversation.specs.Conversation.{Talk, begun, replyTo, converse, asking, stopped}
-use Rattle.conversation.specs.Ends.{Waits, Calls, anyone, by-serial, by-zeros, Enters, plainly, by-password, attemptsAfter, Roomy, StopsAfter, talkOf, saidAfter, Stops, ReadBack, ReadsDone}
-use Rattle.conversation.proofs.Right.{block-is-no-nak}
-use Rattle.conversation.proofs.Telling.{Answered, read-answered, read-right}
-use Rattle.conversation.proofs.Exchange.{Right, Sound, Ended, stays-long}
-use Rattle.conversation.proofs.Course.{Ours, anyone as ours-any, this, Enters as EntersAs, plainly as enters-plainly, knowing, working, renamed, stage, Goes, at-working, right-at, courses, course-ends}
-use Rattle.conversation.proofs.Started.{Began, sound, begins, ReadsBegan, reads-began}
+use Rattle.dialogue.proofs.Held.{idle, idle-is, idle-formed}
+use Rattle.conversation.specs.Conversation.{Talk, begun, converse, asking, stopped}
+use Rattle.conversation.specs.Ends.{Waits, Calls, anyone, by-serial, by-zeros, Enters, plainly, by-password, attemptsAfter, Roomy, StopsAfter, talkOf, Stops}
+use Rattle.conversation.proofs.Exchange.{Ended, stays-long}
+use Rattle.conversation.proofs.Course.{Ours, anyone as ours-any, this, Enters as EntersAs, plainly as enters-plainly, knowing, stage, Goes, right-at, courses, course-ends}
+use Rattle.conversation.proofs.Started.{Began, sound, begins}
 
 -- ---- the meter that waits
 

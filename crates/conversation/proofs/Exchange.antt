@@ -1,11 +1,10 @@
 -- One exchange with a meter that listens: a right reply brings the next message or the end, a NAK and silence stop the session. Assumes nothing.
-use mathlib.Core.Path.{_≡_, refl, sym, ap, ap₂, subst, _∙_}
-use mathlib.Core.Bool.{Bool, true, false, cond, _&&_, _||_}
+use mathlib.Core.Path.{_≡_, refl, sym, ap, ap₂, _∙_}
+use mathlib.Core.Bool.{Bool, true, false}
 use mathlib.Core.List.{List, [], _∷_, _++_}
 use Prim.Native.Nat.{ℕ, zero, suc, _+_, _-_, _≤_, _<_}
 use native.Mathlib.Omega.{arith}
 use borrow.Author.Tests.{le-leb, lt-leb, le-ltb, ne-eqb}
-use lib.Dec.{eqb, leb}
 use lib.ListN.{length, replicate, length-map}
 use Rattle.line.specs.Characters.{sent}
 use Rattle.values.specs.Edition.{editionTables}

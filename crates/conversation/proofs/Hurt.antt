@@ -1,7 +1,7 @@
 -- One damaged byte, in a message or in a reply: the head stops at that message with a fact, and the meter has what the messages before said. Assumes nothing.
 use mathlib.Core.Path.{_≡_, refl, sym, ap, ap₂, subst, _∙_}
-use mathlib.Core.Logic.{_⊎_, inl, inr, ⊎-elim}
-use mathlib.Core.Bool.{Bool, true, false, cond, not, _&&_, and-false}
+use mathlib.Core.Logic.{inl, inr, ⊎-elim}
+use mathlib.Core.Bool.{Bool, true, false, cond, not, and-false}
 use mathlib.Core.List.{List, [], _∷_}
 use Prim.Native.Nat.{ℕ, zero, suc, _+_, _-_, _*_, _≤_, _<_}
 use native.Mathlib.Omega.{arith}
@@ -15,17 +15,16 @@ use Rattle.frames.specs.Frames.{onWire}
 use Rattle.state.specs.declared.Meter.{Meter}
 use Rattle.replies.specs.Fixed.{identification, passwordAsk, accepted, refused}
 use Rattle.commands.specs.Spoken.{goodFields}
-use Rattle.commands.specs.Messages.{Message, textOf}
+use Rattle.commands.specs.Messages.{textOf}
 use Rattle.values.specs.Edition.{editionTables}
-use Rattle.judging.specs.Right.{identifies, asksPassword, accepts, refuses, answersIn, answers}
+use Rattle.judging.specs.Right.{identifies, asksPassword, accepts, refuses, answers}
 use Rattle.readback.proofs.Sending.{sent-undamaged-all}
 use Rattle.session.specs.declared.Session.{Session}
 use Rattle.session.specs.Messages.{readOf, messageAt}
-use Rattle.session.specs.Starting.{Told, Opening, Opens, sessionOf}
+use Rattle.session.specs.Starting.{Told, Opening, Opens}
 use Rattle.session.specs.Turns.{Turn, standing, rightRead, rightWork, rightAt, answered as judged, replied}
-use Rattle.dialogue.specs.Messages.{Listens}
-use Rattle.conversation.specs.Conversation.{Talk, replyTo, heardAs, exchangeOf, asking, stopped}
-use Rattle.conversation.specs.Ends.{Roomy, talkOf, Stops, hurtAfter, MessageHurt, ReplyHurt}
+use Rattle.conversation.specs.Conversation.{Talk, replyTo, heardAs, exchangeOf, stopped}
+use Rattle.conversation.specs.Ends.{Roomy, talkOf, Stops, MessageHurt, ReplyHurt}
 use Rattle.conversation.proofs.Exchange.{Sound, stands, heard-nak, heard-nothing}
 use Rattle.conversation.proofs.Started.{sound, some-began}
 use Rattle.conversation.proofs.Stopping.{not-same}

@@ -1,11 +1,11 @@
 -- A post that goes well: each line is a table write that the meter acknowledges, and the tables hold the posted rows. Assumes nothing.
 use mathlib.Core.Path.{_≡_, refl, sym, ap, ap₂, subst, _∙_}
-use mathlib.Core.Bool.{Bool, true, false, cond, _&&_}
-use mathlib.Core.List.{List, [], _∷_, _++_, List·Memᴰ}
+use mathlib.Core.Bool.{true}
+use mathlib.Core.List.{List, [], _∷_}
 use Prim.Native.Nat.{ℕ, zero, suc, _+_, _*_, _≤_, _<_}
 use native.Mathlib.Omega.{arith}
 use borrow.Author.Tests.{leb-true}
-use lib.Dec.{eqb, leb, lit≤, lit<}
+use lib.Dec.{leb, lit≤, lit<}
 use lib.ListN.{length, getD, take, drop}
 use lib.Seq.{take-at, drop-at, drop-append-add, take-length}
 use Rattle.line.specs.Quoted.{chars}
@@ -15,7 +15,6 @@ use Rattle.text.specs.Decimal.{decimal}
 use Rattle.text.specs.Layout.{layoutText}
 use Rattle.values.specs.Edition.{editionTables}
 use Rattle.values.specs.Registers.{goodRow, goodTable}
-use Rattle.values.specs.Reading.{tableRead}
 use Rattle.values.specs.Texts.{tableText}
 use Rattle.values.proofs.RoundTrip.{table-reads-back}
 use Rattle.state.specs.Sizes.{tables, rowLength}
@@ -25,9 +24,9 @@ use Rattle.state.specs.WellFormed.{speedGood, tablesGood, registersGood}
 use Rattle.state.specs.Setting.{rowStart, withRow, withTables, withAttempts}
 use Rattle.state.proofs.Parts.{formed, formed-registers, registers-good, long}
 use Rattle.replies.specs.Shown.{rowOf}
-use Rattle.commands.specs.Spoken.{Command, writeTable, goodFields, lettersOf}
+use Rattle.commands.specs.Spoken.{writeTable, goodFields, lettersOf}
 use Rattle.commands.specs.Messages.{command, goodMessage}
-use Rattle.post.specs.Grammar.{Entry, lineText, postText, goodEntry, rising, IsPost}
+use Rattle.post.specs.Grammar.{Entry, lineText, postText, goodEntry, rising}
 use Rattle.post.proofs.Lines.{line-columns, length-line, row-length, row-zones}
 use Rattle.post.proofs.Reading.{post-cons, good-rising, rising-rest, rising-row}
 use Rattle.judging.specs.Right.{accepts}
@@ -43,8 +42,8 @@ use Rattle.delivery.proofs.Rows.{tables-stay-good, others-kept, named-held}
 use Rattle.conversation.specs.Conversation.{Talk}
 use Rattle.conversation.specs.Ends.{Waits, Calls, Enters, plainly, by-password, Roomy, talkOf, Stops, PostDone}
 use Rattle.conversation.proofs.Exchange.{Right, acknowledged}
-use Rattle.conversation.proofs.Course.{Enters as EntersAs, knowing, renamed, stage, Goes, at-working}
-use Rattle.conversation.proofs.Started.{Began, sound, PostBegan, post-began}
+use Rattle.conversation.proofs.Course.{Enters as EntersAs, renamed, stage, Goes, at-working}
+use Rattle.conversation.proofs.Started.{sound, PostBegan, post-began}
 use Rattle.conversation.proofs.Done.{waits-is, ours, knows, stands-at, all-done}
 
 -- ---- the lines of a post

@@ -1,46 +1,39 @@
 -- Reads that go well: each is answered with its block, which reads back, and the meter is as it was. Assumes nothing.
 use mathlib.Core.Path.{_≡_, refl, sym, ap, ap₂, subst, _∙_}
-use mathlib.Core.Bool.{Bool, true, false, cond, _||_}
+use mathlib.Core.Bool.{true, _||_}
 use mathlib.Core.List.{List}
 use Prim.Native.Nat.{ℕ, suc, _+_, _*_, _/_, _≤_, _<_}
 use native.Mathlib.Omega.{arith}
-use borrow.Author.Tests.{eq-eqb, ne-eqb}
-use lib.Dec.{eqb, lit≤}
-use lib.ListN.{length, getD, replicate}
-use Rattle.line.specs.Quoted.{char}
-use Rattle.text.specs.Classes.{sameText}
-use Rattle.text.proofs.Matching.{same-self}
+use lib.Dec.{eqb}
+use lib.ListN.{length, getD}
 use Rattle.values.specs.Edition.{editionTables}
-use Rattle.values.specs.Registers.{goodSerial, goodPassword}
 use Rattle.frames.specs.Frames.{blockOf, onWire}
 use Rattle.state.specs.declared.Registers.{Registers}
 use Rattle.state.specs.declared.Meter.{Meter}
-use Rattle.state.specs.WellFormed.{speedGood, registersGood}
+use Rattle.state.specs.WellFormed.{registersGood}
 use Rattle.state.specs.Setting.{withAttempts}
-use Rattle.state.proofs.Parts.{formed, slow-low}
+use Rattle.state.proofs.Parts.{formed}
 use Rattle.replies.specs.Answers.{askedData}
 use Rattle.meter.specs.Outcomes.{Outcome}
 use Rattle.commands.specs.Spoken.{goodFields}
-use Rattle.commands.specs.Messages.{Message, command, textOf, goodMessage}
+use Rattle.commands.specs.Messages.{Message, command, goodMessage}
 use Rattle.judging.specs.Right.{tells}
 use Rattle.session.specs.declared.Session.{Session}
-use Rattle.session.specs.Messages.{readOf, readAt, workAt, messageAt}
+use Rattle.session.specs.Messages.{readAt, workAt, messageAt}
 use Rattle.session.specs.Starting.{Told, Opening, Opens, sessionOf}
-use Rattle.session.specs.Standing.{toldGood}
-use Rattle.session.specs.Turns.{Turn, rightRead, rightWork}
-use Rattle.session.proofs.Laws.{told-is}
-use Rattle.dialogue.specs.Messages.{allowedIn, obeyed, outcomeOf}
-use Rattle.dialogue.proofs.Held.{Fit, idle, idle-is, idle-formed}
+use Rattle.session.specs.Turns.{rightRead, rightWork}
+use Rattle.dialogue.specs.Messages.{allowedIn, outcomeOf}
+use Rattle.dialogue.proofs.Held.{Fit, idle, idle-formed}
 use Rattle.dialogue.proofs.Dialogue.{idle-listens}
 use Rattle.readback.proofs.Blocks.{block-long}
 use Rattle.recital.proofs.Recital.{answer-block-reads-back}
-use Rattle.conversation.specs.Conversation.{Talk, begun, replyTo, converse, asking, stopped}
-use Rattle.conversation.specs.Ends.{Waits, Calls, anyone, by-serial, by-zeros, Enters, plainly, by-password, attemptsAfter, Roomy, StopsAfter, talkOf, saidAfter, Stops, ReadBack, ReadsDone}
+use Rattle.conversation.specs.Conversation.{Talk, replyTo}
+use Rattle.conversation.specs.Ends.{Waits, Calls, Enters, Roomy, saidAfter, Stops, ReadBack, ReadsDone}
 use Rattle.conversation.proofs.Right.{block-is-no-nak}
 use Rattle.conversation.proofs.Telling.{Answered, read-answered, read-right}
-use Rattle.conversation.proofs.Exchange.{Right, Sound, message-work, reply-is}
-use Rattle.conversation.proofs.Course.{Ours, anyone as ours-any, this, Enters as EntersAs, plainly as enters-plainly, knowing, working, renamed, stage, Goes, at-working, right-at, courses, course-ends}
-use Rattle.conversation.proofs.Started.{Began, sound, begins, ReadsBegan, reads-began}
+use Rattle.conversation.proofs.Exchange.{Right, message-work, reply-is}
+use Rattle.conversation.proofs.Course.{working, renamed, stage, Goes, at-working, right-at}
+use Rattle.conversation.proofs.Started.{sound, ReadsBegan, reads-began}
 use Rattle.conversation.proofs.Done.{waits-is, ours, Entered, entered, few-after, known-mode, stands-at, all-done}
 
 -- ---- one read

@@ -1,25 +1,23 @@
 -- What a well-formed meter says is right to the head: its fixed sequences, and its answer to each read. Assumes nothing.
-use mathlib.Core.Path.{_≡_, refl, sym, ap, ap₂, _∙_}
-use mathlib.Core.Bool.{Bool, true, false, cond, _&&_}
-use mathlib.Core.List.{List, [], _∷_, _++_, map, append-assoc, append-nil}
-use Prim.Native.Nat.{ℕ, _+_, _-_, _≤_}
+use mathlib.Core.Path.{_≡_, refl, sym, ap₂, _∙_}
+use mathlib.Core.Bool.{true, false}
+use mathlib.Core.List.{List, [], _∷_, _++_, append-assoc}
+use Prim.Native.Nat.{ℕ, _+_, _-_}
 use native.Mathlib.Omega.{arith}
 use borrow.Author.Tests.{le-leb}
 use lib.Count.{ones}
-use lib.Dec.{eqb, leb}
+use lib.Dec.{eqb}
 use lib.ListN.{length, take, drop, length-append, length-map}
-use lib.Seq.{take-at, drop-at, take-append-seam, drop-append-seam}
-use Rattle.line.specs.Characters.{sent, seven, undamagedAll}
+use lib.Seq.{take-append-seam, drop-append-seam}
+use Rattle.line.specs.Characters.{sent, seven}
 use Rattle.line.specs.Runs.{every}
-use Rattle.line.proofs.Runs.{and-both}
 use Rattle.text.specs.Classes.{sameText, matching}
 use Rattle.text.proofs.Matching.{same-self, matching-length}
 use Rattle.frames.specs.Frames.{blockOf, onWire}
 use Rattle.replies.specs.Fixed.{identification, passwordAsk, accepted, refused}
-use Rattle.replies.proofs.Good.{password-ask-is}
 use Rattle.judging.specs.Lines.{isLine, valueIn}
 use Rattle.judging.specs.Right.{identifies, asksPassword, accepts, refuses, tells, dataIn, answersIn, answers}
-use Rattle.blocks.specs.Parts.{isCharacter, isContent, partOf}
+use Rattle.blocks.specs.Parts.{isCharacter, isContent}
 use Rattle.readback.proofs.Sending.{sent-undamaged-all, sent-comes-back-all, block-characters}
 use Rattle.readback.proofs.Blocks.{block-long, part-of-block, part-is-content}
 

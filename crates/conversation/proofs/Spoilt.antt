@@ -1,32 +1,27 @@
 -- A meter that has seen damage, or that holds nothing: it says nothing or NAK, keeps its registers, and stays so until a line or a frame opens. Assumes nothing.
-use mathlib.Core.Path.{_≡_, refl, sym, ap, subst, _∙_}
+use mathlib.Core.Path.{_≡_, refl}
 use mathlib.Core.Logic.{_⊎_, inl, inr, ⊎-elim}
-use mathlib.Core.Bool.{Bool, true, false, cond, not, _&&_, _||_, and-false}
-use mathlib.Core.List.{List, [], _∷_}
+use mathlib.Core.Bool.{Bool, true, false, cond, not, _&&_, _||_}
+use mathlib.Core.List.{[]}
 use Prim.Native.Nat.{ℕ, _≤_}
 use native.Mathlib.Omega.{arith}
 use borrow.Author.Tests.{eqb-true, eqb-false, le-leb}
 use lib.Dec.{eqb, leb}
 use Rattle.line.specs.Characters.{damagedAt}
-use Rattle.text.specs.Classes.{sameText}
 use Rattle.text.proofs.Beginnings.{le-or-lt}
-use Rattle.values.specs.Registers.{goodTable}
-use Rattle.state.specs.Sizes.{replyRoom, tables, heldPlaces}
+use Rattle.state.specs.Sizes.{replyRoom, heldPlaces}
 use Rattle.state.specs.declared.Meter.{Meter}
 use Rattle.state.specs.WellFormed.{wellFormed, marked}
 use Rattle.replies.specs.Fixed.{refused}
 use Rattle.receiving.specs.declared.Hearing.{Hearing}
 use Rattle.receiving.specs.declared.Hearing.the-variants.{Drop, Hold, Restart, Empty, Line, Confirm, Frame, TooLong}
 use Rattle.receiving.specs.Hearing.{hearing, listening, confirming, framing}
-use Rattle.receiving.specs.Receivers.{heldText, lastHeld}
-use Rattle.deciding.specs.declared.Verdict.{Verdict}
+use Rattle.receiving.specs.Receivers.{lastHeld}
 use Rattle.deciding.specs.Verdict.{verdict}
 use Rattle.meter.specs.Outcomes.{Outcome, fallen, nak}
-use Rattle.meter.specs.SignOn.{signsOnBy, wantsBlock, wantsProgram}
-use Rattle.meter.specs.Acting.{passwordGiven, tried, acted}
+use Rattle.meter.specs.Acting.{acted}
 use Rattle.meter.specs.Character.{symbol, lineEnded, confirmed, heard, taken, character}
 use Rattle.promises.proofs.Choices as choice
-use Rattle.promises.proofs.Verdicts.{FrameNumber, Known, Told, verdict-all}
 use Rattle.reading.proofs.Leading.{or-cases}
 
 -- damage was seen, or nothing is held outside a confirmation

@@ -4,9 +4,9 @@ use mathlib.Core.Bool.{Bool, true, false, cond, _&&_, _||_}
 use mathlib.Core.List.{List, [], _∷_}
 use Prim.Native.Nat.{ℕ, zero, suc, _+_, _*_, _/_, _≤_, _<_}
 use native.Mathlib.Omega.{arith}
-use borrow.Author.Tests.{eqb-true, eq-eqb, le-leb, eqb-false, ltb-false}
-use lib.Dec.{eqb, leb, ltb, lit≤}
-use lib.ListN.{length, getD, replicate}
+use borrow.Author.Tests.{eqb-true, le-leb, eqb-false, ltb-false}
+use lib.Dec.{eqb, ltb}
+use lib.ListN.{length, replicate}
 use Rattle.line.specs.Runs.{every}
 use Rattle.line.proofs.Runs.{and-left, and-right, and-both}
 use Rattle.text.specs.Classes.{between}
@@ -14,14 +14,13 @@ use Rattle.values.specs.Edition.{editionTables}
 use Rattle.values.specs.Registers.{goodSerial, goodPassword}
 use Rattle.commands.specs.Spoken.{goodFields}
 use Rattle.commands.specs.Messages.{textOf}
-use Rattle.post.specs.Grammar.{Entry, rising, goodEntries, IsPost}
+use Rattle.post.specs.Grammar.{Entry, goodEntries, IsPost}
 use Rattle.post.proofs.Reading.{good-rising, count-entries}
-use Rattle.session.specs.declared.Session.{Session}
 use Rattle.session.specs.Messages.{calling, readOf, readAt, readsGood, messageAt}
 use Rattle.session.specs.Standing.{toldGood, keptGood, workGood, sessionTold}
-use Rattle.session.specs.Starting.{Told, Opening, sessionOf, opened, openedReads, openedPost, unopened, Posting, Unposted, Opens, small, nothing, reads, posts, others}
+use Rattle.session.specs.Starting.{Told, Opening, sessionOf, opened, openedReads, openedPost, unopened, Opens, small, nothing, reads, posts, others}
 use Rattle.state.specs.declared.Meter.{Meter}
-use Rattle.conversation.specs.Conversation.{Talk, begun, asking}
+use Rattle.conversation.specs.Conversation.{begun, asking}
 use Rattle.conversation.proofs.Exchange.{Sound}
 
 -- the branch that an answer 1 comes from

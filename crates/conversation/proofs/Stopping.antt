@@ -1,12 +1,12 @@
 -- A session that does not go well: a wrong password and a spent one stop it with NAK at message 3, another meter's serial with silence at the sign-on. Assumes nothing.
 use mathlib.Core.Path.{_≡_, refl, sym, ap, ap₂, subst, _∙_}
 use mathlib.Core.Logic.{_⊎_, inl, inr, ⊎-elim}
-use mathlib.Core.Bool.{Bool, true, false, cond, _||_}
+use mathlib.Core.Bool.{Bool, true, false}
 use mathlib.Core.List.{List, []}
 use Prim.Native.Nat.{ℕ, zero, suc, _+_, _≤_, _<_}
 use native.Mathlib.Omega.{arith}
 use borrow.Author.Tests.{eq-eqb, ne-eqb}
-use lib.Dec.{eqb, lit≤}
+use lib.Dec.{lit≤}
 use lib.ListN.{replicate}
 use Rattle.line.specs.Quoted.{char}
 use Rattle.text.specs.Classes.{sameText, matching}
@@ -31,12 +31,12 @@ use Rattle.session.specs.Starting.{Told, Opening, Opens, sessionOf}
 use Rattle.session.specs.Turns.{Turn, standing}
 use Rattle.session.proofs.Laws.{told-is}
 use Rattle.dialogue.specs.Messages.{allowedAt, allowedIn, triedWith, obeyed, outcomeOf, Listens}
-use Rattle.dialogue.proofs.Held.{Fit, idle}
+use Rattle.dialogue.proofs.Held.{idle}
 use Rattle.dialogue.proofs.Dialogue.{idle-listens}
-use Rattle.conversation.specs.Conversation.{Talk, begun, heardAs, exchange, converse, asking, stopped}
+use Rattle.conversation.specs.Conversation.{Talk, begun, heardAs, converse, asking, stopped}
 use Rattle.conversation.specs.Ends.{Waits, Calls, Roomy, StopsAfter, talkOf, Stops}
-use Rattle.conversation.proofs.Exchange.{Sound, Ended, exchange-is, heard-nak, heard-nothing, stays-long}
-use Rattle.conversation.proofs.Course.{Ours, RightHere, right-call, right-confirm, stage, talks, talk-last}
+use Rattle.conversation.proofs.Exchange.{Ended, exchange-is, heard-nak, heard-nothing, stays-long}
+use Rattle.conversation.proofs.Course.{RightHere, right-call, right-confirm, stage, talks, talk-last}
 use Rattle.conversation.proofs.Started.{Began, sound, begins, SomeBegan, some-began}
 use Rattle.conversation.proofs.Done.{waits-is, waiting, ours}
 

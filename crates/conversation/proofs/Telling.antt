@@ -1,15 +1,14 @@
 -- Each read, answered by a meter with good registers: the block tells what was asked, so it is right to the head. Assumes nothing.
-use mathlib.Core.Path.{_≡_, refl, sym, ap, ap₂, subst, _∙_}
+use mathlib.Core.Path.{_≡_, refl, sym, subst}
 use mathlib.Core.Bool.{Bool, true, false, cond, _&&_, _||_}
 use mathlib.Core.List.{List, [], _∷_, _++_, append-nil}
 use Prim.Native.Nat.{ℕ, _<_}
 use native.Mathlib.Omega.{arith}
 use borrow.Author.Tests.{eqb-true, leb-true}
 use lib.Dec.{eqb, leb, lit≤}
-use lib.ListN.{length, take, drop}
+use lib.ListN.{length}
 use lib.Seq.{take-at, drop-at}
 use Rattle.line.specs.Quoted.{chars}
-use Rattle.line.specs.Runs.{every}
 use Rattle.line.proofs.Runs.{and-left, and-right, and-both, every-weaker}
 use Rattle.text.specs.Classes.{between, matching, sameText}
 use Rattle.text.specs.Decimal.{decimal}
@@ -22,10 +21,10 @@ use Rattle.clock.specs.Seconds.{realClock}
 use Rattle.values.specs.declared.Energy.{Energy}
 use Rattle.values.specs.declared.Energy.the-variants.{Total}
 use Rattle.values.specs.Edition.{editionTables}
-use Rattle.values.specs.Registers.{goodSerial, goodAccount, goodRow, goodTable, goodZone, energyNo, zoneEnergy}
+use Rattle.values.specs.Registers.{goodSerial, goodAccount, goodRow, goodTable, energyNo, zoneEnergy}
 use Rattle.values.specs.Reading.{dateRead, timeRead, counterRead}
 use Rattle.values.specs.Serials.{serialRead}
-use Rattle.values.specs.Texts.{tableText, dateText, timeText, counterText}
+use Rattle.values.specs.Texts.{tableText, dateText, timeText}
 use Rattle.values.proofs.RoundTrip.{date-reads-back, time-reads-back, counter-reads-back}
 use Rattle.values.proofs.Serials.{serial-reads-back}
 use Rattle.frames.specs.Frames.{blockOf, onWire}
@@ -35,7 +34,7 @@ use Rattle.state.specs.declared.Meter.{Meter}
 use Rattle.state.specs.Setting.{counterOf}
 use Rattle.state.specs.WellFormed.{registersGood}
 use Rattle.state.proofs.Parts.{formed-registers, formed-facts, counter-small, total-small}
-use Rattle.datasets.specs.Sets.{DataSet, dataSet, linesOf, timeSet, dateSet, serialSet, accountSet, energySet, tableSet}
+use Rattle.datasets.specs.Sets.{dataSet, linesOf, timeSet, dateSet, serialSet, accountSet, energySet, tableSet}
 use Rattle.replies.specs.declared.Ask.{Ask}
 use Rattle.replies.specs.declared.Ask.the-variants as ask
 use Rattle.replies.specs.Shown.{rowOf}
@@ -43,7 +42,6 @@ use Rattle.replies.specs.Shown as shown
 use Rattle.replies.specs.Answers.{askedSets, askedData}
 use Rattle.replies.proofs.Good.{asked-shown}
 use Rattle.deciding.specs.declared.Verdict.the-variants.{Read}
-use Rattle.meter.specs.Outcomes.{Outcome}
 use Rattle.promises.specs.Writes.{answerable}
 use Rattle.commands.specs.Spoken.{Command, readClock, readSerial, readAccount, readTotal, readZone, readTable, goodFields, lettersOf}
 use Rattle.judging.specs.Right.{tellsTime, tellsDate, tellsClock, tellsSerial, tellsAccount, tellsEnergy, tellsRow, tells, answers, energyOpening, tableOpening}
