@@ -54,18 +54,18 @@ renamed x y m next j k e f r =
 
 -- the head calls any meter, or this one
 pub data Ours (s : Session) (g : Registers) : Type 0 where
-  anyone : eqb (s .named) 1 ≡ false → Ours s g
-  this : eqb (s .named) 1 ≡ true → goodSerial (s .serial) ≡ true
+  any-meter : eqb (s .named) 1 ≡ false → Ours s g
+  this-meter : eqb (s .named) 1 ≡ true → goodSerial (s .serial) ≡ true
       → (sameText (s .serial) (g .facts .serial) || sameText (s .serial) (replicate 10 48)) ≡ true → Ours s g
 
 -- the head enters by `()`, or knows the password: the mode, and the attempts, that this leads to
-pub data Enters (s : Session) (a : ℕ) (g : Registers) : ℕ → ℕ → Type 0 where
-  plainly : eqb (s .access) 1 ≡ false → Enters s a g 3 a
-  knowing : eqb (s .access) 1 ≡ true → goodPassword (s .password) ≡ true → s .password ≡ g .facts .password → a < 3 → Enters s a g 4 0
+pub data EntersAs (s : Session) (a : ℕ) (g : Registers) : ℕ → ℕ → Type 0 where
+  as-plain : eqb (s .access) 1 ≡ false → EntersAs s a g 3 a
+  as-known : eqb (s .access) 1 ≡ true → goodPassword (s .password) ≡ true → s .password ≡ g .facts .password → a < 3 → EntersAs s a g 4 0
 
-pub working : (s : Session) (a : ℕ) (g : Registers) (mode b : ℕ) → Enters s a g mode b → (eqb mode 3 || eqb mode 4) ≡ true
-working s a g mode b (plainly h) = refl
-working s a g mode b (knowing h p k l) = refl
+pub working : (s : Session) (a : ℕ) (g : Registers) (mode b : ℕ) → EntersAs s a g mode b → (eqb mode 3 || eqb mode 4) ≡ true
+working s a g mode b (as-plain h) = refl
+working s a g mode b (as-known h p k l) = refl
 
 module _ (s : Session) (work : List ℕ) (a : ℕ) (g : Registers) (few : a ≤ 3) (good : registersGood g ≡ true) where
   fit-here : (mode speed : ℕ) → mode ≤ 4 → speedGood mode speed ≡ true → Fit mode a speed g
@@ -88,10 +88,10 @@ module _ (s : Session) (work : List ℕ) (a : ℕ) (g : Registers) (few : a ≤ 
 
   pub right-call : Ours s g → Right (messageAt s work 1) (idle 0 a 0 g) (idle 1 a 0 g) (rightAt s work 1)
   unfolding messageAt rightAt calling
-  right-call (anyone h) =
+  right-call (any-meter h) =
       renamed call (messageAt s work 1) _ _ (rightAt s work 1) identifies (rw h) (λ r. refl)
       (calls call (unfold goodMessage in refl) (unfold allowedIn in refl) (unfold outcomeOf in refl))
-  right-call (this h k e) =
+  right-call (this-meter h k e) =
       renamed (callTo (s .serial)) (messageAt s work 1) _ _ (rightAt s work 1) identifies (rw h) (λ r. refl)
       (calls (callTo (s .serial)) (unfold goodMessage in k) (unfold allowedIn in refl) (unfold outcomeOf in (rw e)))
 
@@ -118,10 +118,10 @@ module _ (s : Session) (work : List ℕ) (a : ℕ) (g : Registers) (few : a ≤ 
       renamed c (messageAt s work 3) _ _ (rightAt s work 3) accepts is (λ r. refl)
       (acknowledged c (idle 2 a 5 g) next 5 h (idle-listens 2 a 5 g c (fit-here 2 5 (lit≤ tt) (unfold speedGood in refl)) k) e)
 
-  pub right-enter : (mode b : ℕ) → Enters s a g mode b → Right (messageAt s work 3) (idle 2 a 5 g) (idle mode b 5 g) (rightAt s work 3)
+  pub right-enter : (mode b : ℕ) → EntersAs s a g mode b → Right (messageAt s work 3) (idle 2 a 5 g) (idle mode b 5 g) (rightAt s work 3)
   unfolding messageAt entering goodMessage goodFields allowedIn allowedAt lettersOf sameText matching outcomeOf obeyed triedWith
-  right-enter mode b (plainly h) = entered (command enter) (idle 3 a 5 g) refl refl refl (rw h)
-  right-enter mode b (knowing h p k l) =
+  right-enter mode b (as-plain h) = entered (command enter) (idle 3 a 5 g) refl refl refl (rw h)
+  right-enter mode b (as-known h p k l) =
       entered (command (password (s .password))) (idle 4 0 5 g) p refl (rw (ne-eqb a 3 (λ e. omega arith), k, same-self (g .facts .password))) (rw h)
 
   -- B0
@@ -187,7 +187,7 @@ pub record Goes (s : Session) (work : List ℕ) (a mode b : ℕ) (g : ℕ → Re
   pub fewer : b ≤ 3
   pub good : (i : ℕ) → i ≤ s .count → registersGood (g i) ≡ true
   pub ours : Ours s (g 0)
-  pub enters : Enters s a (g 0) mode b
+  pub enters : EntersAs s a (g 0) mode b
   pub works : (i : ℕ) → i < s .count → Right (command (workAt s work i)) (idle mode b 5 (g i)) (idle mode b 5 (g (suc i))) (rightWork s work i)
 
 module _ (s : Session) (work : List ℕ) (a mode b : ℕ) (g : ℕ → Registers) (goes : Goes s work a mode b g) where

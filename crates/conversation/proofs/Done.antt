@@ -1,6 +1,6 @@
 -- A session that goes well with a meter that waits: done after as many exchanges as there are messages of work and four more. Assumes nothing.
 use mathlib.Core.Path.{_≡_, refl, sym, ap, ap₂, subst, _∙_}
-use mathlib.Core.Bool.{Bool, true, false, _||_}
+use mathlib.Core.Bool.{true}
 use mathlib.Core.List.{List}
 use Prim.Native.Nat.{ℕ, _+_, _≤_, _<_}
 use native.Mathlib.Omega.{arith}
@@ -24,7 +24,8 @@ use Rattle.dialogue.proofs.Held.{idle, idle-is, idle-formed}
 use Rattle.conversation.specs.Conversation.{Talk, begun, converse, asking, stopped}
 use Rattle.conversation.specs.Ends.{Waits, Calls, anyone, by-serial, by-zeros, Enters, plainly, by-password, attemptsAfter, Roomy, StopsAfter, talkOf, Stops}
 use Rattle.conversation.proofs.Exchange.{Ended, stays-long}
-use Rattle.conversation.proofs.Course.{Ours, anyone as ours-any, this, Enters as EntersAs, plainly as enters-plainly, knowing, stage, Goes, right-at, courses, course-ends}
+use Rattle.conversation.proofs.Course.{Ours, any-meter, this-meter, EntersAs, as-plain, as-known, stage, Goes, right-at, courses, course-ends}
+use Rattle.conversation.proofs.Spoilt.{or-right}
 use Rattle.conversation.proofs.Started.{Began, sound, begins}
 
 -- ---- the meter that waits
@@ -45,19 +46,15 @@ waiting a g few good =
 
 -- ---- whom it calls, and how it enters
 
-either-true : (a b : Bool) → b ≡ true → (a || b) ≡ true
-either-true true b h = refl
-either-true false b h = h
-
 module _ (t : Told) (count : ℕ) (o : Opening) (b : Began t count o) where
   pub ours : (m : Meter) → Calls t m → Ours (sessionOf t count) (m .registers)
   unfolding sessionOf
-  ours m (anyone h) = ours-any (rw h)
+  ours m (anyone h) = any-meter (rw h)
   ours m (by-serial h e) =
-      this (rw h) (rw h (told-is (t .named) (goodSerial (t .serial)) (b .named) h)) (rw h (rw (e, same-self (m .registers .facts .serial))))
+      this-meter (rw h) (rw h (told-is (t .named) (goodSerial (t .serial)) (b .named) h)) (rw h (rw (e, same-self (m .registers .facts .serial))))
   ours m (by-zeros h e) =
-      this (rw h) (rw h (told-is (t .named) (goodSerial (t .serial)) (b .named) h))
-      (rw h (either-true (sameText (t .serial) (m .registers .facts .serial)) _ (rw e (same-self (replicate 10 48)))))
+      this-meter (rw h) (rw h (told-is (t .named) (goodSerial (t .serial)) (b .named) h))
+      (rw h (or-right (sameText (t .serial) (m .registers .facts .serial)) _ (rw e (same-self (replicate 10 48)))))
 
   -- the mode and the attempts that an entry leads to
   pub record Entered (m : Meter) : Type 0 where
@@ -68,21 +65,21 @@ module _ (t : Told) (count : ℕ) (o : Opening) (b : Began t count o) where
 
   pub knows : (m : Meter) → t .access ≡ 1 → t .password ≡ m .registers .facts .password → m .attempts < 3 → EntersAs (sessionOf t count) (m .attempts) (m .registers) 4 0
   unfolding sessionOf
-  knows m h e few = knowing (rw h) (rw h (told-is (t .access) (goodPassword (t .password)) (b .access) h)) (rw h e) few
+  knows m h e few = as-known (rw h) (rw h (told-is (t .access) (goodPassword (t .password)) (b .access) h)) (rw h e) few
 
   pub entered : (m : Meter) → Enters t m → Entered m
   unfolding sessionOf attemptsAfter
-  entered m (plainly h) = record { mode = 3; attempts = m .attempts; as-said = enters-plainly (rw h); after = rw h }
+  entered m (plainly h) = record { mode = 3; attempts = m .attempts; as-said = as-plain (rw h); after = rw h }
   entered m (by-password h e few) = record { mode = 4; attempts = 0; as-said = knows m h e few; after = rw h }
 
 pub few-after : (s : Session) (a : ℕ) (g : Registers) (mode b : ℕ) → a ≤ 3 → EntersAs s a g mode b → b ≤ 3
-few-after s a g mode b few (enters-plainly h) = few
-few-after s a g mode b few (knowing h p k l) = lit≤ tt
+few-after s a g mode b few (as-plain h) = few
+few-after s a g mode b few (as-known h p k l) = lit≤ tt
 
 pub known-mode : (s : Session) (a : ℕ) (g : Registers) (mode b : ℕ) → EntersAs s a g mode b → (mode ≤ 4) × (speedGood mode 5 ≡ true)
 unfolding speedGood
-known-mode s a g mode b (enters-plainly h) = (lit≤ tt, refl)
-known-mode s a g mode b (knowing h p k l) = (lit≤ tt, refl)
+known-mode s a g mode b (as-plain h) = (lit≤ tt, refl)
+known-mode s a g mode b (as-known h p k l) = (lit≤ tt, refl)
 
 -- ---- the whole
 

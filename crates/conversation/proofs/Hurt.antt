@@ -27,15 +27,12 @@ use Rattle.conversation.specs.Conversation.{Talk, replyTo, heardAs, exch
 use Rattle.conversation.specs.Ends.{Roomy, talkOf, Stops, MessageHurt, ReplyHurt}
 use Rattle.conversation.proofs.Exchange.{Sound, stands, heard-nak, heard-nothing}
 use Rattle.conversation.proofs.Started.{sound, some-began}
+use Rattle.conversation.proofs.Spoilt.{not-both}
 use Rattle.conversation.proofs.Stopping.{not-same}
 use Rattle.conversation.proofs.Damage.{Unheeded, unheeded}
 use Rattle.conversation.proofs.Shapes.{shaped}
 
 -- ---- a damaged reply is neither right nor the NAK
-
-not-both : {X : Type 0} (b : Bool) → b ≡ true → b ≡ false → X
-not-both true h k = absurd (let z : _≡_ {A = ℕ} 0 1 = cc in omega arith)
-not-both false h k = absurd (let z : _≡_ {A = ℕ} 0 1 = cc in omega arith)
 
 either-false : (b x y : Bool) → x ≡ false → y ≡ false → cond b x y ≡ false
 either-false true x y h k = h

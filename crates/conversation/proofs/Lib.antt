@@ -11,3 +11,4 @@ pub mod Spoilt
 pub mod Damage
 pub mod Shapes
 pub mod Hurt
+pub mod Instances

@@ -42,7 +42,7 @@ use Rattle.delivery.proofs.Rows.{tables-stay-good, others-kept, named-held}
 use Rattle.conversation.specs.Conversation.{Talk}
 use Rattle.conversation.specs.Ends.{Waits, Calls, Enters, plainly, by-password, Roomy, talkOf, Stops, PostDone}
 use Rattle.conversation.proofs.Exchange.{Right, acknowledged}
-use Rattle.conversation.proofs.Course.{Enters as EntersAs, renamed, stage, Goes, at-working}
+use Rattle.conversation.proofs.Course.{EntersAs, renamed, stage, Goes, at-working}
 use Rattle.conversation.proofs.Started.{sound, PostBegan, post-began}
 use Rattle.conversation.proofs.Done.{waits-is, ours, knows, stands-at, all-done}
 

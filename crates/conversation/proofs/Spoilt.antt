@@ -39,11 +39,11 @@ pub record Quiet (m : Meter) (c : ℕ) (o : Outcome) : Type 0 where
   pub spoilt : stray (m .mode) c ≡ false → Spoilt (o .next)
   pub modes : (x : ℕ) → stray (m .mode) x ≡ false → stray (o .next .mode) x ≡ false
 
-not-both : {X : Type 0} (b : Bool) → b ≡ true → b ≡ false → X
+pub not-both : {X : Type 0} (b : Bool) → b ≡ true → b ≡ false → X
 not-both true h k = absurd (let z : _≡_ {A = ℕ} 0 1 = cc in omega arith)
 not-both false h k = absurd (let z : _≡_ {A = ℕ} 0 1 = cc in omega arith)
 
-or-right : (a b : Bool) → b ≡ true → (a || b) ≡ true
+pub or-right : (a b : Bool) → b ≡ true → (a || b) ≡ true
 or-right true b h = refl
 or-right false b h = h
 
