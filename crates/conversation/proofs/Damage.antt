@@ -1,4 +1,4 @@
--- One damaged byte in a message: the meter keeps its registers, and says nothing or NAK at the last byte. Assumes nothing.
+-- One damaged byte in a message: the meter keeps its registers and its attempts, and says nothing or NAK at the last byte. Assumes nothing.
 use mathlib.Core.Path.{_≡_, refl, sym, ap, subst, _∙_}
 use mathlib.Core.Logic.{_⊎_, inl, inr, ⊎-elim}
 use mathlib.Core.Bool.{Bool, true, false, not, _&&_, _||_, and-false}
@@ -43,17 +43,17 @@ use Rattle.dialogue.proofs.Dialogue.{message-taken}
 use Rattle.conversation.specs.Conversation.{lastReply, replyTo}
 use Rattle.conversation.proofs.Spoilt.{Spoilt, stray, Quiet, damaged-quiet, spoilt-quiet}
 
--- ---- a byte that is answered 0 leaves the mode
+-- ---- a byte that is answered 0 leaves the mode and the attempts
 
 module _ (m : Meter) (c : ℕ) (d : Bool) where
   abbrev Stays : Outcome → Type 0
-  Stays o = o .number ≡ 0 → o .next .mode ≡ m .mode
+  Stays o = o .number ≡ 0 → (o .next .mode ≡ m .mode) × (o .next .attempts ≡ m .attempts)
 
   line-stays : m .mode ≡ 0 → Stays (lineEnded m)
   unfolding lineEnded
   line-stays z =
-      choice.either Stays (marked (m .receiver)) (λ e. sym z)
-      (choice.either Stays (signsOnBy (heldText (m .receiver)) (m .registers .facts .serial)) (λ e. absurd (omega arith)) (λ e. sym z))
+      choice.either Stays (marked (m .receiver)) (λ e. (sym z, refl))
+      (choice.either Stays (signsOnBy (heldText (m .receiver)) (m .registers .facts .serial)) (λ e. absurd (omega arith)) (λ e. (sym z, refl)))
 
   confirmed-stays : Stays (confirmed m c d)
   unfolding confirmed
@@ -103,17 +103,17 @@ module _ (m : Meter) (c : ℕ) (d : Bool) where
   heard-stays =
       let count = m .receiver .count in
       choice.told Heard (eqb (m .mode) 0)
-      (λ z. choice.either Heard (eqb c 47) (λ e. refl)
-      (choice.either Heard (eqb count 0) (λ e. refl)
-      (choice.either Heard (eqb c 10) (line-stays (eqb-true (m .mode) 0 z)) (choice.either Heard (leb 31 count) (λ e. refl) (λ e. refl)))))
-      (λ z. choice.either Heard (eqb (m .mode) 1) (choice.either Heard (leb 5 count) confirmed-stays (λ e. refl))
+      (λ z. choice.either Heard (eqb c 47) (λ e. (refl, refl))
+      (choice.either Heard (eqb count 0) (λ e. (refl, refl))
+      (choice.either Heard (eqb c 10) (line-stays (eqb-true (m .mode) 0 z)) (choice.either Heard (leb 31 count) (λ e. (refl, refl)) (λ e. (refl, refl))))))
+      (λ z. choice.either Heard (eqb (m .mode) 1) (choice.either Heard (leb 5 count) confirmed-stays (λ e. (refl, refl)))
       (choice.either Heard (not (eqb count 0) && eqb (lastHeld (m .receiver)) 3) (frame-stays (marked (m .receiver) || d))
-      (choice.either Heard (eqb c 1) (λ e. refl)
-      (choice.either Heard (eqb count 0) (λ e. refl) (choice.either Heard (leb heldPlaces count) (λ e. absurd (omega arith)) (λ e. refl))))))
+      (choice.either Heard (eqb c 1) (λ e. (refl, refl))
+      (choice.either Heard (eqb count 0) (λ e. (refl, refl)) (choice.either Heard (leb heldPlaces count) (λ e. absurd (omega arith)) (λ e. (refl, refl)))))))
 
-mode-stays : (m : Meter) (b : ℕ) → wellFormed m ≡ true → character m replyRoom b .number ≡ 0 → character m replyRoom b .next .mode ≡ m .mode
+byte-stays : (m : Meter) (b : ℕ) → wellFormed m ≡ true → Stays m (symbol b) (damagedAt b) (character m replyRoom b)
 unfolding character taken
-mode-stays m b f = rw f (heard-stays m (symbol b) (damagedAt b))
+byte-stays m b f = rw f (heard-stays m (symbol b) (damagedAt b))
 
 -- ---- the bytes before the damaged one
 
@@ -121,6 +121,7 @@ pub record Before (m next : Meter) : Type 0 where
   pub formed : wellFormed next ≡ true
   pub registers : next .registers ≡ m .registers
   pub mode : next .mode ≡ m .mode
+  pub attempts : next .attempts ≡ m .attempts
 
 first-number : List Said → ℕ
 first-number [] = 0
@@ -129,7 +130,7 @@ first-number (s ∷ ss) = s .number
 still-before : (bs more : List ℕ) (m : Meter) (n speed : ℕ) (said : Said) → wellFormed m ≡ true → answered m full (bs ++ more) ≡ atLast n speed said → length bs ≤ n
     → Before m (left m full bs)
 unfolding answered left first-number
-still-before [] more m n speed said f e h = record { formed = f; registers = refl; mode = refl }
+still-before [] more m n speed said f e h = record { formed = f; registers = refl; mode = refl; attempts = refl }
 still-before (b ∷ bs) more m zero speed said f e h = absurd (omega arith)
 still-before (b ∷ bs) more m (suc n) speed said f e h =
     let o = character m replyRoom b in
@@ -138,23 +139,25 @@ still-before (b ∷ bs) more m (suc n) speed said f e h =
     record {
       formed = rest .formed;
       registers = rest .registers ∙ refused-keeps m b replyRoom (λ one. omega arith);
-      mode = rest .mode ∙ mode-stays m b f none;
+      mode = rest .mode ∙ byte-stays m b f none .0;
+      attempts = rest .attempts ∙ byte-stays m b f none .1;
     }
 
 -- ---- the bytes after it
 
--- nothing or NAK at the last, and no register anew
+-- nothing or NAK at the last, no register anew, and no attempt counted
 pub record Spared (m : Meter) (bytes : List ℕ) : Type 0 where
   pub registers : left m full bytes .registers ≡ m .registers
+  pub attempts : left m full bytes .attempts ≡ m .attempts
   pub reply : (r : List ℕ) → (r ≡ []) ⊎ (r ≡ refused) → (lastReply r (answered m full bytes) ≡ []) ⊎ (lastReply r (answered m full bytes) ≡ refused)
 
 spared-none : (m : Meter) → Spared m []
 unfolding answered left lastReply
-spared-none m = record { registers = refl; reply = λ r h. h }
+spared-none m = record { registers = refl; attempts = refl; reply = λ r h. h }
 
 spared-next : (m : Meter) (b c : ℕ) (bs : List ℕ) → Quiet m c (character m replyRoom b) → Spared (character m replyRoom b .next) bs → Spared m (b ∷ bs)
 unfolding answered left lastReply
-spared-next m b c bs q s = record { registers = s .registers ∙ q .registers; reply = λ r h. s .reply (character m replyRoom b .reply) (q .reply) }
+spared-next m b c bs q s = record { registers = s .registers ∙ q .registers; attempts = s .attempts ∙ q .attempts; reply = λ r h. s .reply (character m replyRoom b .reply) (q .reply) }
 
 -- a character that opens nothing
 unfoldable pub calm : ℕ → ℕ → Bool
@@ -252,6 +255,7 @@ same-last m b bs r t = refl
 -- a message with one byte damaged
 pub record Unheeded (m : Meter) (rooms : ℕ → ℕ) (bytes : List ℕ) : Type 0 where
   pub registers : left m rooms bytes .registers ≡ m .registers
+  pub attempts : left m rooms bytes .attempts ≡ m .attempts
   pub reply : (replyTo m rooms bytes ≡ []) ⊎ (replyTo m rooms bytes ≡ refused)
 
 module _ (m : Meter) (x : Message) (good : goodMessage editionTables x ≡ true) (l : Listens m x) (s : Shape (m .mode) (textOf x))
@@ -297,5 +301,6 @@ module _ (m : Meter) (x : Message) (good : goodMessage editionTables x ≡ true)
       subst (Unheeded m rooms) (sym (set-split wire j b (omega (arith, wire-long))))
       (record {
         registers = ap (λ (n : Meter). n .registers) (both .1) ∙ after .registers ∙ before .registers;
+        attempts = ap (λ (n : Meter). n .attempts) (both .1) ∙ after .attempts ∙ before .attempts;
         reply = ⊎-elim (λ e. inl (said ∙ e)) (λ e. inr (said ∙ e)) (after .reply [] (inl refl));
       })

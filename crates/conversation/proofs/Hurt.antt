@@ -24,7 +24,7 @@ use Rattle.session.specs.Messages.{readOf, messageAt}
 use Rattle.session.specs.Starting.{Told, Opening, Opens}
 use Rattle.session.specs.Turns.{Turn, standing, rightRead, rightWork, rightAt, answered as judged, replied}
 use Rattle.conversation.specs.Conversation.{Talk, replyTo, heardAs, exchangeOf, stopped}
-use Rattle.conversation.specs.Ends.{Roomy, talkOf, Stops, MessageHurt, ReplyHurt}
+use Rattle.conversation.specs.Ends.{Roomy, talkOf, Stops, MessageHurt, ReplyStops}
 use Rattle.conversation.proofs.Exchange.{Sound, stands, heard-nak, heard-nothing}
 use Rattle.conversation.proofs.Started.{sound, some-began}
 use Rattle.conversation.proofs.Spoilt.{not-both}
@@ -37,6 +37,13 @@ use Rattle.conversation.proofs.Shapes.{shaped}
 either-false : (b x y : Bool) → x ≡ false → y ≡ false → cond b x y ≡ false
 either-false true x y h k = h
 either-false false x y h k = k
+
+-- a reply that is neither right nor the NAK
+heard-wrong : (reply : List ℕ) → (length reply ≡ 0 → ⊥) → refuses reply ≡ false → (s : Session) (work : List ℕ) → Sound s → (n : ℕ) → 1 ≤ n → n ≤ s .count + 4
+    → (room : ℕ) → 64 ≤ room → rightAt s work n reply ≡ false → heardAs (standing s n 0) work reply room ≡ stopped s n 3
+unfolding heardAs replied judged rightAt rightWork
+heard-wrong reply some no-nak s work good n low high room long wrong =
+    rw (ne-eqb (length reply) 0 some, le-ltb room 64 long, stands s work good n low high, no-nak, wrong)
 
 module _ (reply : List ℕ) (hurt : undamagedAll reply ≡ false) where
   -- nothing that is sent comes so
@@ -75,9 +82,7 @@ module _ (reply : List ℕ) (hurt : undamagedAll reply ≡ false) where
 
   pub heard-hurt : (s : Session) (work : List ℕ) → Sound s → (n : ℕ) → 1 ≤ n → n ≤ s .count + 4 → (room : ℕ) → 64 ≤ room
       → heardAs (standing s n 0) work reply room ≡ stopped s n 3
-  unfolding heardAs replied judged
-  heard-hurt s work good n low high room long =
-      rw (ne-eqb (length reply) 0 some-bytes, le-ltb room 64 long, stands s work good n low high, no-nak, no-right (standing s n 0) work n)
+  heard-hurt s work good n low high room long = heard-wrong reply some-bytes no-nak s work good n low high room long (no-right s work n)
 
 -- a reply with one byte damaged is one that has a damaged byte
 pub hurt-at : (l : List ℕ) (j b : ℕ) → j < length l → damagedAt b ≡ true → undamagedAll (set l j b) ≡ false
@@ -104,13 +109,24 @@ module _ (t : Told) (work : List ℕ) (room : ℕ) (o : Opening) (opens : Opens 
   abbrev here : Talk
   here = talkOf t work o m rooms buffers k
 
+  -- what the head makes of a reply there
+  there-stops : (reply : List ℕ) (e : ℕ) → heardAs (standing s (k + 1) 0) work reply (buffers k) ≡ stopped s (k + 1) e → ReplyStops t work o m rooms buffers k reply e
+  there-stops reply e is = record { stops = ap (λ (u : Turn). heardAs (u .next) work reply (buffers k)) (st .going k h) ∙ is }
+
   -- any reply that has a damaged byte
-  pub damaged-reply-stops : (reply : List ℕ) → undamagedAll reply ≡ false → ReplyHurt t work o m rooms buffers k reply
-  damaged-reply-stops reply hurt =
-      record {
-        stops = ap (λ (u : Turn). heardAs (u .next) work reply (buffers k)) (st .going k h)
-            ∙ heard-hurt reply hurt s work good (k + 1) (omega arith) within (buffers k) (roomy .messages k);
-      }
+  pub damaged-reply-stops : (reply : List ℕ) → undamagedAll reply ≡ false → ReplyStops t work o m rooms buffers k reply 3
+  damaged-reply-stops reply hurt = there-stops reply 3 (heard-hurt reply hurt s work good (k + 1) (omega arith) within (buffers k) (roomy .messages k))
+
+  -- any other reply that is not the right one, a NAK, and none
+  pub wrong-reply-stops : (reply : List ℕ) → (length reply ≡ 0 → ⊥) → refuses reply ≡ false → rightAt s work (k + 1) reply ≡ false → ReplyStops t work o m rooms buffers k reply 3
+  wrong-reply-stops reply some no-nak wrong =
+      there-stops reply 3 (heard-wrong reply some no-nak s work good (k + 1) (omega arith) within (buffers k) (roomy .messages k) wrong)
+
+  pub nak-stops : ReplyStops t work o m rooms buffers k (onWire refused) 2
+  nak-stops = there-stops (onWire refused) 2 (heard-nak s work good (k + 1) (omega arith) within (buffers k) (roomy .messages k))
+
+  pub silence-stops : ReplyStops t work o m rooms buffers k [] 4
+  silence-stops = there-stops [] 4 (heard-nothing s work good (k + 1) (omega arith) within (buffers k) (roomy .messages k))
 
   -- any message with one byte damaged
   pub damaged-message-stops : (j b : ℕ) → j < length (here .turn .text) → damagedAt b ≡ true → MessageHurt t work o m rooms buffers k j b
@@ -133,4 +149,5 @@ module _ (t : Told) (work : List ℕ) (room : ℕ) (o : Opening) (opens : Opens 
             ⊎-elim (λ e. inr (turned [] e ∙ heard-nothing s work good (k + 1) (omega arith) within (buffers k) (roomy .messages k)))
             (λ e. inl (turned refused e ∙ heard-nak s work good (k + 1) (omega arith) within (buffers k) (roomy .messages k))) (same .reply);
         registers = same .registers;
+        attempts = same .attempts;
       }

@@ -32,9 +32,10 @@ Spoilt m = (marked (m .receiver) ≡ true) ⊎ ((m .receiver .count ≡ 0) × (m
 unfoldable pub stray : ℕ → ℕ → Bool
 stray mode c = (leb 2 mode && eqb c 1) || (leb mode 2 && eqb c 47)
 
--- nothing or NAK, and no register anew
+-- nothing or NAK, no register anew, and no attempt counted
 pub record Quiet (m : Meter) (c : ℕ) (o : Outcome) : Type 0 where
   pub registers : o .next .registers ≡ m .registers
+  pub attempts : o .next .attempts ≡ m .attempts
   pub reply : (o .reply ≡ []) ⊎ (o .reply ≡ refused)
   pub spoilt : stray (m .mode) c ≡ false → Spoilt (o .next)
   pub modes : (x : ℕ) → stray (m .mode) x ≡ false → stray (o .next .mode) x ≡ false
@@ -62,7 +63,7 @@ module _ (m : Meter) (c : ℕ) (d : Bool) where
 
   hold-quiet : seen ≡ true → Quiet m c (heard m c d Hold)
   unfolding heard
-  hold-quiet h = record { registers = refl; reply = inl refl; spoilt = λ e. inl (still d (m .receiver .mark) h); modes = λ x e. e }
+  hold-quiet h = record { registers = refl; attempts = refl; reply = inl refl; spoilt = λ e. inl (still d (m .receiver .mark) h); modes = λ x e. e }
     where
       still : (d : Bool) (mark : ℕ) → (eqb mark 1 || d) ≡ true → eqb (cond d 1 mark) 1 ≡ true
       still true mark h = refl
@@ -70,29 +71,30 @@ module _ (m : Meter) (c : ℕ) (d : Bool) where
 
   drop-quiet : m .receiver .count ≡ 0 → (m .mode ≡ 1 → ⊥) → Quiet m c (heard m c d Drop)
   unfolding heard
-  drop-quiet h k = record { registers = refl; reply = inl refl; spoilt = λ e. inr (h, k); modes = λ x e. e }
+  drop-quiet h k = record { registers = refl; attempts = refl; reply = inl refl; spoilt = λ e. inr (h, k); modes = λ x e. e }
 
   empty-quiet : (m .mode ≡ 1 → ⊥) → Quiet m c (heard m c d Empty)
   unfolding heard
-  empty-quiet k = record { registers = refl; reply = inl refl; spoilt = λ e. inr (refl, k); modes = λ x e. e }
+  empty-quiet k = record { registers = refl; attempts = refl; reply = inl refl; spoilt = λ e. inr (refl, k); modes = λ x e. e }
 
   restart-quiet : stray (m .mode) c ≡ true → Quiet m c (heard m c d Restart)
   unfolding heard
-  restart-quiet h = record { registers = refl; reply = inl refl; spoilt = λ e. not-both (stray (m .mode) c) h e; modes = λ x e. e }
+  restart-quiet h = record { registers = refl; attempts = refl; reply = inl refl; spoilt = λ e. not-both (stray (m .mode) c) h e; modes = λ x e. e }
 
   line-quiet : m .mode ≡ 0 → marked (m .receiver) ≡ true → Quiet m c (heard m c d Line)
   unfolding heard lineEnded
-  line-quiet z h = rw h (record { registers = refl; reply = inl refl; spoilt = λ e. inr (refl, λ q. omega arith); modes = λ x e. falls (m .mode) x (omega arith) e })
+  line-quiet z h = rw h (record { registers = refl; attempts = refl; reply = inl refl; spoilt = λ e. inr (refl, λ q. omega arith); modes = λ x e. falls (m .mode) x (omega arith) e })
 
   confirm-quiet : m .mode ≡ 1 → seen ≡ true → Quiet m c (heard m c d Confirm)
   unfolding heard confirmed
-  confirm-quiet z h = rw h (record { registers = refl; reply = inl refl; spoilt = λ e. inr (refl, λ q. omega arith); modes = λ x e. falls (m .mode) x (omega arith) e })
+  confirm-quiet z h = rw h (record { registers = refl; attempts = refl; reply = inl refl; spoilt = λ e. inr (refl, λ q. omega arith); modes = λ x e. falls (m .mode) x (omega arith) e })
 
   nak-quiet : (n : ℕ) → (m .mode ≡ 1 → ⊥) → Quiet m c (nak n m)
   unfolding fallen
   nak-quiet n k =
       record {
         registers = refl;
+        attempts = refl;
         reply = inr refl;
         spoilt = λ e. inr (refl, choice.told (λ (i : ℕ). i ≡ 1 → ⊥) (eqb (m .mode) 2) (λ two q. omega arith) (λ not-two. k));
         modes = λ x e. choice.told (λ (i : ℕ). stray i x ≡ false) (eqb (m .mode) 2) (λ two. falls (m .mode) x (omega (arith, eqb-true (m .mode) 2 two)) e) (λ not-two. e);

@@ -105,11 +105,12 @@ module _ (t : Told) (work : List ℕ) (o : Opening) (m : Meter) (rooms : ℕ →
   abbrev pub hurtAfter : ℕ → ℕ → ℕ → Talk
   hurtAfter k j b = exchangeOf (rooms k) (buffers k) work (talkOf k) (set (onWire (talkOf k .turn .text)) j b)
 
-  -- the head stops at that message, with NAK or silence, and the registers are as the messages before left them
+  -- the head stops at that message, with NAK or silence; the registers and the attempts are as the messages before left them
   pub record MessageHurt (k j b : ℕ) : Type 0 where
     pub stops : (hurtAfter k j b .turn ≡ stopped (o .session) (k + 1) 2) ⊎ (hurtAfter k j b .turn ≡ stopped (o .session) (k + 1) 4)
     pub registers : hurtAfter k j b .meter .registers ≡ talkOf k .meter .registers
+    pub attempts : hurtAfter k j b .meter .attempts ≡ talkOf k .meter .attempts
 
-  -- these bytes come as the reply: the head stops at that message, with a wrong reply
-  pub record ReplyHurt (k : ℕ) (reply : List ℕ) : Type 0 where
-    pub stops : heardAs (talkOf k .turn .next) work reply (buffers k) ≡ stopped (o .session) (k + 1) 3
+  -- these bytes come as the reply in the exchange after so many: the head stops at that message, with this fact
+  pub record ReplyStops (k : ℕ) (reply : List ℕ) (fact : ℕ) : Type 0 where
+    pub stops : heardAs (talkOf k .turn .next) work reply (buffers k) ≡ stopped (o .session) (k + 1) fact
