@@ -8,7 +8,8 @@
  * The record is the host's: it may lie anywhere and may be kept, copied or stored as it is. Any bytes at all may stand there;
  * a record that no session reaches is told by DIRGEMIST_SESSION_NONE and left as it was. The work is not kept in the record: the
  * host lends it with each call, and each message is made from the work of that call. Work from which the next message can't be
- * made is told by the same number; other work that will do gives the messages of that work.
+ * made is told by the same number; other work that will do gives the messages of that work. Of a post only the line that is sent
+ * next is looked at then, and a byte that a list of reads lacks counts as 0.
  * The functions keep nothing between calls: two sessions may be held from two threads at once. Each is proved, for all records,
  * numbers and buffers, to do what its paragraph says. Pointers must not be null, and what they point to must not overlap; where a
  * length is 0, its pointer is never read or written through. Every number handed out is always written.
