@@ -7,11 +7,15 @@
 #include "dirgemist.h"
 #include "dirgemist_head.h"
 #include "dirgemist_mercury.h"
+#include "dirgemist_session.h"
 
 /* No buffer greater than this is lent. A call compares its room with what goes into it and with
  * nothing else, and no line makes more than BYTES_MOST bytes: in a greater room every answer is the
  * same, and the bytes that would follow are FILLING, which is not shown. */
 #define ROOM_LENT (BYTES_MOST + 1)
+
+/* The most bytes of a text: those of a word, or two for each word that is a read. */
+#define TEXT_MOST (2 * WORDS_MOST)
 
 /* ---- The words of a call: what each must be, and what they are. */
 
@@ -41,7 +45,7 @@ struct call {
 };
 
 static struct buffer buffer;                /* what a call writes to */
-static struct pages texts[2];               /* what it only reads: two texts a line at most */
+static struct pages texts[3];               /* what it only reads: three texts a line at most */
 static size_t texts_taken;
 static bool text_at_the_start;
 
@@ -275,6 +279,106 @@ static void mercury_read(const struct given *g) {
     put('\n');
 }
 
+/* ---- A session: it is told all at once, and hears a reply or silence at a time. Its work is kept,
+ * and lent with each call. */
+
+static struct dirgemist_session *session;
+static bool in_session; /* one that was started, and not refused */
+static struct pages kept;
+static struct given kept_work;
+
+/* What is told in hex, or by a name that nothing is. */
+static bool take_or(const char *nothing, struct word word, struct given *given) {
+    given->number = !is(word, nothing);
+    return take_text(given->number == 0 ? (struct word){"-", 1} : word, given);
+}
+
+/* A read: its letter, and of an energy or a table the number. */
+static bool take_read(struct word word, uint8_t *read) {
+    uint64_t number = 0;
+    bool plain = is(word, "T") || is(word, "L") || is(word, "K");
+    bool numbered = word.length > 1 && (*word.start == 'E' || *word.start == 'Z') &&
+                    number_of((struct word){word.start + 1, word.length - 1}, UINT8_MAX, &number);
+    read[0] = word.length > 0 ? (uint8_t)*word.start : 0;
+    read[1] = (uint8_t)number;
+    return plain || numbered;
+}
+
+/* `post` and its text, or `reads` and then each of them. */
+static bool take_work(const struct word *words, size_t count, struct given *given) {
+    given->number = is(words[0], "post");
+    if (given->number == 1) {
+        return count == 2 && take_text(words[1], given);
+    }
+    given->length = 2 * (count - 1);
+    uint8_t *reads = placed(texts[texts_taken++], given->length, text_at_the_start);
+    given->text = reads;
+    bool good = is(words[0], "reads");
+    for (size_t at = 1; at < count && good; at++) {
+        good = take_read(words[at], reads + 2 * (at - 1));
+    }
+    return good;
+}
+
+static void keep(const struct given *work) {
+    uint8_t *place = placed(kept, work->length, text_at_the_start);
+    memcpy(place, work->text, work->length);
+    kept_work = *work;
+    kept_work.text = place;
+}
+
+static bool start_session(const struct word *words, size_t count) {
+    struct given serial, password, work;
+    texts_taken = 0;
+    text_at_the_start = !text_at_the_start;
+    if (count < 3 || !take_or("any", words[0], &serial) || !take_or("open", words[1], &password) ||
+        !take_work(words + 2, count - 2, &work)) {
+        return false;
+    }
+    uint8_t *out = room_lent(DIRGEMIST_SESSION_ROOM);
+    size_t *length = numbers[0], *place = numbers[1];
+    uint8_t answer = dirgemist_session_start(
+        session, (uint8_t)serial.number, serial.text, serial.length, (uint8_t)password.number,
+        password.text, password.length, (uint8_t)work.number, work.text, work.length, out,
+        buffer.room, length, place);
+    put_written(answer, *place, *length);
+    in_session = answer == DIRGEMIST_SESSION_DONE;
+    if (in_session) {
+        keep(&work);
+    }
+    return true;
+}
+
+/* How the session stands, the number of a message, and the next message. */
+static void put_turn(uint8_t answer, uint8_t fact, uint8_t message, size_t length) {
+    static const char *const facts[] = {"next", "done", "nak", "wrong", "silence"};
+    if (answer != DIRGEMIST_SESSION_DONE || fact >= COUNT(facts)) {
+        put_text("error\n");
+        return;
+    }
+    put_text(facts[fact]);
+    put(' ');
+    put_number(message);
+    put(' ');
+    put_buffer(&buffer, length);
+    put('\n');
+}
+
+static void reply(const struct given *g) {
+    uint8_t *out = room_lent(DIRGEMIST_SESSION_ROOM);
+    uint8_t *fact = shorts[0], *message = shorts[1];
+    uint8_t answer = dirgemist_session_reply(session, kept_work.text, kept_work.length, T(0), out,
+                                             buffer.room, fact, message, numbers[0]);
+    put_turn(answer, *fact, *message, *numbers[0]);
+}
+
+static void quiet(const struct given *g) {
+    (void)g;
+    room_lent(0);
+    uint8_t answer = dirgemist_session_silence(session, shorts[0], shorts[1]);
+    put_turn(answer, *shorts[0], *shorts[1], 0);
+}
+
 static const struct call calls[] = {
     {"build", "any", 1, {ROOM}, any},
     {"build", "serial", 2, {ROOM, TEXT}, serial},
@@ -304,9 +408,22 @@ static const struct call calls[] = {
     {"part", "", 1, {TEXT}, part},
     {"next", "", 2, {ROOM, TEXT}, next},
     {"find", "", 2, {TEXT, TEXT}, find},
+    {"reply", "", 1, {TEXT}, reply},
+    {"quiet", "", 0, {0}, quiet},
 };
 
+/* Whether a line asks of a session that there is not. */
+static bool needs_session(struct word name) {
+    return !in_session && (is(name, "reply") || is(name, "quiet"));
+}
+
 static bool play(const struct word *words, size_t count) {
+    if (needs_session(words[0])) {
+        return false;
+    }
+    if (is(words[0], "session")) {
+        return start_session(words + 1, count - 1);
+    }
     for (size_t at = 0; at < COUNT(calls); at++) {
         const struct call *call = &calls[at];
         size_t names = *call->second == '\0' ? 1 : 2;
@@ -321,7 +438,7 @@ static bool play(const struct word *words, size_t count) {
 int main(void) {
     buffer = buffer_for(ROOM_LENT);
     for (size_t at = 0; at < COUNT(texts); at++) {
-        texts[at] = guarded(BYTES_MOST);
+        texts[at] = guarded(TEXT_MOST);
     }
     for (size_t at = 0; at < NUMBERS; at++) {
         numbers[at] = own(sizeof *numbers[at]);
@@ -334,6 +451,8 @@ int main(void) {
     for (size_t at = 0; at < COUNT(quantities); at++) {
         quantities[at] = own(sizeof *quantities[at]);
     }
+    session = own(sizeof *session);
+    kept = guarded(TEXT_MOST);
     play_all(play);
     return 0;
 }

@@ -10,7 +10,7 @@
 
 #define LINE_MOST 262143           /* characters of a line; a longer one is an error */
 #define BYTES_MOST (LINE_MOST / 2) /* so many bytes can a word of a line have at most */
-#define WORDS_MOST 256             /* a line of more words is an error */
+#define WORDS_MOST ((LINE_MOST + 1) / 2) /* a line of more has an empty word, and is an error */
 #define FILLING 0xAA               /* what a lent buffer holds before the call */
 
 #define COUNT(array) (sizeof(array) / sizeof *(array))

@@ -2,3 +2,4 @@ pub mod fast_head;
 pub mod fast_mercury;
 pub mod fast_meter;
 pub mod fast_post;
+pub mod fast_session;

@@ -1,18 +1,19 @@
 //! Dirgemist for Rust: the proved libraries behind safe functions.
 //!
 //! [`post`] checks posts of tariff tables and turns them into frames, [`head`] builds what a reading
-//! head says and reads what a meter replies, [`meter`] is the meter itself, and [`mercury`] reads a
-//! meter of that family beside it. Every call takes any
+//! head says and reads what a meter replies, [`session`] holds its whole conversation, [`meter`] is
+//! the meter itself, and [`mercury`] reads a meter of that family beside it. Every call takes any
 //! bytes and any numbers, answers by a number and writes nothing outside what it was lent. The
 //! headers in `include/` say what each number means; here stand only the words that Rust needs.
 //!
 //! Nothing is kept between calls and nothing is allocated. The archives are made by
-//! `hosts/archive forum headlink firmware keeping mercurylink`.
+//! `hosts/archive forum headlink firmware keeping mercurylink sessionlink`.
 
 pub mod head;
 pub mod mercury;
 pub mod meter;
 pub mod post;
+pub mod session;
 
 /// What stands in a number handed out before the call. The libraries write every one of them, and a
 /// trial would see that one did not.

@@ -4,18 +4,111 @@ use crate::bench::{decimal, exactly, hex, put_hex, FILLING, LINE_MOST};
 use crate::head::{self, answer, Clock, Command, Kind};
 use crate::mercury::{self, Read};
 use crate::post;
+use crate::session::{self, fact, work, Heard, Session, Told};
 use std::io::{self, BufRead, Write};
 
 /// The most room that is lent. Nothing that a line can ask for is longer than the line, so in any
 /// greater room the answer is the same, and so is what is shown.
 const ROOM_LENT: usize = LINE_MOST;
 
-/// The answer to one line, given without its LF; nothing for an error.
-pub fn answer(line: &[u8]) -> Option<String> {
-    if line.len() > LINE_MOST {
-        return None;
+/// A head on the bench: the session that was started last, and its work.
+#[derive(Default)]
+pub struct Bench {
+    session: Option<(Session, Vec<u8>)>,
+}
+
+impl Bench {
+    /// The session that goes on or has ended, and its work.
+    pub fn session(&self) -> Option<(&Session, &[u8])> {
+        self.session
+            .as_ref()
+            .map(|(session, work)| (session, &work[..]))
     }
-    let words: Vec<&[u8]> = line.split(|&byte| byte == b' ').collect();
+
+    /// The answer to one line, given without its LF; nothing for an error.
+    pub fn answer(&mut self, line: &[u8]) -> Option<String> {
+        if line.len() > LINE_MOST {
+            return None;
+        }
+        let words: Vec<&[u8]> = line.split(|&byte| byte == b' ').collect();
+        match words[..] {
+            [b"session", start, access, ref work @ ..] => self.start(start, access, work),
+            [b"reply", reply] => {
+                let (reply, mut out) = (hex(reply)?, [FILLING; head::COMMAND_ROOM]);
+                let (session, work) = self.session.as_mut()?;
+                let heard = session.reply(work, &reply, &mut out);
+                Some(heard_shown(&heard, &out))
+            }
+            [b"quiet"] => {
+                let (session, _) = self.session.as_mut()?;
+                Some(heard_shown(&session.silence(), &[]))
+            }
+            _ => call(&words),
+        }
+    }
+
+    /// A session started; one that is refused leaves none.
+    fn start(&mut self, start: &[u8], access: &[u8], given: &[&[u8]]) -> Option<String> {
+        let field = |word: &[u8], without: &[u8]| match word == without {
+            true => Some((0, Vec::new())),
+            false => Some((1, hex(word)?)),
+        };
+        let (named, serial) = field(start, b"any")?;
+        let (access, password) = field(access, b"open")?;
+        let (kind, work) = match given {
+            [b"post", text] => (work::POST, hex(text)?),
+            [b"reads", reads @ ..] => {
+                let reads: Option<Vec<[u8; 2]>> = reads.iter().map(|read| read_of(read)).collect();
+                (work::READS, reads?.concat())
+            }
+            _ => return None,
+        };
+        let told = Told {
+            named,
+            serial: &serial,
+            access,
+            password: &password,
+            kind,
+            work: &work,
+        };
+        let (mut session, mut out) = (Session::default(), [FILLING; head::COMMAND_ROOM]);
+        let started = session::start(&mut session, &told, &mut out);
+        self.session = (started.number == session::answer::DONE).then_some((session, work));
+        Some(written(started.number, started.place, started.length, &out))
+    }
+}
+
+/// A read of a list, as `session` takes it: the letter, and the number of those that have one.
+fn read_of(word: &[u8]) -> Option<[u8; 2]> {
+    match word {
+        [b'T' | b'L' | b'K'] => Some([word[0], 0]),
+        [b'E' | b'Z', number @ ..] => Some([word[0], decimal(number)?]),
+        _ => None,
+    }
+}
+
+fn heard_shown(heard: &Heard, out: &[u8]) -> String {
+    let word = match heard.fact {
+        fact::GOES_ON => "next",
+        fact::OVER => "done",
+        fact::NAK => "nak",
+        fact::WRONG => "wrong",
+        _ => "silence",
+    };
+    let changed = out.iter().rposition(|&byte| byte != FILLING);
+    let shown = heard.length.max(changed.map_or(0, |place| place + 1));
+    let mut line = format!("{word} {} ", heard.message);
+    put_hex(&mut line, &out[..shown]);
+    line
+}
+
+/// The answer to a line of its own, which no session takes part in.
+pub fn answer(line: &[u8]) -> Option<String> {
+    Bench::default().answer(line)
+}
+
+/// A call that keeps nothing.
+fn call(words: &[&[u8]]) -> Option<String> {
     match words[..] {
         [b"build", name, room, ref fields @ ..] => build(name, room, fields),
         [b"value", kind, value] => value_of(kind, value),
@@ -175,12 +268,13 @@ fn written(number: u8, beside: usize, length: usize, buffer: &[u8]) -> String {
 /// Plays a script from start to end; the last line may lack its LF.
 pub fn run(mut script: impl BufRead, mut transcript: impl Write) -> io::Result<()> {
     let mut line = Vec::new();
+    let mut bench = Bench::default();
     loop {
         line.clear();
         if script.read_until(b'\n', &mut line)? == 0 {
             return transcript.flush();
         }
-        let told = answer(line.strip_suffix(b"\n").unwrap_or(&line));
+        let told = bench.answer(line.strip_suffix(b"\n").unwrap_or(&line));
         transcript.write_all(told.as_deref().unwrap_or("error").as_bytes())?;
         transcript.write_all(b"\n")?;
     }
@@ -265,6 +359,100 @@ mod tests {
                 _ => format!("{told}\n"),
             };
             assert_eq!(String::from_utf8(got).unwrap(), wanted, "{asked}");
+        }
+    }
+
+    /// Lines of one script, each with what it is answered.
+    fn played(lines: &[(&str, &str)]) {
+        let asked: String = lines
+            .iter()
+            .map(|(asked, _)| format!("{asked}\n"))
+            .collect();
+        let mut got = Vec::new();
+        run(asked.as_bytes(), &mut got).unwrap();
+        let got = String::from_utf8(got).unwrap();
+        for (got, (asked, told)) in got.lines().zip(lines) {
+            assert_eq!(&got, told, "{asked}");
+        }
+        assert_eq!(got.lines().count(), lines.len());
+    }
+
+    const IDENTIFIED: &str = "reply af5a5a5a355355422d565030b12e3030aa8d0a";
+    const ASKED: &str = "reply 815030822830303030a90360";
+
+    #[test]
+    fn a_session_by_hand() {
+        let serial = "3132333435363738393030";
+        played(&[
+            ("quiet", "error"),
+            ("reply 06", "error"),
+            ("session any open reads L", "1 0 af3f218d0a"),
+            (IDENTIFIED, "next 2 063035b18d0a"),
+            ("session any open reads X", "error"),
+            (ASKED, "next 3 8150b18228a903e1"),
+            ("reply 06", "next 4 81d2b182cc28a903af"),
+            ("reply 06", "wrong 4 -"),
+            ("reply 95", "wrong 4 -"),
+            ("quiet", "wrong 4 -"),
+            (
+                &format!("session {} open reads Z24 E0", &serial[..20]),
+                "1 0 af3fb1b233a0b43536b7b83930218d0a",
+            ),
+            ("reply 95", "nak 1 -"),
+            ("session any open reads Z24 E0", "1 0 af3f218d0a"),
+            ("quiet", "silence 1 -"),
+            ("reply 06", "silence 1 -"),
+            ("session any open reads", "28 0 -"),
+            ("quiet", "error"),
+        ]);
+    }
+
+    #[test]
+    fn a_session_that_is_done() {
+        let line = format!("3133312e302e303128{}290d0a", "31".repeat(24));
+        let frame = format!("81d7b1825a2830b1bb{}a90306", "b1".repeat(24));
+        played(&[
+            (
+                &format!("session any 3230333034303530 post {line}210d0a"),
+                "1 0 af3f218d0a",
+            ),
+            (IDENTIFIED, "next 2 063035b18d0a"),
+            (ASKED, "next 3 8150b18228b2303330b4303530a903e1"),
+            ("reply 06", &format!("next 4 {frame}")),
+            ("reply 06", "next 5 8142300371"),
+            ("reply 06", "done 5 -"),
+            ("quiet", "done 5 -"),
+            ("reply -", "done 5 -"),
+        ]);
+    }
+
+    #[test]
+    fn sessions_refused() {
+        let many = " T".repeat(33);
+        for (asked, told) in [
+            (&format!("session any open reads{many}")[..], "29 0 -"),
+            (&format!("session - open reads{}", &many[2..]), "9 0 -"),
+            ("session any open post 31333132", "20 3 -"),
+            ("session any open post -", "20 0 -"),
+            ("session any open reads E5", "9 0 -"),
+            ("session any open reads Z0", "9 0 -"),
+            ("session any open reads E255", "9 0 -"),
+            ("session any open reads E256", "error"),
+            ("session any open reads E", "error"),
+            ("session any open reads T0", "error"),
+            ("session any open reads G1", "error"),
+            ("session any open reads t", "error"),
+            ("session any - reads T", "9 0 -"),
+            ("session any open post", "error"),
+            ("session any open post - -", "error"),
+            ("session any open", "error"),
+            ("session any open T", "error"),
+            ("session 1 open reads T", "error"),
+            ("session any open reads ", "error"),
+            ("quiet 1", "error"),
+            ("reply", "error"),
+        ] {
+            played(&[(asked, told)]);
         }
     }
 }

@@ -5,3 +5,4 @@ pub mod line;
 pub mod mercury;
 pub mod meter;
 pub mod post;
+pub mod session;

@@ -6,4 +6,5 @@ pub mod head_words;
 pub mod memory;
 pub mod program;
 pub mod record;
+pub mod session_words;
 pub mod words;

@@ -4,8 +4,10 @@ use model::bench::{put_hex, LINE_MOST};
 use model::head::{block, on_the_wire};
 use model::mercury::{closed, energy};
 use model::post::{text_of, Table};
+use model::session::Session;
 use trials::chance::Chance;
 use trials::head_words::{ACCOUNT, ADDRESS, DIGITS, VALUE, ZONES};
+use trials::session_words;
 
 fn hex(bytes: &[u8]) -> String {
     let mut line = String::new();
@@ -92,12 +94,61 @@ pub fn fixed() -> Vec<Vec<u8>> {
         "find 41",
         "find 41 - -",
         "find 4 -",
+        "quiet",
+        "reply 06",
+        "session",
+        "session any",
+        "session any open",
         "session any open reads",
+        "quiet",
+        "session any open reads T",
+        "reply af5a5a5a355355422d565030b12e3030aa8d0a",
+        "session any open reads G0",
+        "session any open reads E256",
+        "session any open reads E",
+        "session any open reads E-1",
+        "session any open reads T1",
+        "session any open reads ",
+        "session any open reads T  T",
+        "session any open reads t",
+        "session any open posts -",
+        "session any open post",
+        "session any open post - -",
+        "session any open read T",
+        "session Any open reads T",
+        "session 3 open reads T",
+        "session any 3 reads T",
+        "session any open post 3",
+        "quiet 1",
+        "quiet ",
+        "reply",
+        "reply 0",
+        "reply 06 06",
+        "reply 815030822830303030a90360",
+        "reply 06",
+        "reply 95",
+        "reply 06",
+        "quiet",
+        "session - open reads T",
+        "session any - reads T",
+        "reply 06",
+        "session any open post -",
+        "session any open reads E0 E1 E2 E3 E4 E5",
+        "session any open reads Z1 Z024 Z24 Z25",
+        "session any open reads Z0",
+        "session any open reads Z000000000000000000001 E00",
+        "reply -",
         "dump",
         "\0",
     ]
     .map(|line| line.into())
     .into();
+    // Lists of so many reads, and lists of so many words that a bench has to keep them somewhere.
+    for count in [31, 32, 33, 252, 253, 254, 255, 256, 257, 1_000, 131_059] {
+        let mut line = b"session any open reads".to_vec();
+        line.extend(b" T".repeat(count));
+        lines.push(line);
+    }
     // The longest line there is, and one more.
     for length in [LINE_MOST, LINE_MOST + 1, LINE_MOST + 2, 3 * LINE_MOST] {
         for start in ["check ", "strip 999999 ", "strip 0099999 "] {
@@ -110,9 +161,9 @@ pub fn fixed() -> Vec<Vec<u8>> {
     lines
 }
 
-/// A line of some kind.
-pub fn any(chance: &mut Chance) -> Vec<u8> {
-    let line = match chance.weighed(&[40, 12, 6, 12, 18, 6, 8, 10, 10]) {
+/// A line of some kind, where this session goes on.
+pub fn any(chance: &mut Chance, session: Option<(&Session, &[u8])>) -> Vec<u8> {
+    let line = match chance.weighed(&[40, 12, 6, 12, 18, 6, 8, 10, 10, 8, 60, 2]) {
         0 => build(chance),
         1 => strip(chance),
         2 => part(chance),
@@ -121,7 +172,10 @@ pub fn any(chance: &mut Chance) -> Vec<u8> {
         5 => format!("check {}", hex(&post(chance))),
         6 => export(chance),
         7 => find(chance),
-        _ => mercury(chance),
+        8 => mercury(chance),
+        9 => start(chance),
+        10 => reply(chance, session),
+        _ => "quiet".into(),
     };
     let mut line = line.into_bytes();
     if chance.percent(12) {
@@ -369,6 +423,84 @@ fn mercury(chance: &mut Chance) -> String {
         answer[place] ^= 1 << chance.below(8);
     }
     format!("mercury read {address} {}", hex(&answer))
+}
+
+/// A session with just so many messages of work.
+pub fn session(chance: &mut Chance, kind: &str, count: usize) -> Vec<u8> {
+    let line = match kind {
+        "post" => {
+            let text = session_words::post(chance, count);
+            format!("session any 3230333034303530 post {}", hex(&text))
+        }
+        _ => (0..count).fold("session any open reads".into(), |line, _| {
+            format!("{line} {}", read(chance))
+        }),
+    };
+    line.into_bytes()
+}
+
+/// The right reply, while the session goes on.
+pub fn right(chance: &mut Chance, session: Option<(&Session, &[u8])>) -> Option<Vec<u8>> {
+    let (session, work) = session.filter(|(session, _)| session.fact == 0)?;
+    let reply = session_words::right(chance, session, work);
+    Some(format!("reply {}", hex(&reply)).into_bytes())
+}
+
+/// A good read as a line has it.
+fn read(chance: &mut Chance) -> String {
+    let [letter, number] = session_words::read(chance);
+    let number = match letter {
+        b'E' | b'Z' => number.to_string(),
+        _ => String::new(),
+    };
+    format!("{}{number}", char::from(letter))
+}
+
+/// A session, mostly one with little to do.
+fn start(chance: &mut Chance) -> String {
+    let start = match chance.below(2) {
+        0 => "any".into(),
+        _ => field(chance, DIGITS, 10),
+    };
+    if chance.percent(35) {
+        let access = match chance.below(6) {
+            0 => "open".into(),
+            _ => field(chance, DIGITS, 8),
+        };
+        return format!("session {start} {access} post {}", hex(&post(chance)));
+    }
+    let access = match chance.below(2) {
+        0 => "open".into(),
+        _ => field(chance, DIGITS, 8),
+    };
+    let count = match chance.below(8) {
+        0 => chance.below(35),
+        1 => chance.between(31, 34),
+        _ => chance.between(1, 3),
+    };
+    let mut line = format!("session {start} {access} reads");
+    for _ in 0..count {
+        line += " ";
+        line += &match chance.below(40) {
+            0 => format!("E{}", short(chance, 0, 5)),
+            1 => format!("Z{}", short(chance, 0, 26)),
+            _ => read(chance),
+        };
+    }
+    line
+}
+
+/// A reply, mostly the right one.
+fn reply(chance: &mut Chance, session: Option<(&Session, &[u8])>) -> String {
+    let reply = match session {
+        None if chance.percent(80) => return start(chance),
+        None => vec![0x06],
+        Some((session, work)) => match chance.below(12) {
+            0 => session_words::other(chance, session, work),
+            _ => session_words::right(chance, session, work),
+        },
+    };
+    format!("reply {}", hex(&reply))
 }
 
 /// One thing wrong with a line; now and then it stays a line.

@@ -5,6 +5,7 @@
 mod lines;
 mod reached;
 
+use model::headbench::Bench;
 use reached::Reached;
 use std::process::ExitCode;
 use trials::chance::Chance;
@@ -18,6 +19,7 @@ const SCRIPT_LINES: u64 = 20_000;
 /// A script in the making, with the model's answers.
 struct Script<'a> {
     played: Played,
+    bench: Bench,
     reached: &'a mut Reached,
 }
 
@@ -31,19 +33,35 @@ impl Script<'_> {
                 answered: Vec::new(),
                 state: |_| String::new(),
             },
+            bench: Bench::default(),
             reached,
         }
     }
 
     fn line(&mut self, line: &[u8]) {
-        let told = model::headbench::answer(line);
+        let standing = self.bench.session().map(|(session, _)| *session);
+        let told = self.bench.answer(line);
         self.reached.line(line, told.as_deref());
+        self.reached.around(line, told.as_deref(), standing);
         let played = &mut self.played;
         played.answered.push(played.answered.len());
         played.script.extend(line);
         played.script.push(b'\n');
         played.transcript += told.as_deref().unwrap_or("error");
         played.transcript.push('\n');
+    }
+}
+
+/// Whole sessions, of 1 to 32 reads and of posts of 1 to 24 lines.
+fn sessions(script: &mut Script, chance: &mut Chance) {
+    for (kind, most) in [("reads", 32), ("post", 24)] {
+        for count in 1..=most {
+            script.line(&lines::session(chance, kind, count));
+            while let Some(line) = lines::right(chance, script.bench.session()) {
+                script.line(&line);
+            }
+            script.line(b"quiet");
+        }
     }
 }
 
@@ -66,6 +84,8 @@ fn trial() -> Result<String, String> {
     for line in lines::fixed() {
         fixed.line(&line);
     }
+    sessions(&mut fixed, &mut Chance::new(seed));
+    fixed.line(b"build any 64");
     let mut played = fixed.played;
     program::compare(program, &played)?;
     played.name += ", the last without its LF";
@@ -78,7 +98,8 @@ fn trial() -> Result<String, String> {
         let mut chance = Chance::new(seed);
         let mut script = Script::new(format!("by chance, {seed:016x}"), &mut reached);
         for _ in 0..SCRIPT_LINES {
-            script.line(&lines::any(&mut chance));
+            let line = lines::any(&mut chance, script.bench.session());
+            script.line(&line);
         }
         let played = script.played;
         // A transcript that differs in its last byte but one has to be noticed.

@@ -1,5 +1,6 @@
 //! Counts what the lines reached, from the line and its answer and not from what was meant.
 
+use model::session::Session;
 use std::collections::BTreeMap;
 
 /// Each call with the numbers that it can answer.
@@ -32,6 +33,7 @@ const CALLS: &[(&str, &[u8])] = &[
     ("part", &[1, 22, 23]),
     ("next", &[0, 1, 25]),
     ("find", &[1, 25, 27]),
+    ("session", &[1, 9, 20, 28, 29, 30]),
 ];
 
 /// What must have happened beside that.
@@ -59,6 +61,21 @@ const MORE: &[&str] = &[
     "a filling byte that was written",
     "a register found behind others",
     "a quantity that was not measured",
+    "reply: next",
+    "reply: done",
+    "reply: nak",
+    "reply: wrong",
+    "reply: silence",
+    "quiet: done",
+    "quiet: nak",
+    "quiet: wrong",
+    "quiet: silence",
+    "reply with no session",
+    "quiet with no session",
+    "session that is an error in the middle of another",
+    "session in the middle of another",
+    "the last message of 32 reads",
+    "the last message of 24 lines",
 ];
 
 #[derive(Default)]
@@ -107,6 +124,31 @@ impl Reached {
         match told {
             Some(told) => self.answered(&words, told),
             None => self.refused(line, &words),
+        }
+    }
+
+    /// The same line, and the session that stood before it.
+    pub fn around(&mut self, line: &[u8], told: Option<&str>, standing: Option<Session>) {
+        let middle = standing.is_some_and(|session| session.fact == 0 && session.sent > 1);
+        if line.starts_with(b"session ") && middle {
+            self.reach(match told {
+                Some(_) => "session in the middle of another",
+                None => "session that is an error in the middle of another",
+            });
+        }
+        match line {
+            b"reply 06" if standing.is_none() => self.reach("reply with no session"),
+            b"quiet" if standing.is_none() => self.reach("quiet with no session"),
+            _ => {}
+        }
+        match (standing, told) {
+            (Some(session), Some("next 36 8142300371")) if session.count == 32 => {
+                self.reach("the last message of 32 reads");
+            }
+            (Some(session), Some("next 28 8142300371")) if session.count == 24 => {
+                self.reach("the last message of 24 lines");
+            }
+            _ => {}
         }
     }
 

@@ -1,0 +1,14 @@
+pub mod Right
+pub mod Telling
+pub mod Exchange
+pub mod Course
+pub mod Started
+pub mod Done
+pub mod Readings
+pub mod Posting
+pub mod Stopping
+pub mod Spoilt
+pub mod Damage
+pub mod Shapes
+pub mod Hurt
+pub mod Instances

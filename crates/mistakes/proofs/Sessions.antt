@@ -1,0 +1,105 @@
+-- The wrong answers for `judging` and `session` are ruled out, by computing. Assumes nothing.
+use mathlib.Core.Path.{_≡_, refl, ap, _∙_}
+use mathlib.Core.Bool.{false}
+use mathlib.Core.List.{List, []}
+use Prim.Native.Nat.{ℕ}
+use native.Mathlib.Omega.{arith}
+use lib.Count.{ones}
+use lib.Dec.{eqb}
+use Rattle.line.specs.Characters.{damagedAt, seven, sent, undamagedAll}
+use Rattle.line.specs.Checksum.{bccOf}
+use Rattle.line.specs.Runs.{every}
+use Rattle.text.specs.Classes.{between, isDigit, isLetter, matching, sameText}
+use Rattle.text.specs.Decimal.{decimal, valueFrom, valueOf, numberAt}
+use Rattle.text.specs.Layout.{layoutText, pattern, fits, agrees}
+use Rattle.values.specs.Registers.{goodDigits, isAccountCharacter, goodAccount, goodTable, goodZone}
+use Rattle.values.specs.Reading.{counterRead}
+use Rattle.frames.specs.Frames.{closed, frameOf, blockOf}
+use Rattle.frames.specs.Commands.{bracketed}
+use Rattle.frames.specs.Session.{enterData, confirmation, signOn, goodSpeed}
+use Rattle.replies.specs.Fixed.{passwordAsk}
+use Rattle.post.specs.Grammar.{postText}
+use Rattle.blocks.specs.Parts.{isCharacter, notEtx, between as within, isBlock, bccFits, partOf}
+use Rattle.commands.specs.Building.{goodChoice}
+use Rattle.commands.specs.Spoken.{goodFields, lettersOf, dataOf, spoken}
+use Rattle.commands.specs.Messages.{textOf, goodMessage}
+use Rattle.judging.specs.Lines.{isLine, valueIn}
+use Rattle.judging.specs.Right.{identifies, asksPassword, accepts, refuses, tellsAccount, tellsEnergy, tells, dataIn, answersIn, answers}
+use Rattle.session.specs.declared.Started.{Started}
+use Rattle.session.specs.declared.Step.{Step}
+use Rattle.session.specs.Messages.{calling, entering, readOf, readAt, workAt, readsGood, messageAt}
+use Rattle.session.specs.Standing.{toldGood, keptGood, workGood, placeGood, factGood, sessionTold, sessionGood}
+use Rattle.session.specs.Turns.{rightRead, rightWork, rightAt, answeredRight, answered, replied, silent}
+use Rattle.session.specs.Starting.{toldOf, startedOf, Opening, Opens, small, nothing, reads, posts, others, sessionOf, opened, openedReads, openedPost, Starts}
+use Rattle.mistakes.specs.RuledOut.{RuledOut}
+use Rattle.mistakes.specs.Commands.{room}
+use Rattle.mistakes.specs.Posts.{one}
+use Rattle.mistakes.specs.Sessions.{totalRead, waiting, energyBlock, Judging, Sessions, Starting}
+use Rattle.mistakes.proofs.Differing.{seen, flag, long}
+use Rattle.mistakes.proofs.Posts.{post-of, good-one}
+
+pub judging : Judging
+unfolding ones damagedAt seven sent undamagedAll bccOf every between isDigit isLetter matching sameText decimal valueFrom valueOf numberAt layoutText pattern fits agrees isAccountCharacter goodAccount counterRead closed frameOf blockOf enterData passwordAsk isCharacter notEtx within isBlock bccFits partOf isLine valueIn identifies asksPassword accepts refuses tellsAccount tellsEnergy tells dataIn answersIn answers energyBlock
+judging =
+    record {
+      «is_identification» = (flag refl, flag refl);
+      «is_password_ask» = (flag refl, flag refl);
+      «is_ack» = (flag refl, flag refl);
+      «is_nak» = (flag refl, flag refl);
+      «is_answer» = (flag refl, flag refl);
+    }
+
+-- how a session stands, or goes on
+by-fact : {right wrong : Step} → eqb (wrong .fact) (right .fact) ≡ false → RuledOut right wrong
+by-fact = seen (λ (r : Step). r .fact)
+
+pub sessions : Sessions
+unfolding ones damagedAt seven sent undamagedAll bccOf every between isDigit matching sameText decimal valueFrom valueOf numberAt layoutText pattern fits agrees counterRead closed frameOf blockOf bracketed enterData confirmation signOn goodSpeed passwordAsk isCharacter notEtx within isBlock bccFits partOf goodChoice goodFields textOf goodMessage isLine valueIn identifies asksPassword accepts refuses tellsEnergy tells dataIn answersIn answers calling entering readOf readAt workAt messageAt toldGood keptGood workGood placeGood factGood sessionTold sessionGood rightRead rightWork rightAt answeredRight answered replied silent lettersOf dataOf spoken energyBlock
+sessions =
+    record {
+      hear = (by-fact refl, by-fact refl);
+      hear-order = (long refl, by-fact refl);
+      «hear_nothing» = (by-fact refl, by-fact refl);
+    }
+
+-- a start with reads, in room enough
+module _ (work : List ℕ) (r : Started) (after : List ℕ) where
+  opened-reads : Starts (toldOf 0 [] 0 [] 0) work room r after → r ≡ startedOf (openedReads (toldOf 0 [] 0 [] 0) work)
+  opened-reads s = s .answer ∙ ap startedOf (reads-of (s .opening) (s .opens))
+    where
+      reads-of : (o : Opening) → Opens (toldOf 0 [] 0 [] 0) work 64 o → o ≡ openedReads (toldOf 0 [] 0 [] 0) work
+      reads-of o (small h e) = absurd (omega (arith, h))
+      reads-of o (nothing h no-reads no-post e) = absurd (no-reads refl)
+      reads-of o (reads h k e) = e
+      reads-of o (posts h k p) = absurd (omega (arith, k))
+      reads-of o (others h k p) = absurd (omega (arith, k))
+
+-- a post with `()` and no serial
+posted : (o : Opening) → Opens (toldOf 1 [] 0 [] 1) (postText one) 64 o → o .number ≡ 30
+unfolding openedPost
+posted o (small h e) = absurd (omega (arith, h))
+posted o (nothing h no-reads no-post e) = absurd (no-post refl)
+posted o (reads h k e) = absurd (omega (arith, k))
+posted o (posts h k p) = ap (λ (x : Opening). x .number) (p .opens)
+posted o (others h k p) = absurd (p .no-post (post-of 24 one good-one))
+
+by-number : {right wrong : Started} → eqb (wrong .number) (right .number) ≡ false → RuledOut right wrong
+by-number = seen (λ (r : Started). r .number)
+
+by-sent : {right wrong : Started} → eqb (wrong .session .sent) (right .session .sent) ≡ false → RuledOut right wrong
+by-sent = seen (λ (r : Started). r .session .sent)
+
+pub starting : Starting
+unfolding every between isDigit goodDigits goodTable goodZone goodFields readOf readsGood toldGood sessionOf opened openedReads
+starting =
+    record {
+      start = (
+        λ place size s after w. by-number refl (opened-reads [] (record { number = 9; place = place; length = size; session = s }) after w),
+        λ place size s after w. omega (arith, posted (w .opening) (w .opens), ap (λ (r : Started). r .number) (w .answer)),
+      );
+      start-record = (
+        λ place size after w. by-sent refl (opened-reads totalRead (record { number = 1; place = place; length = size; session = waiting 0 0 }) after w),
+        λ place size after w. by-sent refl (opened-reads [] (record { number = 28; place = place; length = size; session = waiting 1 0 }) after w),
+      );
+      «read_good» = (flag refl, flag refl);
+    }

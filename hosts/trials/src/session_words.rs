@@ -1,0 +1,182 @@
+//! What a head is told to do, and what a meter says to it, by chance: good and nearly good.
+
+use crate::chance::Chance;
+use crate::head_words::ZONES;
+use model::head::{block, line, on_the_wire, Registers};
+use model::post::{text_of, Table};
+use model::session::{work, Session};
+
+/// A good read.
+pub fn read(chance: &mut Chance) -> [u8; 2] {
+    match chance.weighed(&[2, 2, 2, 4, 6]) {
+        0 => [b'T', without_use(chance)],
+        1 => [b'L', without_use(chance)],
+        2 => [b'K', without_use(chance)],
+        3 => [b'E', chance.between(0, 4) as u8],
+        _ => [b'Z', chance.between(1, 24) as u8],
+    }
+}
+
+/// The number of a read that has none: any will do.
+fn without_use(chance: &mut Chance) -> u8 {
+    match chance.below(2) {
+        0 => 0,
+        _ => chance.byte(),
+    }
+}
+
+/// So many good reads.
+pub fn reads(chance: &mut Chance, count: usize) -> Vec<u8> {
+    (0..count).flat_map(|_| read(chance)).collect()
+}
+
+/// A post of so many lines.
+pub fn post(chance: &mut Chance, count: usize) -> Vec<u8> {
+    let mut numbers: Vec<u8> = (1..=24).collect();
+    while numbers.len() > count {
+        numbers.remove(chance.below(numbers.len()));
+    }
+    let tables: Vec<Table> = numbers
+        .into_iter()
+        .map(|number| Table {
+            number,
+            row: chance.texts(ZONES),
+        })
+        .collect();
+    text_of(&tables)
+}
+
+/// One read of a list spoilt.
+pub fn spoil_a_read(chance: &mut Chance, reads: &mut [u8]) {
+    let at = chance.below(reads.len() / 2) * 2;
+    let spoilt = match chance.below(6) {
+        0 => [b'E', chance.between(5, 255) as u8],
+        1 => [b'Z', chance.one_of(&[0, 25, 26, 255])],
+        2 => [chance.one_of(b"GPWRBtlkez\0"), chance.below(5) as u8],
+        3 => [chance.byte(), chance.byte()],
+        4 => [b'Z', 0],
+        _ => [b'E', 5],
+    };
+    reads[at..at + 2].copy_from_slice(&spoilt);
+}
+
+/// The lines that a read asks for, of these registers.
+fn lines(registers: &Registers, [letter, number]: [u8; 2]) -> Vec<u8> {
+    let sets = registers.data_sets();
+    let places = match letter {
+        b'T' => vec![2, 1],
+        b'L' => vec![0],
+        b'K' => vec![3],
+        b'E' if number == 0 => vec![8],
+        b'E' => vec![3 + usize::from(number)],
+        _ => vec![8 + usize::from(number)],
+    };
+    let shown = places.into_iter().map(|place| &sets[place]);
+    shown
+        .flat_map(|(address, value)| line(address, value))
+        .collect()
+}
+
+pub fn identification() -> Vec<u8> {
+    on_the_wire(b"/ZZZ5SUB-VP01.00*\r\n")
+}
+
+pub fn password_ask() -> Vec<u8> {
+    vec![
+        0x81, 0x50, 0x30, 0x82, 0x28, 0x30, 0x30, 0x30, 0x30, 0xA9, 0x03, 0x60,
+    ]
+}
+
+/// A right reply to the message that the session sent last.
+pub fn right(chance: &mut Chance, session: &Session, given: &[u8]) -> Vec<u8> {
+    match session.sent {
+        1 => identification(),
+        2 => password_ask(),
+        sent if sent == 3 || sent == session.last() || session.work == work::POST => vec![0x06],
+        sent => match given.chunks(2).nth(usize::from(sent) - 4) {
+            Some(&[letter, number]) if asks(letter, number) => {
+                on_the_wire(&block(&lines(&chance.registers(), [letter, number])))
+            }
+            _ => vec![0x06],
+        },
+    }
+}
+
+fn asks(letter: u8, number: u8) -> bool {
+    match letter {
+        b'T' | b'L' | b'K' => true,
+        b'E' => number <= 4,
+        b'Z' => (1..=24).contains(&number),
+        _ => false,
+    }
+}
+
+/// A block that is nearly the right one; its BCC and parity are good.
+fn near(chance: &mut Chance, session: &Session, given: &[u8]) -> Vec<u8> {
+    let asked = given
+        .chunks(2)
+        .nth(usize::from(session.sent).saturating_sub(4));
+    let read = match asked {
+        Some(&[letter, number]) if asks(letter, number) => [letter, number],
+        _ => read(chance),
+    };
+    let mut data = lines(&chance.registers(), read);
+    match chance.below(8) {
+        0 => data.extend(b"!\r\n"),
+        1 => data = [&data[..], &data].concat(),
+        2 if read[0] == b'T' => data.rotate_left(17),
+        3 => {
+            let other = self::read(chance);
+            data.extend(lines(&chance.registers(), other));
+        }
+        4 => {
+            let other = self::read(chance);
+            data = lines(&chance.registers(), other);
+        }
+        5 => {
+            // Another number, month, hour or zone: a digit changed.
+            let digits: Vec<usize> = (0..data.len())
+                .filter(|&at| data[at].is_ascii_digit())
+                .collect();
+            data[chance.one_of(&digits)] = chance.one_of(b"0123456789");
+        }
+        _ => {
+            chance.hurt(&mut data);
+            data.iter_mut().for_each(|byte| *byte &= 0x7F);
+        }
+    }
+    on_the_wire(&block(&data))
+}
+
+/// Some other reply, often one that is right elsewhere or nearly right here.
+pub fn other(chance: &mut Chance, session: &Session, given: &[u8]) -> Vec<u8> {
+    match chance.weighed(&[10, 6, 3, 3, 4, 4, 4, 30, 30, 4, 3, 4, 3]) {
+        0 => vec![0x95],
+        1 => vec![0x06],
+        2 => vec![0x15],
+        3 => vec![0x86],
+        4 => identification(),
+        5 => password_ask(),
+        6 => Vec::new(),
+        7 => near(chance, session, given),
+        8 => {
+            let mut reply = right(chance, session, given);
+            chance.hurt(&mut reply);
+            reply
+        }
+        9 => on_the_wire(&block(&chance.registers().data())),
+        10 => (0..chance.below(70)).map(|_| chance.byte()).collect(),
+        11 => {
+            let mut reply = right(chance, session, given);
+            reply.extend(chance.pick::<[u8]>(&[b"\x06", b"\x95", b"\x8D\x0A", b"\0"]));
+            reply
+        }
+        _ => on_the_wire(chance.pick::<[u8]>(&[
+            b"/ZZZ5SUB-VP02.00*\r\n",
+            b"/ZZZ0SUB-VP01.00*\r\n",
+            b"/ZZZ5SUB-VP01.00*\n",
+            b"\x06\x06",
+            b"\x15\x15",
+        ])),
+    }
+}
