@@ -143,11 +143,7 @@ pub fn keep(r: Receiver, c: u8, damaged: bool) -> Receiver
     let mut held = r.held;
     put_at(&mut held, r.count, c);
     let next = with_held(r, held, r.count + 1);
-    with_mark(
-        next,
-        chosen(damaged, 1, r.mark),
-        hurt_place(r, damaged),
-    )
+    with_mark(next, chosen(damaged, 1, r.mark), hurt_place(r, damaged))
 }
 
 // The receiver with this character alone.
