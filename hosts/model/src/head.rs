@@ -209,18 +209,20 @@ pub fn build(command: &Command, out: &mut [u8]) -> (u8, usize) {
 
 // Replies.
 
-/// Strips a reply's parity into `out`: answer and length.
-pub fn strip(reply: &[u8], out: &mut [u8]) -> (u8, usize) {
+/// Strips a reply's parity into `out`: answer, length, and with 24 the place of the first damaged byte.
+pub fn strip(reply: &[u8], out: &mut [u8]) -> (u8, usize, usize) {
     if out.len() < reply.len() {
-        return (answer::SHORT_COPY, 0);
+        return (answer::SHORT_COPY, 0, 0);
     }
-    if !reply.iter().all(|&byte| undamaged(byte)) {
-        return (answer::DAMAGED, 0);
+    for (place, &byte) in reply.iter().enumerate() {
+        if !undamaged(byte) {
+            return (answer::DAMAGED, 0, place);
+        }
     }
     for (place, byte) in reply.iter().enumerate() {
         out[place] = byte & 0x7F;
     }
-    (answer::DONE, reply.len())
+    (answer::DONE, reply.len(), 0)
 }
 
 /// Where the data of a stripped block lie, or the number of the refusal.
