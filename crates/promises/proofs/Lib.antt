@@ -10,3 +10,4 @@ pub mod Beginning
 pub mod Life
 pub mod Adding
 pub mod Hurt
+pub mod Ignoring
