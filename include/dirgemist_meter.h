@@ -11,7 +11,7 @@
  * Each is proved, for all records, numbers and buffers, to do what its paragraph says. Pointers
  * must not be null, and what they point to must not overlap.
  *
- * Stack: an event takes some 5,100 bytes (64-bit Arm), a test 1,700, making 350; DIRGEMIST_STACK
+ * Stack: an event takes some 5,900 bytes (64-bit Arm), a test 1,700, making 350; DIRGEMIST_STACK
  * is above each, and hosts/stack measures them. The steps of an event hand the state on by value,
  * and up to eight copies of its tables are alive at once.
  *

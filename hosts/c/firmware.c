@@ -255,7 +255,7 @@ static void tells_the_place(struct dirgemist_meter *meter) {
         expect(meter->receiver.place == (first > 1), "its place");
         is_hurt(meter, frame, size, size - 1, 1);
     }
-    SAY(meter, "undamaged again", "\001R1\002E1()\003\x17", 1, "\00215.8.1(000000.000*kWh)\r\n\003\x6c", 5);
+    SAY(meter, "undamaged again", "\001R1\002E1()\003\x17", 1, "\00215.8.1(000001.500*kWh)\r\n\003\x6c", 5);
     for (unsigned mark = 0; mark < 3; mark++) {
         for (unsigned at = 0; at < 256; at++) {
             meter->receiver = (struct dirgemist_receiver){.held = {1, 0, 0}, .count = 3};

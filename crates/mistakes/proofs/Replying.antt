@@ -31,8 +31,12 @@ use Rattle.finding.specs.declared.Lookup.{Lookup}
 use Rattle.finding.specs.Finding.{among, position, answered, lookup}
 use Rattle.headlink.specs.Telling.{valueNumber}
 use Rattle.mistakes.specs.Samples.{serial, twos}
-use Rattle.mistakes.specs.Replying.{block, misSummed, twoSets, sameTwice, badFirst, Blocks, Sets, Readers, Walks, Finds, Fields}
+use Rattle.mistakes.specs.Replying.{block, misSummed, twoSets, sameTwice, badFirst, Damage, Blocks, Sets, Readers, Walks, Finds, Fields}
 use Rattle.mistakes.proofs.Differing.{seen, number, byte, long}
+
+pub damage : Damage
+unfolding ones damagedAt firstDamaged
+damage = record { «first_damaged» = (number refl, number refl) }
 
 pub blocks : Blocks
 unfolding ones damagedAt seven undamagedAll firstDamaged bccOf every holding closed blockOf strippedOf strippedInto isCharacter notEtx isBlock bccFits partOf within block misSummed
@@ -40,7 +44,6 @@ blocks =
     record {
       strip = (λ after s. seen (λ (r : Stripped). r .number) refl (s .answer), λ r s. byte 0 refl (s .held));
       strip-place = (λ after s. seen (λ (r : Stripped). r .place) refl (s .answer), λ after s. seen (λ (r : Stripped). r .place) refl (s .answer));
-      «first_damaged» = (number refl, number refl);
       find = (λ w. seen (λ (p : PartAt). p .length) refl (w .is), λ w. seen (λ (p : PartAt). p .number) refl (w .is));
       «part_check» = (number refl, number refl);
       part = (long refl, long refl);

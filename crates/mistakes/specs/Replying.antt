@@ -38,6 +38,11 @@ partIn s = take (partOf s .length) (drop (partOf s .start) s)
 unfoldable pub twoSets : List ℕ
 twoSets = dataSet (65 ∷ []) (49 ∷ []) ++ (dataSet (66 ∷ []) (50 ∷ 50 ∷ []) ++ (33 ∷ 13 ∷ 10 ∷ []))
 
+-- of `damage`
+pub record Damage : Type 0 where
+  -- the last damaged byte of a run; the number of damaged ones
+  pub «first_damaged» : RuledOut (firstDamaged (65 ∷ 193 ∷ 66 ∷ 193 ∷ [])) 3 × RuledOut (firstDamaged (65 ∷ 193 ∷ 66 ∷ 193 ∷ [])) 2
+
 -- of `blocks`
 pub record Blocks : Type 0 where
   -- a damaged byte stripped; the bytes before it written, and then 24
@@ -46,8 +51,6 @@ pub record Blocks : Type 0 where
   -- the place of the last damaged byte; no place
   pub strip-place : ((after : List ℕ) → Strips (65 ∷ 193 ∷ 193 ∷ []) (0 ∷ 0 ∷ 0 ∷ []) (record { number = 24; length = 0; place = 2 }) after → ⊥)
       × ((after : List ℕ) → Strips (65 ∷ 193 ∷ 193 ∷ []) (0 ∷ 0 ∷ 0 ∷ []) (record { number = 24; length = 0; place = 0 }) after → ⊥)
-  -- the last damaged byte of a run; the number of damaged ones
-  pub «first_damaged» : RuledOut (firstDamaged (65 ∷ 193 ∷ 66 ∷ 193 ∷ [])) 3 × RuledOut (firstDamaged (65 ∷ 193 ∷ 66 ∷ 193 ∷ [])) 2
   -- the ETX in the part; a BCC with its top bit set
   pub find : (Within block (record { number = 1; start = 1; length = 2 }) → ⊥) × (Within (2 ∷ 72 ∷ 3 ∷ 203 ∷ []) (record { number = 1; start = 1; length = 1 }) → ⊥)
   -- no BCC checked; a block without ETX called one with a wrong BCC
