@@ -5,7 +5,7 @@ ghost use lib.ListN.{length};
 ghost use Rattle.text.specs.Writing.{holding};
 ghost use Rattle.frames.specs.Frames.{onWire};
 ghost use Rattle.replies.specs.Fixed.{accepted, refused};
-ghost use Rattle.meter.specs.Outcomes.{answerOf, fallen, silent, unheard, nak, ack};
+ghost use Rattle.meter.specs.Outcomes.{answerOf, answerAt, fallen, silent, unheard, nak, ack};
 use crate::Answer;
 use state::Meter;
 use state::setting::in_mode;
@@ -18,6 +18,7 @@ pub fn quiet(number: u8, next: Meter) -> Answer
         number,
         length: 0,
         speed: next.speed,
+        place: 0,
         next,
     }
 }
@@ -30,8 +31,18 @@ pub fn unheard_with(number: u8, m: Meter) -> Answer
         number,
         length: 0,
         speed: 0,
+        place: 0,
         next: m,
     }
+}
+
+// The same answer with a place.
+pub fn at_place(a: Answer, place: u8) -> Answer
+    ensures { λ r. ⌜ r ≡ answerAt a place ⌝ }
+{
+    let mut placed = a;
+    placed.place = place;
+    placed
 }
 
 fn fall(mode: u8) -> u8
@@ -51,6 +62,7 @@ pub fn refuse(number: u8, m: Meter, reply: &mut [u8]) -> Answer
         number,
         length,
         speed: m.speed,
+        place: 0,
         next: in_mode(m, fall(m.mode)),
     }
 }
@@ -66,6 +78,7 @@ pub fn accept(speed: u8, next: Meter, reply: &mut [u8]) -> Answer
         number: 1,
         length,
         speed,
+        place: 0,
         next,
     }
 }
