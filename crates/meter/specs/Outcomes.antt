@@ -40,9 +40,6 @@ saying number speed reply next = record { number = number; speed = speed; reply 
 abbrev pub atPlace : Outcome → ℕ → Outcome
 atPlace o place = record { number = o .number; speed = o .speed; reply = o .reply; place = place; next = o .next }
 
-abbrev pub answerAt : Answer → ℕ → Answer
-answerAt a place = record { number = a .number; length = a .length; speed = a .speed; place = place; next = a .next }
-
 -- modes 3 and 4 stay; mode 2 falls to mode 0
 unfoldable pub fallen : ℕ → ℕ
 fallen mode = cond (eqb mode 2) 0 mode

@@ -139,12 +139,10 @@ pub fn act_on_frame(m: Meter, c: u8, damaged: bool, reply: &mut [u8]) -> Answer
 {
     let r = m.receiver;
     let held = r.held;
-    let v = deciding::decide(
-        m.mode,
-        text::first(&held, r.count as usize),
-        (r.mark == 1) | damaged,
-        c,
-    );
-    let a = act(m, v, reply);
-    answers::at_place(a, receiving::hurt_place(r, damaged))
+    let hurt = (r.mark == 1) | damaged;
+    if hurt {
+        return answers::refuse_at(3, receiving::hurt_place(r, damaged), m, reply);
+    }
+    let v = deciding::decide(m.mode, text::first(&held, r.count as usize), false, c);
+    act(m, v, reply)
 }

@@ -12,7 +12,7 @@ use Rattle.replies.specs.Fixed.{accepted, refused, identification, passwordAsk}
 use Rattle.receiving.specs.Receivers.{keptReceiver, restartedReceiver}
 use Rattle.state.specs.Making.{emptyReceiver, noCounters, madeOf}
 use Rattle.state.specs.Setting.{withHeld, withMark, withReceiver, inMode, withAttempts, withRegisters, withClock, withCounters, withZones, withTotal, withSpeed}
-use Rattle.meter.specs.Outcomes.{Outcome, answerOf, answerAt, silent, unheard, saying, nak, ack}
+use Rattle.meter.specs.Outcomes.{Outcome, answerOf, atPlace, silent, unheard, saying, nak, ack}
 use Rattle.meter.specs.Character.{symbol, character}
 use Rattle.meter.specs.Events.{silence, tick, pulse, powerUp}
 use Rattle.meter.specs.declared.Event.the-variants.{Character, Silence, Tick, Pulse, Unknown}
@@ -102,11 +102,11 @@ pub record Receiving : Type 0 where
   pub receive-restart-place : RuledOut (answerOf restarted) (answerOf (silent 0 (withReceiver (inMode newMeter 2) (withMark (restartedReceiver 1) 0 1))))
       × RuledOut (answerOf restarted) (answerOf (silent 0 (withReceiver (inMode newMeter 2) (withMark (restartedReceiver 1) 1 1))))
   -- 3 with the place of the last damaged character; with none
-  pub receive-hurt : RuledOut (answerOf hurt) (answerAt (answerOf hurt) 2) × RuledOut (answerOf hurt) (answerAt (answerOf hurt) 0)
+  pub receive-hurt : RuledOut (answerOf hurt) (answerOf (atPlace hurt 2)) × RuledOut (answerOf hurt) (answerOf (atPlace hurt 0))
   -- 0 for a damaged BCC; the last held character's place
-  pub receive-hurt-last : RuledOut (answerOf hurtLast) (answerAt (answerOf hurtLast) 0) × RuledOut (answerOf hurtLast) (answerAt (answerOf hurtLast) 3)
+  pub receive-hurt-last : RuledOut (answerOf hurtLast) (answerOf (atPlace hurtLast 0)) × RuledOut (answerOf hurtLast) (answerOf (atPlace hurtLast 3))
   -- counted from the first byte that was received; from the byte before the restart
-  pub receive-hurt-anew : RuledOut (answerOf hurtAnew) (answerAt (answerOf hurtAnew) 5) × RuledOut (answerOf hurtAnew) (answerAt (answerOf hurtAnew) 2)
+  pub receive-hurt-anew : RuledOut (answerOf hurtAnew) (answerOf (atPlace hurtAnew 5)) × RuledOut (answerOf hurtAnew) (answerOf (atPlace hurtAnew 2))
   -- a malformed state said before a short buffer; a character taken in a short buffer
   pub receive-refused : RuledOut (answerOf (character (withAttempts newMeter 4) 2047 47)) (answerOf (unheard 14 (withAttempts newMeter 4)))
       × RuledOut (answerOf (character newMeter 2047 (sent 47))) (answerOf (silent 0 (withReceiver newMeter (restartedReceiver 47))))
