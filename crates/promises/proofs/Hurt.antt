@@ -27,7 +27,7 @@ use Rattle.receiving.specs.Receivers.{lastHeld, hurtPlace, keptReceiver, restar
 use Rattle.meter.specs.Outcomes.{Outcome}
 use Rattle.meter.specs.Character.{symbol, heard, taken, character}
 use Rattle.promises.specs.Hurt.{endsInEtx, oneMore, since, fed, quietly, HurtFrame}
-use Rattle.promises.proofs.Verdicts.{FrameNumber, parity, checksum, shape, unknown, not-allowed, content-wrong}
+use Rattle.promises.proofs.Verdicts.{FrameNumber, never-zero, parity, checksum, shape, unknown, not-allowed, content-wrong}
 use Rattle.promises.proofs.Answering.{answered-all}
 use Rattle.promises.proofs.Formed.{character-stays}
 
@@ -110,15 +110,7 @@ taken-is : (k : Meter) (b : ℕ) → wellFormed k ≡ true → character k reply
 unfolding character
 taken-is k b f = rw f
 
--- a whole frame is never answered 0, and with 3 only where it is marked
-never-zero : (mark : Bool) (n : ℕ) → FrameNumber mark n → n ≡ 0 → ⊥
-never-zero mark n (parity m) e = omega arith
-never-zero mark n checksum e = omega arith
-never-zero mark n shape e = omega arith
-never-zero mark n unknown e = omega arith
-never-zero mark n not-allowed e = omega arith
-never-zero mark n content-wrong e = omega arith
-
+-- a whole frame is answered 3 only where it is marked
 three-marked : (mark : Bool) (n : ℕ) → FrameNumber mark n → n ≡ 3 → mark ≡ true
 three-marked mark n (parity m) e = m
 three-marked mark n checksum e = absurd (omega arith)

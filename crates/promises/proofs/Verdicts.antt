@@ -125,6 +125,15 @@ pub data FrameNumber (mark : Bool) : ℕ → Type 0 where
   not-allowed : FrameNumber mark 8
   content-wrong : FrameNumber mark 9
 
+-- none of them is 0
+pub never-zero : (mark : Bool) (n : ℕ) → FrameNumber mark n → n ≡ 0 → ⊥
+never-zero mark n (parity m) e = omega arith
+never-zero mark n checksum e = omega arith
+never-zero mark n shape e = omega arith
+never-zero mark n unknown e = omega arith
+never-zero mark n not-allowed e = omega arith
+never-zero mark n content-wrong e = omega arith
+
 -- what is known of each verdict on a frame
 pub record Known (mode : ℕ) (h : List ℕ) (mark : Bool) (P : Verdict → Type 0) : Type 0 where
   pub refuse : (n : ℕ) → FrameNumber mark n → P (Refuse n)
