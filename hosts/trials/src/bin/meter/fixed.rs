@@ -1167,8 +1167,14 @@ fn script_rules() -> Vec<Fixed> {
             .line(&format!("set {shown} 31"), "error")
             .line(&format!("set {shown}4294967296"), "error")
             .line(&format!("set {}256 0", &shown[..shown.len() - 2]), "error")
-            .line(&format!("set {}256 0 0", &shown[..shown.len() - 4]), "error")
-            .line(&format!("set {}31 0 0 0", &shown[..shown.len() - 6]), "error")
+            .line(
+                &format!("set {}256 0 0", &shown[..shown.len() - 4]),
+                "error",
+            )
+            .line(
+                &format!("set {}31 0 0 0", &shown[..shown.len() - 6]),
+                "error",
+            )
             .line(&format!("set {} 0", &shown[..shown.len() - 4]), "error")
             .line(&format!("set 256{}", &shown[1..]), "error")
             .line(&format!("set 0 0 256{}", &shown[5..]), "error")
