@@ -95,8 +95,9 @@ uint8_t dirgemist_head_sign_off(uint8_t *out, size_t out_length, size_t *length)
  *                              past them is as it was; an empty reply is good in any room;
  *   DIRGEMIST_HEAD_SHORT_COPY  out_length is under reply_length; this comes before the next;
  *   DIRGEMIST_HEAD_DAMAGED     the count of ones in some byte is odd.
- * A refusal leaves every byte of out as it was, and *length is 0. */
-uint8_t dirgemist_head_strip(const uint8_t *reply, size_t reply_length, uint8_t *out, size_t out_length, size_t *length);
+ * A refusal leaves every byte of out as it was, and *length is 0. With DIRGEMIST_HEAD_DAMAGED *place is that of the first such byte,
+ * the first of the reply being at 0; otherwise it is 0. */
+uint8_t dirgemist_head_strip(const uint8_t *reply, size_t reply_length, uint8_t *out, size_t out_length, size_t *length, size_t *place);
 
 /* Finds the part of a stripped block: the data between its STX and its ETX. Returns
  *   DIRGEMIST_HEAD_DONE       the part is the *length bytes from stripped + *start on;

@@ -11,7 +11,7 @@
  * Each is proved, for all records, numbers and buffers, to do what its paragraph says. Pointers
  * must not be null, and what they point to must not overlap.
  *
- * Stack: an event takes some 4,500 bytes (64-bit Arm), a test 1,700, making 350; DIRGEMIST_STACK
+ * Stack: an event takes some 5,900 bytes (64-bit Arm), a test 1,700, making 350; DIRGEMIST_STACK
  * is above each, and hosts/stack measures them. The steps of an event hand the state on by value,
  * and up to eight copies of its tables are alive at once.
  *
@@ -48,11 +48,13 @@ struct dirgemist_clock {
 };
 
 /* What was received of a line or frame so far: 0 from count on. mark is 1 where one of them came
- * damaged, else 0; no other number is well-formed. */
+ * damaged, else 0; no other number is well-formed. place is that of the first damaged one, the first
+ * held one being at 0: below count with the mark, and 0 without it. */
 struct dirgemist_receiver {
     uint8_t held[63];
     uint8_t count;
     uint8_t mark;
+    uint8_t place;
 };
 
 /* The zones' counters in Wh, each under 1,000,000,000, and their total: the sum of the four modulo
@@ -91,7 +93,8 @@ struct dirgemist_meter {
  *    0  taken, and nothing to say
  *    1  done
  *    2  a confirmation that is none; the meter listens again
- *    3  a character of the frame came damaged; this and 4 to 11 reply NAK
+ *    3  a character of the frame came damaged, the first of them at *place; this and 4 to 11 reply
+ *       NAK
  *    4  the frame's BCC is wrong
  *    5  a frame of more than 64 characters
  *    6  a frame of no known shape
@@ -137,35 +140,40 @@ uint8_t dirgemist_meter_total(const struct dirgemist_meter *meter, uint32_t *tot
 /* What has happened, with its value. Returns the answer's number; *meter becomes the next state,
  * the reply's bytes, with parity, stand at the front of the room bytes at reply, *length is their
  * number and *speed the speed identifier, 0 (300 baud) or 5 (9600): the reply's where there is one,
- * else that of the next state. Every byte of reply past them is as it was. *length and *speed are
- * always written; with 12, 13, 14 and 99 they are 0.
+ * else that of the next state. Every byte of reply past them is as it was. With 3 *place is that of
+ * the first damaged character of the frame, its SOH being at 0 and its BCC behind the last held one;
+ * with any other number it is 0. *length, *speed and *place are always written; with 12, 13, 14 and
+ * 99 they are 0.
  * A tick, a pulse and power-up have no reply and take any room, none too; where room is 0, reply is
  * never read or written through. A kind that is none of the five, or a character over 255, gives
  * 99. */
 uint8_t dirgemist_meter_meet(struct dirgemist_meter *meter, uint8_t kind, uint32_t value,
-                             uint8_t *reply, size_t room, size_t *length, uint8_t *speed);
+                             uint8_t *reply, size_t room, size_t *length, uint8_t *speed,
+                             uint8_t *place);
 
 /* A byte has come from the line. 12, 14, or as the byte and the mode rule: 0 where it is only held
  * or dropped. */
 static inline uint8_t dirgemist_meter_receive(struct dirgemist_meter *meter, uint8_t byte,
                                               uint8_t *reply, size_t room, size_t *length,
-                                              uint8_t *speed) {
-    return dirgemist_meter_meet(meter, DIRGEMIST_CHARACTER, byte, reply, room, length, speed);
+                                              uint8_t *speed, uint8_t *place) {
+    return dirgemist_meter_meet(meter, DIRGEMIST_CHARACTER, byte, reply, room, length, speed,
+                                place);
 }
 
 /* Eight seconds without a character: the meter listens again, with nothing received. A meter that
  * waits for the confirmation replies NAK. 12, 14, 0 where it was listening, else 1. */
 static inline uint8_t dirgemist_meter_silence(struct dirgemist_meter *meter, uint8_t *reply,
-                                              size_t room, size_t *length, uint8_t *speed) {
-    return dirgemist_meter_meet(meter, DIRGEMIST_SILENCE, 0, reply, room, length, speed);
+                                              size_t room, size_t *length, uint8_t *speed,
+                                              uint8_t *place) {
+    return dirgemist_meter_meet(meter, DIRGEMIST_SILENCE, 0, reply, room, length, speed, place);
 }
 
 /* An event that has no reply. */
 static inline uint8_t dirgemist_meter_note(struct dirgemist_meter *meter, uint8_t kind,
                                            uint32_t value, uint8_t *speed) {
-    uint8_t nowhere;
+    uint8_t nowhere, place;
     size_t length;
-    return dirgemist_meter_meet(meter, kind, value, &nowhere, 0, &length, speed);
+    return dirgemist_meter_meet(meter, kind, value, &nowhere, 0, &length, speed, &place);
 }
 
 /* A second has gone by: the clock moves on. 14, or 1. */

@@ -93,6 +93,7 @@ static const struct field state[] = {
     STATE(NUMBER, "C4", registers.counters.zones[3]),
     STATE(BYTES, "TABLES", registers.tables),
     STATE(NUMBER, "SPEED", speed),
+    STATE(NUMBER, "PLACE", receiver.place),
     STATE(NUMBER, "TOTAL", registers.counters.total),
 };
 
@@ -180,10 +181,12 @@ static bool play_dump(const struct word *words, size_t count) {
 static struct buffer replies;
 static size_t *length;
 static uint8_t *speed;
+static uint8_t *place;
 
 static inline void unwrite(void) {
     memset(length, UNWRITTEN, sizeof *length);
     *speed = UNWRITTEN;
+    *place = UNWRITTEN;
 }
 
 static inline void put_answer(uint8_t number) {
@@ -199,13 +202,15 @@ static inline void put_reply(uint8_t number) {
     put_number(*length);
     put(' ');
     put_buffer(&replies, *length);
+    put(' ');
+    put_number(*place);
     put('\n');
 }
 
 static void receive(uint8_t byte, size_t room) {
     unwrite();
     uint8_t *reply = lend(&replies, room);
-    put_reply(dirgemist_meter_receive(meter, byte, reply, room, length, speed));
+    put_reply(dirgemist_meter_receive(meter, byte, reply, room, length, speed, place));
 }
 
 /* The room of the reply buffer, where it is given. */
@@ -246,7 +251,7 @@ static bool play_silence(const struct word *words, size_t count) {
     }
     unwrite();
     uint8_t *reply = lend(&replies, room);
-    put_reply(dirgemist_meter_silence(meter, reply, room, length, speed));
+    put_reply(dirgemist_meter_silence(meter, reply, room, length, speed, place));
     return true;
 }
 
@@ -316,6 +321,7 @@ int main(void) {
     places[1] = (struct dirgemist_meter *)placed(guarded(record), record, true);
     length = (size_t *)placed(guarded(sizeof *length), sizeof *length, false);
     speed = placed(guarded(sizeof *speed), sizeof *speed, false);
+    place = placed(guarded(sizeof *place), sizeof *place, false);
     replies = buffer_for(ROOM_MOST);
     meter = places[0];
     struct facts blank = usual();

@@ -13,9 +13,10 @@
 _Static_assert(sizeof(struct dirgemist_date) == 4, "date");
 _Static_assert(sizeof(struct dirgemist_time) == 3, "time");
 _Static_assert(sizeof(struct dirgemist_clock) == 8, "clock");
-_Static_assert(sizeof(struct dirgemist_receiver) == 65, "receiver");
+_Static_assert(sizeof(struct dirgemist_receiver) == 66, "receiver");
 _Static_assert(offsetof(struct dirgemist_receiver, count) == 63, "count's place");
 _Static_assert(offsetof(struct dirgemist_receiver, mark) == 64, "mark's place");
+_Static_assert(offsetof(struct dirgemist_receiver, place) == 65, "place's place");
 _Static_assert(sizeof(struct dirgemist_counters) == 20, "counters");
 _Static_assert(offsetof(struct dirgemist_counters, total) == 16, "total's place");
 _Static_assert(sizeof(struct dirgemist_facts) == 18, "facts");
@@ -28,8 +29,8 @@ _Static_assert(offsetof(struct dirgemist_registers, tables) == 56, "tables' plac
 _Static_assert(sizeof(struct dirgemist_registers) == 632, "registers");
 _Static_assert(offsetof(struct dirgemist_meter, speed) == 2, "speed's place");
 _Static_assert(offsetof(struct dirgemist_meter, receiver) == 3, "receiver's place");
-_Static_assert(offsetof(struct dirgemist_meter, registers) == 68, "registers' place");
-_Static_assert(sizeof(struct dirgemist_meter) == 700, "meter");
+_Static_assert(offsetof(struct dirgemist_meter, registers) == 72, "registers' place");
+_Static_assert(sizeof(struct dirgemist_meter) == 704, "meter");
 
 #define ROOM DIRGEMIST_REPLY_ROOM
 
@@ -51,6 +52,7 @@ static uint8_t with_parity(uint8_t character) {
 static uint8_t *reply;
 static size_t *length;
 static uint8_t *speed;
+static uint8_t *place;
 static uint32_t *total;
 static uint8_t filled[ROOM];
 
@@ -69,7 +71,9 @@ static uint8_t meet(struct dirgemist_meter *meter, uint8_t kind, uint32_t value,
     memcpy(at, filled, room);
     *length = 99;
     *speed = 99;
-    uint8_t number = dirgemist_meter_meet(meter, kind, value, at, room, length, speed);
+    *place = 99;
+    uint8_t number = dirgemist_meter_meet(meter, kind, value, at, room, length, speed, place);
+    expect(*place == 0 || number == 3, "a place with another number than 3");
     expect(*length <= room, "a reply that does not fit");
     expect(*length > room || memcmp(at + *length, filled, room - *length) == 0, "a byte past the reply");
     calls++;
@@ -82,7 +86,7 @@ static void refused(struct dirgemist_meter *meter, uint8_t kind, uint32_t value,
     struct dirgemist_meter before;
     memcpy(&before, meter, sizeof before);
     expect(meet(meter, kind, value, room) == number, what);
-    expect(*length == 0 && *speed == 0, what);
+    expect(*length == 0 && *speed == 0 && *place == 0, what);
     expect(memcmp(&before, meter, sizeof before) == 0, what);
 }
 
@@ -99,8 +103,8 @@ static void say(struct dirgemist_meter *meter, const char *what, const char *mes
         expect(meter->receiver.held[before] == (uint8_t)message[at], what);
     }
     uint8_t last = with_parity((uint8_t)message[message_length - 1]);
-    expect(dirgemist_meter_receive(meter, last, reply, ROOM, length, speed) == number, what);
-    expect(*length == answer_length && *speed == at_speed, what);
+    expect(dirgemist_meter_receive(meter, last, reply, ROOM, length, speed, place) == number, what);
+    expect(*length == answer_length && *speed == at_speed && *place == 0, what);
     for (size_t at = 0; at < answer_length && at < *length; at++) {
         expect(reply[at] == with_parity((uint8_t)answer[at]), what);
     }
@@ -214,13 +218,66 @@ static void talks_slowly(struct dirgemist_meter *meter) {
     meter->speed = 0;
 }
 
+/* A frame whose characters from `first` on come damaged, every `step`th of them: 3 and the first's place. */
+static void is_hurt(struct dirgemist_meter *meter, const char *frame, size_t size, size_t first, size_t step) {
+    for (size_t at = 0; at < size; at++) {
+        uint8_t byte = with_parity((uint8_t)frame[at]);
+        if (at >= first && (at - first) % step == 0) {
+            byte ^= (uint8_t)(1 << at % 8);
+        }
+        uint8_t number = meet(meter, DIRGEMIST_CHARACTER, byte, ROOM);
+        if (at + 1 == size) {
+            expect(number == 3 && *place == first, "the first damaged character's place");
+        } else {
+            expect(number == 0 && meter->receiver.mark == (at >= first), "a damaged frame goes on");
+            expect(meter->receiver.place == (at >= first ? first : 0), "the place that is kept");
+        }
+    }
+    expect(meter->receiver.mark == 0 && meter->receiver.place == 0, "nothing is left of it");
+}
+
+/* Damage at each place of a frame but its SOH and its ETX, alone and with more behind it; a restart forgets it. */
+static void tells_the_place(struct dirgemist_meter *meter) {
+    static const char frame[] = "\001R1\002Z(17)\003\x51";
+    size_t size = sizeof frame - 1, etx = size - 2;
+    meter->mode = 4;
+    meter->speed = 5;
+    for (size_t first = 1; first < size; first++) {
+        for (size_t step = 1; step < size && first != etx; step++) {
+            if (first > etx || (etx - first) % step != 0) {
+                is_hurt(meter, frame, size, first, step);
+            }
+        }
+        for (size_t at = 0; at < first; at++) {
+            uint8_t stray = at == 0 ? with_parity(1) : with_parity('x') ^ 1;
+            expect(meet(meter, DIRGEMIST_CHARACTER, stray, ROOM) == 0, "a frame that is not finished");
+        }
+        expect(meter->receiver.place == (first > 1), "its place");
+        is_hurt(meter, frame, size, size - 1, 1);
+    }
+    SAY(meter, "undamaged again", "\001R1\002E1()\003\x17", 1, "\00215.8.1(000001.500*kWh)\r\n\003\x6c", 5);
+    for (unsigned mark = 0; mark < 3; mark++) {
+        for (unsigned at = 0; at < 256; at++) {
+            meter->receiver = (struct dirgemist_receiver){.held = {1, 0, 0}, .count = 3};
+            meter->receiver.mark = (uint8_t)mark;
+            meter->receiver.place = (uint8_t)at;
+            int good = mark == 0 ? at == 0 : mark == 1 && at < 3;
+            expect(dirgemist_meter_check(meter) == (good ? 1 : 14), "a place that no receiver has");
+        }
+    }
+    meter->receiver = (struct dirgemist_receiver){.count = 0};
+    meter->mode = 0;
+    meter->speed = 0;
+}
+
 /* Silence in each mode, seconds over the end of a month, a zone for each hour, power-up. */
 static void passes(struct dirgemist_meter *meter) {
     struct dirgemist_meter before = *meter;
     for (uint8_t mode = 0; mode <= 4; mode++) {
         meter->mode = mode;
         meter->speed = mode < 3 ? 0 : 5;
-        uint8_t number = dirgemist_meter_silence(meter, reply, ROOM, length, speed);
+        uint8_t number = dirgemist_meter_silence(meter, reply, ROOM, length, speed, place);
+        expect(*place == 0, "silence has no place");
         expect(number == (mode == 0 ? 0 : 1) && meter->mode == 0 && *speed == 0, "silence");
         expect(*length == (mode == 1 ? 1 : 0) && (mode != 1 || reply[0] == with_parity(0x15)),
                "NAK at silence in mode 1 alone");
@@ -326,6 +383,9 @@ static int is_formed(const struct dirgemist_meter *meter) {
     if (meter->speed != 0 && (meter->speed != 5 || meter->mode < 2)) {
         return 0;
     }
+    if (mark ? held->place >= held->count : held->place != 0) {
+        return 0;
+    }
     if (held->count == 0 ? mark : meter->mode != 1 && held->held[0] != first[meter->mode]) {
         return 0;
     }
@@ -392,16 +452,19 @@ int main(void) {
     reply = exactly(ROOM);
     length = exactly(sizeof *length);
     speed = exactly(sizeof *speed);
+    place = exactly(sizeof *place);
     total = exactly(sizeof *total);
     memset(filled, 0x5A, ROOM);
     long formed = 0;
     makes(meter);
     talks(meter);
     talks_slowly(meter);
+    tells_the_place(meter);
     passes(meter);
     refuses(meter);
     takes_anything(meter, &formed);
     give_back(total, sizeof *total);
+    give_back(place, sizeof *place);
     give_back(speed, sizeof *speed);
     give_back(length, sizeof *length);
     give_back(reply, ROOM);

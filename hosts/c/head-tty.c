@@ -153,8 +153,8 @@ static size_t take_reply(int line, uint8_t *reply) {
 /* The data sets of a block that the session took, one a line. */
 static void show(const uint8_t *reply, size_t length) {
     static uint8_t stripped[REPLY_MOST];
-    size_t count, start, part;
-    if (dirgemist_head_strip(reply, length, stripped, sizeof stripped, &count) !=
+    size_t count, place, start, part;
+    if (dirgemist_head_strip(reply, length, stripped, sizeof stripped, &count, &place) !=
             DIRGEMIST_HEAD_DONE ||
         dirgemist_head_part(stripped, count, &start, &part) != DIRGEMIST_HEAD_DONE) {
         return;

@@ -232,8 +232,14 @@ static void export(const struct given *g) {
 
 static void strip(const struct given *g) {
     uint8_t *out = room_lent(g[0].number);
-    uint8_t answer = dirgemist_head_strip(T(1), out, buffer.room, numbers[0]);
-    put_written(answer, *numbers[0], *numbers[0]);
+    size_t *length = numbers[0], *place = numbers[1];
+    uint8_t answer = dirgemist_head_strip(T(1), out, buffer.room, length, place);
+    TELL(answer, *length);
+    put(' ');
+    put_buffer(&buffer, *length);
+    put(' ');
+    put_number(*place);
+    put('\n');
 }
 
 static void part(const struct given *g) {

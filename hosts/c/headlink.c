@@ -274,7 +274,8 @@ static void try_clocks(void) {
 
 /* ---- Replies. */
 
-static void try_strip(const uint8_t *reply, size_t size, size_t in, int damaged) {
+/* Whole where no byte is damaged, else damaged first at `hurt`. */
+static void try_strip(const uint8_t *reply, size_t size, size_t in, int damaged, size_t hurt) {
     uint8_t seven[1100];
     uint8_t number = in < size ? 26 : damaged ? 24 : 1;
     for (size_t at = 0; at < size; at++) {
@@ -282,8 +283,9 @@ static void try_strip(const uint8_t *reply, size_t size, size_t in, int damaged)
     }
     const uint8_t *own = lent(reply, size);
     lend(in);
-    expect(dirgemist_head_strip(own, size, out, room, length) == number, "strip's number");
+    expect(dirgemist_head_strip(own, size, out, room, length, place) == number, "strip's number");
     expect(*length == (number == 1 ? size : 0), "strip's length");
+    expect(*place == (number == 24 ? hurt : 0), "strip's place");
     holds(seven, number == 1 ? size : 0, "strip's buffer");
     give_back(own, size);
 }
@@ -296,23 +298,26 @@ static void try_strips(void) {
     }
     for (size_t i = 0; i < COUNT(sizes); i++) {
         size_t size = sizes[i];
-        try_strip(reply, size, size, 0);
-        try_strip(reply, size, size + 1, 0);
-        try_strip(reply, size, size + 40, 0);
+        try_strip(reply, size, size, 0, 0);
+        try_strip(reply, size, size + 1, 0, 0);
+        try_strip(reply, size, size + 40, 0, 0);
         if (size > 0) {
-            try_strip(reply, size, size - 1, 0);
-            try_strip(reply, size, 0, 0);
+            try_strip(reply, size, size - 1, 0, 0);
+            try_strip(reply, size, 0, 0, 0);
         }
         for (size_t at = 0; at < size; at++) {
             reply[at] ^= (uint8_t)(1 << at % 8);
-            try_strip(reply, size, size, 1);
-            try_strip(reply, size, size - 1, 1);
+            try_strip(reply, size, size, 1, at);
+            try_strip(reply, size, size - 1, 1, at);
+            reply[size - 1] ^= (uint8_t)(at + 1 < size);
+            try_strip(reply, size, size, 1, at);
+            reply[size - 1] ^= (uint8_t)(at + 1 < size);
             reply[at] ^= (uint8_t)(1 << at % 8);
         }
     }
     for (int c = 0; c < 256; c++) {
         uint8_t one = (uint8_t)c;
-        try_strip(&one, 1, 1, __builtin_popcount((unsigned)c) % 2 == 1);
+        try_strip(&one, 1, 1, __builtin_popcount((unsigned)c) % 2 == 1, 0);
     }
 }
 

@@ -189,9 +189,9 @@ static void meet(uint8_t kind, uint32_t value) {
     static uint8_t reply[DIRGEMIST_REPLY_ROOM];
     struct dirgemist_registers before = meter->registers;
     size_t length;
-    uint8_t speed;
+    uint8_t speed, place;
     uint8_t number =
-        dirgemist_meter_meet(meter, kind, value, reply, sizeof reply, &length, &speed);
+        dirgemist_meter_meet(meter, kind, value, reply, sizeof reply, &length, &speed, &place);
     if (number >= 12) {
         fprintf(stderr, "%s: the meter answers %u\n", program, number);
         exit(UNABLE);

@@ -17,11 +17,11 @@ static ucontext_t here, there;
 static struct dirgemist_meter meter;
 static uint8_t reply[DIRGEMIST_REPLY_ROOM];
 static size_t length;
-static uint8_t speed, kind;
+static uint8_t speed, place, kind;
 static uint32_t value;
 
 static void nothing(void) {}
-static void meet(void) { dirgemist_meter_meet(&meter, kind, value, reply, sizeof reply, &length, &speed); }
+static void meet(void) { dirgemist_meter_meet(&meter, kind, value, reply, sizeof reply, &length, &speed, &place); }
 static void check(void) { dirgemist_meter_check(&meter); }
 
 static void total(void) {

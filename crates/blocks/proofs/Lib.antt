@@ -1,3 +1,4 @@
 pub mod Copying
 pub mod Shape
 pub mod Length
+pub mod Hurt

@@ -21,9 +21,11 @@ pub const DAMAGED: u8 = 24;
 
 pub const SHORT: u8 = 26;
 
+// What stripping answers: with 24 the place of the first damaged byte, else 0.
 pub struct Stripped {
     pub number: u8,
     pub length: usize,
+    pub place: usize,
 }
 
 // Copies the seven bits of each byte to the front of a buffer.
@@ -38,7 +40,7 @@ fn copy_seven(s: &[u8], out: &mut [u8])
     }
 }
 
-// Strips a reply's parity into a second buffer, or writes nothing.
+// Strips a reply's parity into a second buffer, or writes nothing. The place is looked for only where a byte was damaged.
 pub fn strip(reply: &[u8], out: &mut [u8]) -> Stripped
     ensures { λ r. ⌜ Strips (now (reply .entry)) (now (out .entry)) r (now (out .exit)) ⌝ }
 {
@@ -46,18 +48,21 @@ pub fn strip(reply: &[u8], out: &mut [u8]) -> Stripped
         return Stripped {
             number: SHORT,
             length: 0,
+            place: 0,
         };
     }
     if !line::undamaged(reply) {
         return Stripped {
             number: DAMAGED,
             length: 0,
+            place: damage::first_damaged(reply),
         };
     }
     copy_seven(reply, out);
     Stripped {
         number: DONE,
         length: reply.len(),
+        place: 0,
     }
 }
 

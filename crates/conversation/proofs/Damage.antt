@@ -32,7 +32,7 @@ use Rattle.meter.specs.SignOn.{signsOnBy, wantsBlock, wantsProgram}
 use Rattle.meter.specs.Acting.{passwordGiven, tried, acted}
 use Rattle.meter.specs.Character.{symbol, lineEnded, confirmed, heard, taken, character}
 use Rattle.promises.proofs.Choices as choice
-use Rattle.promises.proofs.Verdicts.{FrameNumber, parity, checksum, shape, unknown, not-allowed, content-wrong, verdict-all}
+use Rattle.promises.proofs.Verdicts.{never-zero, verdict-all}
 use Rattle.promises.proofs.Kept.{refused-keeps}
 use Rattle.promises.proofs.Formed.{character-stays}
 use Rattle.commands.specs.Messages.{Message, textOf, goodMessage}
@@ -68,20 +68,12 @@ module _ (m : Meter) (c : ℕ) (d : Bool) where
       choice.either Stays (eqb (m .attempts) 3) (λ e. absurd (omega arith))
       (choice.either Stays (sameText (passwordGiven m) (m .registers .facts .password)) (λ e. absurd (omega arith)) (λ e. absurd (omega arith)))
 
-  never-zero : (n : ℕ) → FrameNumber n → n ≡ 0 → ⊥
-  never-zero n parity e = omega arith
-  never-zero n checksum e = omega arith
-  never-zero n shape e = omega arith
-  never-zero n unknown e = omega arith
-  never-zero n not-allowed e = omega arith
-  never-zero n content-wrong e = omega arith
-
   frame-stays : (mark : Bool) → Stays (acted m (verdict (m .mode) (heldText (m .receiver)) mark c))
   unfolding acted
   frame-stays mark =
       verdict-all (λ (v : Verdict). Stays (acted m v)) (m .mode) (heldText (m .receiver)) mark c
       (record {
-        refuse = λ n k e. absurd (never-zero n k e);
+        refuse = λ n k e. absurd (never-zero mark n k e);
         leave = λ e. absurd (omega arith);
         enter = λ k e. absurd (omega arith);
         password = λ k w. tried-stays;

@@ -18,7 +18,7 @@ use Rattle.receiving.specs.declared.Hearing.the-variants.{Drop, Hold, Restart, 
 use Rattle.receiving.specs.Hearing.{hearing, listening, confirming, framing}
 use Rattle.receiving.specs.Receivers.{lastHeld}
 use Rattle.deciding.specs.Verdict.{verdict}
-use Rattle.meter.specs.Outcomes.{Outcome, fallen, nak}
+use Rattle.meter.specs.Outcomes.{Outcome, atPlace, fallen, nak}
 use Rattle.meter.specs.Acting.{acted}
 use Rattle.meter.specs.Character.{symbol, lineEnded, confirmed, heard, taken, character}
 use Rattle.promises.proofs.Choices as choice
@@ -100,9 +100,13 @@ module _ (m : Meter) (c : ℕ) (d : Bool) where
         modes = λ x e. choice.told (λ (i : ℕ). stray i x ≡ false) (eqb (m .mode) 2) (λ two. falls (m .mode) x (omega (arith, eqb-true (m .mode) 2 two)) e) (λ not-two. e);
       }
 
+  -- a place changes nothing of it
+  placed-quiet : (o : Outcome) (place : ℕ) → Quiet m c o → Quiet m c (atPlace o place)
+  placed-quiet o place q = record { registers = q .registers; attempts = q .attempts; reply = q .reply; spoilt = q .spoilt; modes = q .modes }
+
   frame-quiet : (m .mode ≡ 1 → ⊥) → seen ≡ true → Quiet m c (heard m c d Frame)
   unfolding heard verdict acted
-  frame-quiet k h = rw h (nak-quiet 3 k)
+  frame-quiet k h = rw h (placed-quiet _ _ (nak-quiet 3 k))
 
   too-long-quiet : (m .mode ≡ 1 → ⊥) → Quiet m c (heard m c d TooLong)
   unfolding heard

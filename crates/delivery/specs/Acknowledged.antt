@@ -20,11 +20,11 @@ acknowledgements (s ∷ ss) = isDone (s .number) + acknowledgements ss
 
 -- taken, nothing to say, at the session's speed
 abbrev pub nothing : ℕ → Said
-nothing speed = record { number = 0; speed = speed; reply = [] }
+nothing speed = record { number = 0; speed = speed; reply = []; place = 0 }
 
 -- answer 1 and ACK, at the session's speed
 abbrev pub acknowledgement : ℕ → Said
-acknowledgement speed = record { number = 1; speed = speed; reply = accepted }
+acknowledgement speed = record { number = 1; speed = speed; reply = accepted; place = 0 }
 
 -- a frame of 36 bytes: nothing at each but the last, which is acknowledged
 unfoldable pub acknowledgedOnce : ℕ → List Entry → List Said

@@ -24,6 +24,7 @@ use Rattle.deciding.specs.Shape.{startGood, bareShape, framedShape, content}
 use Rattle.deciding.specs.Verdict.{framedVerdict, shapeVerdict, verdict}
 use Rattle.meter.specs.Outcomes.{Outcome, silent}
 use Rattle.meter.specs.Acting.{acted}
+use Rattle.meter.proofs.Places.{acted-nowhere, at-none}
 use Rattle.meter.specs.Character.{heard, character}
 use Rattle.dialogue.specs.Feeding.{Said, saidIn, quiet, atLast}
 use Rattle.dialogue.proofs.Feeding.{Fed, fed-none, fed-next, fed-append}
@@ -74,6 +75,7 @@ module _ (mode a s : ℕ) (g : Registers) (fit : Fit mode a s g) (h : 2 ≤ mode
       ∙ ap (λ (x : ℕ). eqb x 3) (getD-append-seam body 3 zs 0) in
       let f = holding-formed mode a s g fit 1 inFrame (frame-rule mode h) ys (omega (arith, frame-limit mode h)) ended-small in
       heard-as ended c Frame f low (ends-frame mode h (length ys) _ c (ap (λ (k : ℕ). eqb k 3) (last-held 1 ys) ∙ l))
+      ∙ at-none (acted ended (verdict mode _ false c)) (acted-nowhere ended (verdict mode _ false c))
       ∙ ap (λ (t : List ℕ). acted ended (verdict mode t false c)) (held-is 1 ys)
 
   -- all of it: nothing at each byte but the last, and there what is done with the verdict

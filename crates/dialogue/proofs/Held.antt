@@ -18,7 +18,7 @@ use Rattle.state.specs.Sizes.{replyRoom, heldPlaces}
 use Rattle.state.specs.declared.Receiver.{Receiver}
 use Rattle.state.specs.declared.Registers.{Registers}
 use Rattle.state.specs.declared.Meter.{Meter}
-use Rattle.state.specs.WellFormed.{limit, firstGood, markGood, heldGood, receiverGood, speedGood, registersGood, wellFormed}
+use Rattle.state.specs.WellFormed.{limit, firstGood, markGood, hurtGood, heldGood, receiverGood, speedGood, registersGood, wellFormed}
 use Rattle.state.specs.Making.{emptyReceiver}
 use Rattle.state.specs.Setting.{meterIn, withHeld, withMark, withReceiver}
 use Rattle.state.proofs.Limits.{limit-most}
@@ -136,7 +136,7 @@ zeros (c ∷ s) h =
     ap₂ (λ (x : ℕ) (l : List ℕ). x ∷ l) {y = 0} (omega arith) (zeros s (and-right (between 0 0 c) (every (between 0 0) s) h))
 
 empty-is : (mode : ℕ) (r : Receiver) → receiverGood mode r ≡ true → r .count ≡ 0 → r ≡ emptyReceiver
-unfolding heldGood markGood
+unfolding heldGood markGood hurtGood
 empty-is mode r h none =
     let f = formed-receiver mode r h in
     let e : r .held ≡ replicate heldPlaces 0 =
@@ -146,7 +146,8 @@ empty-is mode r h none =
     (and-right (eqb (length (r .held)) heldPlaces) (every (between 0 127) (r .held) && every (between 0 0) (drop (r .count) (r .held))) (f .held)))
     ∙ ap (λ (n : ℕ). replicate n 0) (held-long mode r h) in
     let k : r .mark ≡ 0 = eqb-true (r .mark) 0 (and-right (leb (r .mark) 1) (eqb (r .mark) 0) (rw none at (f .mark))) in
-    ap₂ (withHeld r) e none ∙ ap (withMark emptyReceiver) k
+    let p : r .place ≡ 0 = eqb-true (r .place) 0 (rw k at (f .hurt)) in
+    ap₂ (withHeld r) e none ∙ ap₂ (withMark emptyReceiver) k p
 
 module _ (m : Meter) (f : wellFormed m ≡ true) where
   -- so a well-formed meter with nothing held is one with an empty receiver
@@ -170,15 +171,15 @@ module _ (mode a s : ℕ) (g : Registers) (fit : Fit mode a s g) where
   formed-with r e = well-formed _ (record { mode = fit .known; attempts = fit .attempts; speed = fit .speed; receiver = e; registers = fit .registers })
 
   pub idle-formed : wellFormed (idle mode a s g) ≡ true
-  unfolding markGood
-  idle-formed = formed-with emptyReceiver (receiver-good mode emptyReceiver (record { count = omega arith; first = none-first mode; mark = refl; held = no-held-good }))
+  unfolding markGood hurtGood
+  idle-formed = formed-with emptyReceiver (receiver-good mode emptyReceiver (record { count = omega arith; first = none-first mode; mark = refl; hurt = refl; held = no-held-good }))
 
   module _ (c : ℕ) (p : ℕ → Bool) (rule : Rule mode c p) where
     small-all : (ys : List ℕ) → every p ys ≡ true → every (between 0 127) ys ≡ true
     small-all = every-weaker p (between 0 127) (λ x h. small-is x (rule .kind x h .small))
 
     pub holding-formed : (ys : List ℕ) → length ys < limit mode → every (between 0 127) ys ≡ true → wellFormed (holding mode a s g c ys) ≡ true
-    unfolding markGood
+    unfolding markGood hurtGood
     holding-formed ys long small =
         formed-with (openReceiver c ys)
         (receiver-good mode (openReceiver c ys)
@@ -186,6 +187,7 @@ module _ (mode a s : ℕ) (g : Registers) (fit : Fit mode a s g) where
           count = omega arith;
           first = rule .first (length ys);
           mark = rw (eqb·suc-zero (length ys));
+          hurt = refl;
           held = held-good c ys (rule .plain .small) (omega (arith, limit-most mode)) small;
         }))
 

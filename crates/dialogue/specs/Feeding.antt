@@ -12,9 +12,10 @@ pub record Said : Type 0 where
   pub number : ℕ
   pub speed : ℕ
   pub reply : List ℕ
+  pub place : ℕ
 
 abbrev pub saidIn : Outcome → Said
-saidIn o = record { number = o .number; speed = o .speed; reply = o .reply }
+saidIn o = record { number = o .number; speed = o .speed; reply = o .reply; place = o .place }
 
 -- the rooms of the events after the first
 abbrev pub later : (ℕ → ℕ) → ℕ → ℕ
@@ -36,7 +37,7 @@ full i = replyRoom
 
 -- taken, nothing to say, at a speed
 abbrev pub quiet : ℕ → Said
-quiet speed = record { number = 0; speed = speed; reply = [] }
+quiet speed = record { number = 0; speed = speed; reply = []; place = 0 }
 
 -- nothing at so many bytes, and something at the last
 abbrev pub atLast : ℕ → ℕ → Said → List Said

@@ -6,12 +6,12 @@ use Rattle.settling.specs.declared.Heard.{Heard}
 use Rattle.firmware.specs.declared.Reply.{Reply}
 
 abbrev pub replyTo : Answer → Reply
-replyTo a = record { number = a .number; length = a .length; speed = a .speed }
+replyTo a = record { number = a .number; length = a .length; speed = a .speed; place = a .place }
 
--- the number, the reply's length and its speed
+-- the number, the reply's length, its speed and the place
 abbrev pub replyOf : Outcome → Reply
-replyOf o = record { number = o .number; length = length (o .reply); speed = o .speed }
+replyOf o = record { number = o .number; length = length (o .reply); speed = o .speed; place = o .place }
 
 -- a settled character has none
 abbrev pub settledReply : Heard → Reply
-settledReply h = record { number = h .number; length = 0; speed = h .speed }
+settledReply h = record { number = h .number; length = 0; speed = h .speed; place = 0 }

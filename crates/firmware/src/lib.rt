@@ -16,6 +16,7 @@ pub struct Reply {
     pub number: u8,
     pub length: usize,
     pub speed: u8,
+    pub place: u8,
 }
 
 fn reply_of(a: Answer) -> Reply
@@ -25,6 +26,7 @@ fn reply_of(a: Answer) -> Reply
         number: a.number,
         length: a.length,
         speed: a.speed,
+        place: a.place,
     }
 }
 
@@ -54,6 +56,7 @@ fn short_reply(h: Heard) -> Reply
         number: h.number,
         length: 0,
         speed: h.speed,
+        place: 0,
     }
 }
 
@@ -75,15 +78,16 @@ pub fn meet_in_place(m: &mut Meter, kind: u8, value: u32, reply: &mut [u8]) -> R
     reply_of(a)
 }
 
-fn tell(r: Reply, count: &mut usize, speed: &mut u8) -> u8
-    ensures { λ n. ⌜ (n ≡ r .number) × (now (count .exit) ≡ r .length) × (now (speed .exit) ≡ r .speed) ⌝ }
+fn tell(r: Reply, count: &mut usize, speed: &mut u8, place: &mut u8) -> u8
+    ensures { λ n. ⌜ (n ≡ r .number) × (now (count .exit) ≡ r .length) × (now (speed .exit) ≡ r .speed) × (now (place .exit) ≡ r .place) ⌝ }
 {
     *count = r.length;
     *speed = r.speed;
+    *place = r.place;
     r.number
 }
 
-// The same for C: the answer's number, with the reply's length and its speed where the caller asks for them.
+// The same for C: the answer's number, with the reply's length, its speed and the place where the caller asks for them.
 #[no_mangle]
 pub extern "C" fn dirgemist_meter_meet(
     m: &mut Meter,
@@ -92,13 +96,15 @@ pub extern "C" fn dirgemist_meter_meet(
     reply: &mut [u8],
     count: &mut usize,
     speed: &mut u8,
+    place: &mut u8,
 ) -> u8
     ensures { λ r. ⌜ (r ≡ met (now (m .entry)) (length (now (reply .entry))) (eventOf kind value) .number)
         × (now (m .exit) ≡ met (now (m .entry)) (length (now (reply .entry))) (eventOf kind value) .next)
         × (now (reply .exit) ≡ holding (now (reply .entry)) (onWire (met (now (m .entry)) (length (now (reply .entry))) (eventOf kind value) .reply)))
         × (now (count .exit) ≡ length (met (now (m .entry)) (length (now (reply .entry))) (eventOf kind value) .reply))
-        × (now (speed .exit) ≡ met (now (m .entry)) (length (now (reply .entry))) (eventOf kind value) .speed) ⌝ }
+        × (now (speed .exit) ≡ met (now (m .entry)) (length (now (reply .entry))) (eventOf kind value) .speed)
+        × (now (place .exit) ≡ met (now (m .entry)) (length (now (reply .entry))) (eventOf kind value) .place) ⌝ }
 {
     let r = meet_in_place(m, kind, value, reply);
-    tell(r, count, speed)
+    tell(r, count, speed, place)
 }

@@ -6,13 +6,19 @@ ghost use Rattle.reading.specs.Sets.{setRead};
 ghost use Rattle.reader.specs.Walking.{setAfter};
 ghost use Rattle.finding.specs.Finding.{lookup};
 
-// Strips a reply's parity into a second buffer.
+// Strips a reply's parity into a second buffer; with 24 the place of the first damaged byte.
 #[no_mangle]
-pub extern "C" fn dirgemist_head_strip(reply: &[u8], out: &mut [u8], size: &mut usize) -> u8
-    ensures { λ r. ⌜ Strips (now (reply .entry)) (now (out .entry)) (record { number = r; length = now (size .exit) }) (now (out .exit)) ⌝ }
+pub extern "C" fn dirgemist_head_strip(
+    reply: &[u8],
+    out: &mut [u8],
+    size: &mut usize,
+    place: &mut usize,
+) -> u8
+    ensures { λ r. ⌜ Strips (now (reply .entry)) (now (out .entry)) (record { number = r; length = now (size .exit); place = now (place .exit) }) (now (out .exit)) ⌝ }
 {
     let s = blocks::strip(reply, out);
     *size = s.length;
+    *place = s.place;
     s.number
 }
 

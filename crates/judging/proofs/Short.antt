@@ -25,7 +25,7 @@ use Rattle.values.specs.declared.reading.TimeRead.{TimeRead}
 use Rattle.values.specs.declared.reading.CounterRead.{CounterRead}
 use Rattle.values.specs.Reading.{dateRead, timeRead, counterRead, noDate, noTime}
 use Rattle.text.specs.Writing.{holding}
-use Rattle.blocks.specs.Stripping.{strippedOf, strippedInto, Strips}
+use Rattle.blocks.specs.Stripping.{strippedBy, strippedOf, strippedInto, Strips}
 use Rattle.blocks.specs.declared.Stripped.{Stripped}
 use Rattle.blocks.specs.declared.PartAt.{PartAt}
 use Rattle.blocks.specs.Parts.{partOf, isBlock, bccFits}
@@ -167,11 +167,7 @@ answer-short letter n s h =
 -- what the head strips into 64 bytes it judges as the reply itself
 module _ (letter n : ℕ) (reply out after : List ℕ) (r : Stripped) (strips : Strips reply out r after) (room : length out ≡ 64) where
   -- a reply that does not strip is none of these
-  abbrev strippedBy : Bool → Bool → Stripped
-  strippedBy a b =
-      cond a (record { number = 26; length = 0 }) (cond b (record { number = 1; length = length reply }) (record { number = 24; length = 0 }))
-
-  refused-by : (a b : Bool) → ltb (length out) (length reply) ≡ a → undamagedAll reply ≡ b → (strippedBy a b .number ≡ 1 → ⊥) → (b && answersIn letter n (map seven reply)) ≡ false
+  refused-by : (a b : Bool) → ltb (length out) (length reply) ≡ a → undamagedAll reply ≡ b → (strippedBy reply a b .number ≡ 1 → ⊥) → (b && answersIn letter n (map seven reply)) ≡ false
   refused-by true true e f other = never (answersIn letter n (map seven reply)) (λ h. omega (arith, room, ltb-true (length out) (length reply) e, answer-short letter n (map seven reply) h, length-map reply seven))
   refused-by true false e f other = refl
   refused-by false true e f other = absurd (other refl)
@@ -181,8 +177,8 @@ module _ (letter n : ℕ) (reply out after : List ℕ) (r : Stripped) (strips : 
   unfolding answers strippedOf
   not-stripped other = refused-by (ltb (length out) (length reply)) (undamagedAll reply) refl refl (λ e. other (ap (λ (x : Stripped). x .number) (strips .answer) ∙ e))
 
-  judged-by : (a b : Bool) → ltb (length out) (length reply) ≡ a → undamagedAll reply ≡ b → strippedBy a b .number ≡ 1
-      → (b && answersIn letter n (map seven reply)) ≡ answersIn letter n (take (strippedBy a b .length) (cond a out (cond b (holding out (map seven reply)) out)))
+  judged-by : (a b : Bool) → ltb (length out) (length reply) ≡ a → undamagedAll reply ≡ b → strippedBy reply a b .number ≡ 1
+      → (b && answersIn letter n (map seven reply)) ≡ answersIn letter n (take (strippedBy reply a b .length) (cond a out (cond b (holding out (map seven reply)) out)))
   unfolding holding
   judged-by true b e f done = absurd (omega (arith, done))
   judged-by false true e f done = ap (answersIn letter n) (sym (take-at (map seven reply) (drop (length (map seven reply)) out) (length reply) (length-map reply seven)))

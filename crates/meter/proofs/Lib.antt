@@ -1,3 +1,4 @@
 pub mod SignOn
 pub mod Known
 pub mod Tests
+pub mod Places

@@ -14,12 +14,12 @@ use Rattle.state.specs.Making.{emptyReceiver}
 use Rattle.receiving.specs.declared.Hearing.{Hearing}
 use Rattle.receiving.specs.declared.Hearing.the-variants.{Drop, Hold, Restart, Empty, Line, Confirm, Frame, TooLong}
 use Rattle.receiving.specs.Hearing.{hearing}
-use Rattle.receiving.specs.Receivers.{heldText, lastHeld, keptReceiver, restartedReceiver}
+use Rattle.receiving.specs.Receivers.{heldText, lastHeld, hurtPlace, keptReceiver, restartedReceiver}
 use Rattle.deciding.specs.Verdict.{verdict}
 use Rattle.replies.specs.Block.{blockData}
 use Rattle.replies.specs.Fixed.{identification, passwordAsk}
 use Rattle.state.specs.Setting.{withReceiver, inMode, withSpeed}
-use Rattle.meter.specs.Outcomes.{Outcome, silent, unheard, saying, nak}
+use Rattle.meter.specs.Outcomes.{Outcome, silent, unheard, saying, atPlace, nak}
 use Rattle.meter.specs.SignOn.{signsOnBy, wantsBlock, wantsProgram}
 use Rattle.meter.specs.Acting.{acted}
 
@@ -45,6 +45,11 @@ confirmed m c damaged =
     (cond (wantsProgram (heldText (m .receiver)) c) (saying 1 (confirmedSpeed m) passwordAsk (withSpeed (inMode m 2) (confirmedSpeed m)))
     (silent 2 (inMode m 0))))
 
+-- a whole frame, c being its BCC; [2]: where one of its characters was damaged, the answer has the place of the first, else 0
+abbrev pub frameEnded : Meter → ℕ → Bool → Outcome
+frameEnded m c damaged =
+    atPlace (acted m (verdict (m .mode) (heldText (m .receiver)) (marked (m .receiver) || damaged) c)) (hurtPlace (m .receiver) damaged)
+
 unfoldable pub heard : Meter → ℕ → Bool → Hearing → Outcome
 heard m c damaged Drop = silent 0 m
 heard m c damaged Hold = silent 0 (withReceiver m (keptReceiver (m .receiver) c damaged))
@@ -52,7 +57,7 @@ heard m c damaged Restart = silent 0 (withReceiver m (restartedReceiver c))
 heard m c damaged Empty = silent 0 (withReceiver m emptyReceiver)
 heard m c damaged Line = lineEnded m
 heard m c damaged Confirm = confirmed m c damaged
-heard m c damaged Frame = acted m (verdict (m .mode) (heldText (m .receiver)) (marked (m .receiver) || damaged) c)
+heard m c damaged Frame = frameEnded m c damaged
 heard m c damaged TooLong = nak 5 m
 
 unfoldable pub taken : Meter → ℕ → Outcome

@@ -1,4 +1,4 @@
--- What a call answers: the number, the reply as characters, its speed, and the next state.
+-- What a call answers: the number, the reply as characters, its speed, the place of the first damaged character with 3, and the next state.
 use mathlib.Core.Bool.{cond}
 use mathlib.Core.List.{List, []}
 use Prim.Native.Nat.{ℕ}
@@ -13,11 +13,12 @@ pub record Outcome : Type 0 where
   pub number : ℕ
   pub speed : ℕ
   pub reply : List ℕ
+  pub place : ℕ
   pub next : Meter
 
 -- as the call gives it, with the reply's length
 abbrev pub answerOf : Outcome → Answer
-answerOf o = record { number = o .number; length = length (o .reply); speed = o .speed; next = o .next }
+answerOf o = record { number = o .number; length = length (o .reply); speed = o .speed; place = o .place; next = o .next }
 
 -- the speed identifier that the state holds
 abbrev pub speedOf : Meter → ℕ
@@ -25,15 +26,19 @@ speedOf m = m .speed
 
 -- nothing to reply: the speed given is the next state's
 abbrev pub silent : ℕ → Meter → Outcome
-silent number next = record { number = number; speed = speedOf next; reply = []; next = next }
+silent number next = record { number = number; speed = speedOf next; reply = []; place = 0; next = next }
 
 -- 12 to 14: nothing changed, speed 0
 abbrev pub unheard : ℕ → Meter → Outcome
-unheard number m = record { number = number; speed = 0; reply = []; next = m }
+unheard number m = record { number = number; speed = 0; reply = []; place = 0; next = m }
 
 -- a reply at a speed
 abbrev pub saying : ℕ → ℕ → List ℕ → Meter → Outcome
-saying number speed reply next = record { number = number; speed = speed; reply = reply; next = next }
+saying number speed reply next = record { number = number; speed = speed; reply = reply; place = 0; next = next }
+
+-- the same with a place
+abbrev pub atPlace : Outcome → ℕ → Outcome
+atPlace o place = record { number = o .number; speed = o .speed; reply = o .reply; place = place; next = o .next }
 
 -- modes 3 and 4 stay; mode 2 falls to mode 0
 unfoldable pub fallen : ℕ → ℕ

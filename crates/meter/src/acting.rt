@@ -1,17 +1,16 @@
 // What a decision does: the reply, and the one thing that changes.
 ghost use mathlib.Core.Path.{_≡_};
-ghost use mathlib.Core.Bool.{true, _||_};
+ghost use mathlib.Core.Bool.{true};
 ghost use Prim.Native.Nat.{_≤_};
 ghost use lib.ListN.{length};
 ghost use Rattle.text.specs.Writing.{holding};
 ghost use Rattle.frames.specs.Frames.{onWire};
 ghost use Rattle.state.specs.Sizes.{tables, replyRoom};
-ghost use Rattle.state.specs.WellFormed.{wellFormed, marked};
-ghost use Rattle.receiving.specs.Receivers.{heldText};
-ghost use Rattle.deciding.specs.Verdict.{verdict};
+ghost use Rattle.state.specs.WellFormed.{wellFormed};
 ghost use Rattle.state.specs.Setting.{withRegisters, withClock};
 ghost use Rattle.meter.specs.Outcomes.{answerOf};
 ghost use Rattle.meter.specs.Acting.{tried, acted, accountTaken, rowTaken};
+ghost use Rattle.meter.specs.Character.{frameEnded};
 use crate::Answer;
 use crate::answers;
 use clock::Clock;
@@ -62,6 +61,7 @@ fn read(m: Meter, a: Ask, reply: &mut [u8]) -> Answer
         number: 1,
         length,
         speed: m.speed,
+        place: 0,
         next: emptied(m),
     }
 }
@@ -134,16 +134,15 @@ fn act(m: Meter, v: Verdict, reply: &mut [u8]) -> Answer
 // A frame is whole: its held characters, and c as its BCC.
 pub fn act_on_frame(m: Meter, c: u8, damaged: bool, reply: &mut [u8]) -> Answer
     requires { ⌜ (wellFormed m ≡ true) × (replyRoom ≤ length (now reply)) ⌝ }
-    ensures result { λ r. ⌜ r ≡ answerOf (acted m (verdict (m .mode) (heldText (m .receiver)) (marked (m .receiver) || damaged) c)) ⌝ }
-    ensures held { λ _. ⌜ now (reply .exit) ≡ holding (now (reply .entry)) (onWire (acted m (verdict (m .mode) (heldText (m .receiver)) (marked (m .receiver) || damaged) c) .reply)) ⌝ }
+    ensures result { λ r. ⌜ r ≡ answerOf (frameEnded m c damaged) ⌝ }
+    ensures held { λ _. ⌜ now (reply .exit) ≡ holding (now (reply .entry)) (onWire (frameEnded m c damaged .reply)) ⌝ }
 {
     let r = m.receiver;
     let held = r.held;
-    let v = deciding::decide(
-        m.mode,
-        text::first(&held, r.count as usize),
-        (r.mark == 1) | damaged,
-        c,
-    );
+    let hurt = (r.mark == 1) | damaged;
+    if hurt {
+        return answers::refuse_at(3, receiving::hurt_place(r, damaged), m, reply);
+    }
+    let v = deciding::decide(m.mode, text::first(&held, r.count as usize), false, c);
     act(m, v, reply)
 }

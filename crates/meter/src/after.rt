@@ -33,6 +33,7 @@ pub fn silence(m: Meter, reply: &mut [u8]) -> Answer
             number: 1,
             length,
             speed: 0,
+            place: 0,
             next: in_mode(m, 0),
         };
     }

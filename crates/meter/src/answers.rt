@@ -5,7 +5,7 @@ ghost use lib.ListN.{length};
 ghost use Rattle.text.specs.Writing.{holding};
 ghost use Rattle.frames.specs.Frames.{onWire};
 ghost use Rattle.replies.specs.Fixed.{accepted, refused};
-ghost use Rattle.meter.specs.Outcomes.{answerOf, fallen, silent, unheard, nak, ack};
+ghost use Rattle.meter.specs.Outcomes.{answerOf, atPlace, fallen, silent, unheard, nak, ack};
 use crate::Answer;
 use state::Meter;
 use state::setting::in_mode;
@@ -18,6 +18,7 @@ pub fn quiet(number: u8, next: Meter) -> Answer
         number,
         length: 0,
         speed: next.speed,
+        place: 0,
         next,
     }
 }
@@ -30,6 +31,7 @@ pub fn unheard_with(number: u8, m: Meter) -> Answer
         number,
         length: 0,
         speed: 0,
+        place: 0,
         next: m,
     }
 }
@@ -40,10 +42,10 @@ fn fall(mode: u8) -> u8
     if mode == 2 { 0 } else { mode }
 }
 
-// NAK at the session's speed; mode 2 falls to mode 0.
-pub fn refuse(number: u8, m: Meter, reply: &mut [u8]) -> Answer
+// NAK at the session's speed, with a place; mode 2 falls to mode 0.
+pub fn refuse_at(number: u8, place: u8, m: Meter, reply: &mut [u8]) -> Answer
     requires { ⌜ 1 ≤ length (now reply) ⌝ }
-    ensures result { λ r. ⌜ r ≡ answerOf (nak number m) ⌝ }
+    ensures result { λ r. ⌜ r ≡ answerOf (atPlace (nak number m) place) ⌝ }
     ensures held { λ _. ⌜ now (reply .exit) ≡ holding (now (reply .entry)) (onWire refused) ⌝ }
 {
     let length = replies::refuse(reply);
@@ -51,8 +53,18 @@ pub fn refuse(number: u8, m: Meter, reply: &mut [u8]) -> Answer
         number,
         length,
         speed: m.speed,
+        place,
         next: in_mode(m, fall(m.mode)),
     }
+}
+
+// The same without one.
+pub fn refuse(number: u8, m: Meter, reply: &mut [u8]) -> Answer
+    requires { ⌜ 1 ≤ length (now reply) ⌝ }
+    ensures result { λ r. ⌜ r ≡ answerOf (nak number m) ⌝ }
+    ensures held { λ _. ⌜ now (reply .exit) ≡ holding (now (reply .entry)) (onWire refused) ⌝ }
+{
+    refuse_at(number, 0, m, reply)
 }
 
 // ACK at a session's speed.
@@ -66,6 +78,7 @@ pub fn accept(speed: u8, next: Meter, reply: &mut [u8]) -> Answer
         number: 1,
         length,
         speed,
+        place: 0,
         next,
     }
 }

@@ -33,11 +33,12 @@ pub enum Event {
     Unknown,
 }
 
-// What an event with a reply buffer gives: the number, the reply's length, its speed, and the next state.
+// What an event with a reply buffer gives: the number, the reply's length, its speed, with 3 the place of the first damaged character, and the next state.
 pub struct Answer {
     pub number: u8,
     pub length: usize,
     pub speed: u8,
+    pub place: u8,
     pub next: Meter,
 }
 

@@ -58,6 +58,7 @@ pub fn end_line(m: Meter, reply: &mut [u8]) -> Answer
             number: 1,
             length,
             speed: 0,
+            place: 0,
             next: in_mode(m, 1),
         };
     }
@@ -116,6 +117,7 @@ pub fn confirm(m: Meter, c: u8, damaged: bool, reply: &mut [u8]) -> Answer
             number: 1,
             length,
             speed,
+            place: 0,
             next: in_mode(m, 0),
         };
     }
@@ -125,6 +127,7 @@ pub fn confirm(m: Meter, c: u8, damaged: bool, reply: &mut [u8]) -> Answer
             number: 1,
             length,
             speed,
+            place: 0,
             next: with_speed(in_mode(m, 2), speed),
         };
     }

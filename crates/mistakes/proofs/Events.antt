@@ -21,7 +21,7 @@ use Rattle.frames.specs.Frames.{closed, frameOf, bareFrame}
 use Rattle.frames.specs.Commands.{bracketed, setTable}
 use Rattle.frames.specs.Session.{signOn, confirmation, speedSaid}
 use Rattle.state.specs.declared.Meter.{Meter}
-use Rattle.state.specs.WellFormed.{limit, firstGood, heldGood, markGood, receiverGood, below, zonesGood, sumOf, total, tablesGood, factsGood, factoryGood, registersGood, wellFormed, speedGood}
+use Rattle.state.specs.WellFormed.{limit, firstGood, heldGood, markGood, hurtGood, receiverGood, below, zonesGood, sumOf, total, tablesGood, factsGood, factoryGood, registersGood, wellFormed, speedGood}
 use Rattle.state.specs.Making.{madeOf}
 use Rattle.state.specs.Setting.{counterOf}
 use Rattle.receiving.specs.Hearing.{hearing, listening, confirming, framing}
@@ -44,7 +44,7 @@ use Rattle.keeping.specs.declared.Shown.{Shown}
 use Rattle.keeping.specs.Shown.{checkedAs, shownAs}
 use Rattle.firmware.specs.declared.Reply.{Reply}
 use Rattle.mistakes.specs.Samples.{serial, account, password, twos, newMeter, heldIn}
-use Rattle.mistakes.specs.Events.{told, toldAll, toldMet, shortPassword, shortTried, signedOn, slowConfirmed, oddConfirmed, slowEntered, fastLeft, restarted, Receiving, Passing, Happening, Settling, Lent, Kept}
+use Rattle.mistakes.specs.Events.{told, toldAll, toldMet, shortPassword, shortTried, signedOn, slowConfirmed, oddConfirmed, slowEntered, fastLeft, restarted, hurt, hurtLast, hurtAnew, Receiving, Passing, Happening, Settling, Lent, Kept}
 use Rattle.mistakes.proofs.Differing.{seen, number, byte}
 
 -- the kinds of event, as numbers
@@ -57,7 +57,7 @@ kindOf PowerUp = 4
 kindOf Unknown = 5
 
 pub events : Receiving × Passing × Happening × Settling × Lent × Kept
-unfolding ones damagedAt seven sent bccOf every stored holding between isDigit isLetter isPrintable matching sameText decimal valueFrom valueOf numberAt layoutText pattern agrees fits leap thirty daysIn realDate realTime realClock goodDigits isAccountCharacter goodAccount goodRow goodTable tableText tableRead closed frameOf bracketed setTable signOn limit firstGood heldGood markGood receiverGood tablesGood factsGood registersGood wellFormed hearing listening confirming framing startGood bareShape content framedShape enclosed inner tableTold toldBy entry bareVerdict framedVerdict shapeVerdict verdict fallen tried acted signsOnBy symbol lineEnded confirmed heard taken character serial account password twos newMeter heldIn told toldAll toldMet shortPassword shortTried signedOn restarted daysBefore dayNumber weekday nextSecond tableFor zoneIn counted afterSilence silence tick pulse powerUp heardAs heardBy heardOf settles eventOf met refusal happened madeOf checkedAs shownAs kindOf below zonesGood sumOf total factoryGood confirms wantsBlock wantsProgram confirmation speedSaid bareFrame speedGood slowConfirmed oddConfirmed slowEntered fastLeft
+unfolding ones damagedAt seven sent bccOf every stored holding between isDigit isLetter isPrintable matching sameText decimal valueFrom valueOf numberAt layoutText pattern agrees fits leap thirty daysIn realDate realTime realClock goodDigits isAccountCharacter goodAccount goodRow goodTable tableText tableRead closed frameOf bracketed setTable signOn limit firstGood heldGood markGood hurtGood receiverGood tablesGood factsGood registersGood wellFormed hearing listening confirming framing startGood bareShape content framedShape enclosed inner tableTold toldBy entry bareVerdict framedVerdict shapeVerdict verdict fallen tried acted signsOnBy symbol lineEnded confirmed heard taken character serial account password twos newMeter heldIn told toldAll toldMet shortPassword shortTried signedOn restarted hurt hurtLast hurtAnew daysBefore dayNumber weekday nextSecond tableFor zoneIn counted afterSilence silence tick pulse powerUp heardAs heardBy heardOf settles eventOf met refusal happened madeOf checkedAs shownAs kindOf below zonesGood sumOf total factoryGood confirms wantsBlock wantsProgram confirmation speedSaid bareFrame speedGood slowConfirmed oddConfirmed slowEntered fastLeft
 events = (
   record {
     receive = (seen (λ (a : Answer). a .number) refl, seen (λ (a : Answer). getD (a .next .registers .tables) 144 0) refl);
@@ -65,6 +65,10 @@ events = (
     receive-password = (seen (λ (a : Answer). a .next .attempts) refl, seen (λ (a : Answer). a .next .mode) refl);
     receive-sign-on = (seen (λ (a : Answer). a .speed) refl, seen (λ (a : Answer). a .next .mode) refl);
     receive-restart = (seen (λ (a : Answer). a .next .receiver .mark) refl, seen (λ (a : Answer). a .next .receiver .count) refl);
+    receive-restart-place = (seen (λ (a : Answer). a .next .receiver .place) refl, seen (λ (a : Answer). a .next .receiver .place) refl);
+    receive-hurt = (seen (λ (a : Answer). a .place) refl, seen (λ (a : Answer). a .place) refl);
+    receive-hurt-last = (seen (λ (a : Answer). a .place) refl, seen (λ (a : Answer). a .place) refl);
+    receive-hurt-anew = (seen (λ (a : Answer). a .place) refl, seen (λ (a : Answer). a .place) refl);
     receive-refused = (seen (λ (a : Answer). a .number) refl, seen (λ (a : Answer). a .number) refl);
     «symbol_of» = (number refl, number refl);
     receive-slow = (seen (λ (a : Answer). a .speed) refl, seen (λ (a : Answer). a .next .speed) refl);
@@ -92,6 +96,7 @@ events = (
   record {
     «meet_in_place» = (seen (λ (r : Reply). r .length) refl, seen (λ (m : Meter). m .receiver .count) refl);
     «dirgemist_meter_meet» = (number refl, number refl);
+    dirgemist-meter-meet-place = (number refl, number refl);
     dirgemist-meter-meet-lent = (seen (λ (m : Meter). getD (m .registers .tables) 144 0) refl, byte 0 refl);
   },
   record {

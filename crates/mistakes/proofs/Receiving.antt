@@ -58,6 +58,8 @@ hearings =
       «last_held» = (number refl, number refl);
       keep = (seen (λ (r : Receiver). r .mark) refl, seen (λ (r : Receiver). r .count) refl);
       restart = (seen (λ (r : Receiver). r .mark) refl, seen (λ (r : Receiver). r .count) refl);
+      «hurt_place» = (number refl, number refl);
+      keep-place = (seen (λ (r : Receiver). r .place) refl, seen (λ (r : Receiver). r .place) refl);
     }
 
 pub decisions : Decisions

@@ -19,6 +19,7 @@ use Rattle.frames.specs.Frames.{closed, blockOf}
 use Rattle.datasets.specs.Sets.{dataSet}
 use Rattle.blocks.specs.declared.Stripped.{Stripped}
 use Rattle.blocks.specs.declared.PartAt.{PartAt}
+use Rattle.damage.specs.First.{firstDamaged}
 use Rattle.blocks.specs.Stripping.{strippedOf, strippedInto}
 use Rattle.blocks.specs.Parts.{isCharacter, notEtx, isBlock, bccFits, partOf, between as within}
 use Rattle.reading.specs.declared.SetRead.{SetRead}
@@ -30,14 +31,19 @@ use Rattle.finding.specs.declared.Lookup.{Lookup}
 use Rattle.finding.specs.Finding.{among, position, answered, lookup}
 use Rattle.headlink.specs.Telling.{valueNumber}
 use Rattle.mistakes.specs.Samples.{serial, twos}
-use Rattle.mistakes.specs.Replying.{block, misSummed, twoSets, sameTwice, badFirst, Blocks, Sets, Readers, Walks, Finds, Fields}
+use Rattle.mistakes.specs.Replying.{block, misSummed, twoSets, sameTwice, badFirst, Damage, Blocks, Sets, Readers, Walks, Finds, Fields}
 use Rattle.mistakes.proofs.Differing.{seen, number, byte, long}
 
+pub damage : Damage
+unfolding ones damagedAt firstDamaged
+damage = record { «first_damaged» = (number refl, number refl) }
+
 pub blocks : Blocks
-unfolding ones damagedAt seven undamagedAll bccOf every holding closed blockOf strippedOf strippedInto isCharacter notEtx isBlock bccFits partOf within block misSummed
+unfolding ones damagedAt seven undamagedAll firstDamaged bccOf every holding closed blockOf strippedOf strippedInto isCharacter notEtx isBlock bccFits partOf within block misSummed
 blocks =
     record {
       strip = (λ after s. seen (λ (r : Stripped). r .number) refl (s .answer), λ r s. byte 0 refl (s .held));
+      strip-place = (λ after s. seen (λ (r : Stripped). r .place) refl (s .answer), λ after s. seen (λ (r : Stripped). r .place) refl (s .answer));
       find = (λ w. seen (λ (p : PartAt). p .length) refl (w .is), λ w. seen (λ (p : PartAt). p .number) refl (w .is));
       «part_check» = (number refl, number refl);
       part = (long refl, long refl);

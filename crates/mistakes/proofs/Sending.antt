@@ -18,7 +18,7 @@ use Rattle.frames.specs.Frames.{closed, sealed, frameOf, bareFrame, blockOf}
 use Rattle.frames.specs.Commands.{bracketed}
 use Rattle.state.specs.declared.Meter.{Meter}
 use Rattle.state.specs.declared.Made.{Made}
-use Rattle.state.specs.WellFormed.{limit, firstGood, heldGood, markGood, receiverGood, below, zonesGood, sumOf, total, tablesGood, factsGood, factoryGood, registersGood, wellFormed, speedGood}
+use Rattle.state.specs.WellFormed.{limit, firstGood, heldGood, markGood, hurtGood, receiverGood, below, zonesGood, sumOf, total, tablesGood, factsGood, factoryGood, registersGood, wellFormed, speedGood}
 use Rattle.state.specs.Making.{madeOf}
 use Rattle.datasets.specs.Sets.{dataSet, linesOf}
 use Rattle.replies.specs.Shown.{energy, rowOf}
@@ -26,7 +26,7 @@ use Rattle.replies.specs.Answers.{askedSets, askedData}
 use Rattle.replies.specs.Block.{factSets, energySets, tableSets, blockSets, blockData}
 use Rattle.replies.specs.Fixed.{passwordAsk}
 use Rattle.state.specs.Setting.{inMode}
-use Rattle.mistakes.specs.Samples.{serial, account, password, twos, newMeter, used}
+use Rattle.mistakes.specs.Samples.{serial, account, password, twos, newMeter, used, heldIn}
 use Rattle.mistakes.specs.Sending.{Frames, States, Sets, Replies}
 use Rattle.mistakes.proofs.Differing.{seen, number, flag, byte}
 
@@ -36,11 +36,12 @@ frames = record { seal = (byte 4 refl, byte 5 refl); send = (byte 1 refl, byte 0
 
 -- the states, and that a new meter in programming mode is well-formed
 computed : States × (wellFormed (inMode newMeter 4) ≡ true)
-unfolding every between isDigit isLetter decimal leap thirty daysIn realDate realTime realClock goodDigits isAccountCharacter goodAccount limit firstGood heldGood markGood receiverGood below zonesGood sumOf total tablesGood factsGood factoryGood registersGood wellFormed madeOf serial account password newMeter speedGood
+unfolding every between isDigit isLetter decimal leap thirty daysIn realDate realTime realClock goodDigits isAccountCharacter goodAccount limit firstGood heldGood markGood hurtGood receiverGood below zonesGood sumOf total tablesGood factsGood factoryGood registersGood wellFormed madeOf serial account password newMeter heldIn stored speedGood
 computed = (
   record {
     «limit_of» = (number refl, number refl);
     «is_well_formed» = (flag refl, flag refl);
+    is-well-formed-place = (flag refl, flag refl);
     is-well-formed-total = (flag refl, flag refl);
     blank = (seen (λ (m : Meter). m .attempts) refl, seen (λ (m : Meter). getD (m .registers .account) 0 0) refl);
     make = (seen (λ (r : Made). r .number) refl, seen (λ (r : Made). getD (r .meter .registers .facts .serial) 0 0) refl);

@@ -1,5 +1,5 @@
 -- Two wrong answers for each call of `meter`, `settling`, `firmware` and `keeping`, and some that document 01 warns of.
-use mathlib.Core.Bool.{true}
+use mathlib.Core.Bool.{true, false}
 use mathlib.Core.List.{[], _∷_}
 use lib.ListN.{length, getD, take, replicate}
 use Rattle.line.specs.Characters.{sent}
@@ -9,10 +9,10 @@ use Rattle.frames.specs.Commands.{B0, P1, W1, bracketed, setTable}
 use Rattle.state.specs.Sizes.{replyRoom}
 use Rattle.state.specs.declared.Meter.{Meter}
 use Rattle.replies.specs.Fixed.{accepted, refused, identification, passwordAsk}
-use Rattle.receiving.specs.Receivers.{restartedReceiver}
+use Rattle.receiving.specs.Receivers.{keptReceiver, restartedReceiver}
 use Rattle.state.specs.Making.{emptyReceiver, noCounters, madeOf}
 use Rattle.state.specs.Setting.{withHeld, withMark, withReceiver, inMode, withAttempts, withRegisters, withClock, withCounters, withZones, withTotal, withSpeed}
-use Rattle.meter.specs.Outcomes.{Outcome, answerOf, silent, unheard, saying, nak, ack}
+use Rattle.meter.specs.Outcomes.{Outcome, answerOf, atPlace, silent, unheard, saying, nak, ack}
 use Rattle.meter.specs.Character.{symbol, character}
 use Rattle.meter.specs.Events.{silence, tick, pulse, powerUp}
 use Rattle.meter.specs.declared.Event.the-variants.{Character, Silence, Tick, Pulse, Unknown}
@@ -62,7 +62,23 @@ fastLeft = character (withSpeed (heldIn 4 (take 4 (bareFrame B0))) 5) replyRoom 
 
 -- a damaged character held, then a SOH
 unfoldable pub restarted : Outcome
-restarted = character (withReceiver (inMode newMeter 2) (withMark (withHeld emptyReceiver (restartedReceiver 1 .held) 2) 1)) replyRoom (sent 1)
+restarted = character (withReceiver (inMode newMeter 2) (withMark (withHeld emptyReceiver (restartedReceiver 1 .held) 2) 1 1)) replyRoom (sent 1)
+
+-- SOH, two damaged characters, ETX, and then a BCC
+unfoldable pub hurt : Outcome
+hurt =
+    character (withReceiver (inMode newMeter 4) (keptReceiver (keptReceiver (keptReceiver (restartedReceiver 1) 0 true) 0 true) 3 false)) replyRoom (sent 0)
+
+-- SOH B0 ETX, and then a damaged BCC
+unfoldable pub hurtLast : Outcome
+hurtLast = character (heldIn 4 (take 4 (bareFrame B0))) replyRoom 193
+
+-- SOH and three characters, and then SOH, a damaged one, ETX and a BCC
+unfoldable pub hurtAnew : Outcome
+hurtAnew =
+    let begun = character (heldIn 4 (1 ∷ 66 ∷ 48 ∷ 48 ∷ [])) replyRoom (sent 1) .next in
+    let damaged = character begun replyRoom 193 .next in
+    character (character damaged replyRoom (sent 3) .next) replyRoom (sent 0)
 
 -- of `meter`
 pub record Receiving : Type 0 where
@@ -79,9 +95,18 @@ pub record Receiving : Type 0 where
       × RuledOut (answerOf signedOn) (answerOf (saying 1 0 identification newMeter))
   -- the mark kept at a restart; a SOH taken for one more character
   pub receive-restart : RuledOut (answerOf restarted)
-      (answerOf (silent 0 (withReceiver (inMode newMeter 2) (withMark (restartedReceiver 1) 1))))
+      (answerOf (silent 0 (withReceiver (inMode newMeter 2) (withMark (restartedReceiver 1) 1 0))))
       × RuledOut (answerOf restarted)
-      (answerOf (silent 0 (withReceiver (inMode newMeter 2) (withMark (withHeld emptyReceiver (1 ∷ 0 ∷ 1 ∷ replicate 60 0) 3) 1))))
+      (answerOf (silent 0 (withReceiver (inMode newMeter 2) (withMark (withHeld emptyReceiver (1 ∷ 0 ∷ 1 ∷ replicate 60 0) 3) 1 1))))
+  -- the place kept at a restart; mark and place both
+  pub receive-restart-place : RuledOut (answerOf restarted) (answerOf (silent 0 (withReceiver (inMode newMeter 2) (withMark (restartedReceiver 1) 0 1))))
+      × RuledOut (answerOf restarted) (answerOf (silent 0 (withReceiver (inMode newMeter 2) (withMark (restartedReceiver 1) 1 1))))
+  -- 3 with the place of the last damaged character; with none
+  pub receive-hurt : RuledOut (answerOf hurt) (answerOf (atPlace hurt 2)) × RuledOut (answerOf hurt) (answerOf (atPlace hurt 0))
+  -- 0 for a damaged BCC; the last held character's place
+  pub receive-hurt-last : RuledOut (answerOf hurtLast) (answerOf (atPlace hurtLast 0)) × RuledOut (answerOf hurtLast) (answerOf (atPlace hurtLast 3))
+  -- counted from the first byte that was received; from the byte before the restart
+  pub receive-hurt-anew : RuledOut (answerOf hurtAnew) (answerOf (atPlace hurtAnew 5)) × RuledOut (answerOf hurtAnew) (answerOf (atPlace hurtAnew 2))
   -- a malformed state said before a short buffer; a character taken in a short buffer
   pub receive-refused : RuledOut (answerOf (character (withAttempts newMeter 4) 2047 47)) (answerOf (unheard 14 (withAttempts newMeter 4)))
       × RuledOut (answerOf (character newMeter 2047 (sent 47))) (answerOf (silent 0 (withReceiver newMeter (restartedReceiver 47))))
@@ -145,7 +170,9 @@ pub record Settling : Type 0 where
 -- of `firmware`
 pub record Lent : Type 0 where
   -- no reply to a good write; the lent state as it was
-  pub «meet_in_place» : RuledOut (replyOf toldMet) (record { number = 1; length = 0; speed = 5 }) × RuledOut (toldMet .next) told
+  pub «meet_in_place» : RuledOut (replyOf toldMet) (record { number = 1; length = 0; speed = 5; place = 0 }) × RuledOut (toldMet .next) told
+  -- the place of the last damaged character; none
+  pub dirgemist-meter-meet-place : RuledOut (hurt .place) 2 × RuledOut (hurt .place) 0
   -- NAK's number; the speed of the mode before the session
   pub «dirgemist_meter_meet» : RuledOut (toldMet .number) 9 × RuledOut (toldMet .speed) 0
   -- the old tables in the record; the buffer as it was

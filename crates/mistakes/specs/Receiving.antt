@@ -11,7 +11,7 @@ use Rattle.state.specs.Sizes.{rowLength, tables}
 use Rattle.state.specs.Making.{emptyReceiver, noCounters}
 use Rattle.receiving.specs.declared.Hearing.the-variants.{Hold, Restart}
 use Rattle.receiving.specs.Hearing.{hearing}
-use Rattle.receiving.specs.Receivers.{lastHeld, keptReceiver, restartedReceiver}
+use Rattle.receiving.specs.Receivers.{lastHeld, hurtPlace, keptReceiver, restartedReceiver}
 use Rattle.deciding.specs.declared.Verdict.the-variants.{Password, WriteTable}
 use Rattle.deciding.specs.Verdict.{verdict}
 use Rattle.state.specs.Setting.{withHeld, withMark, withReceiver, inMode, withAttempts, withRegisters, withClock, withAccount, withTables, withCounters, withZones, withTotal, zonePlace, counterOf, rowStart, withRow, withSpeed}
@@ -29,7 +29,12 @@ pub record Hearings : Type 0 where
   pub keep : RuledOut (keptReceiver (keptReceiver (restartedReceiver 1) 0 true) 66 false) (keptReceiver (keptReceiver (restartedReceiver 1) 0 false) 66 false)
       × RuledOut (keptReceiver (restartedReceiver 1) 66 false) (withHeld emptyReceiver (set (restartedReceiver 1 .held) 1 66) 1)
   -- the mark kept at a restart; the start not held
-  pub restart : RuledOut (restartedReceiver 1) (withMark (restartedReceiver 1) 1) × RuledOut (restartedReceiver 1) emptyReceiver
+  pub restart : RuledOut (restartedReceiver 1) (withMark (restartedReceiver 1) 1 0) × RuledOut (restartedReceiver 1) emptyReceiver
+  -- the place of the last damaged one; 0 for a damaged BCC
+  pub «hurt_place» : RuledOut (hurtPlace (keptReceiver (restartedReceiver 1) 0 true) true) 2 × RuledOut (hurtPlace (restartedReceiver 1) true) 0
+  -- the place of the last damaged one kept; none kept
+  pub keep-place : RuledOut (keptReceiver (keptReceiver (restartedReceiver 1) 0 true) 0 true) (withMark (keptReceiver (keptReceiver (restartedReceiver 1) 0 true) 0 true) 1 2)
+      × RuledOut (keptReceiver (restartedReceiver 1) 0 true) (withMark (keptReceiver (restartedReceiver 1) 0 true) 1 0)
 
 -- of `deciding`
 pub record Decisions : Type 0 where

@@ -1,4 +1,4 @@
--- Two wrong answers for each call of `blocks`, `reading`, `reader` and `finding`, and for the values that `headlink` hands to C.
+-- Two wrong answers for each call of `damage`, `blocks`, `reading`, `reader` and `finding`, and for the values that `headlink` hands to C.
 use mathlib.Core.Path.{_≡_}
 use mathlib.Core.List.{List, [], _∷_, _++_}
 use Prim.Native.Nat.{ℕ}
@@ -10,6 +10,7 @@ use Rattle.values.specs.Reading.{dateRead, timeRead, counterRead}
 use Rattle.values.specs.Serials.{serialRead, accountRead, rowRead}
 use Rattle.frames.specs.Frames.{blockOf}
 use Rattle.datasets.specs.Sets.{dataSet}
+use Rattle.damage.specs.First.{firstDamaged}
 use Rattle.blocks.specs.declared.Stripped.{Stripped}
 use Rattle.blocks.specs.Stripping.{Strips}
 use Rattle.blocks.specs.Parts.{partOf, Within}
@@ -37,11 +38,19 @@ partIn s = take (partOf s .length) (drop (partOf s .start) s)
 unfoldable pub twoSets : List ℕ
 twoSets = dataSet (65 ∷ []) (49 ∷ []) ++ (dataSet (66 ∷ []) (50 ∷ 50 ∷ []) ++ (33 ∷ 13 ∷ 10 ∷ []))
 
+-- of `damage`
+pub record Damage : Type 0 where
+  -- the last damaged byte of a run; the number of damaged ones
+  pub «first_damaged» : RuledOut (firstDamaged (65 ∷ 193 ∷ 66 ∷ 193 ∷ [])) 3 × RuledOut (firstDamaged (65 ∷ 193 ∷ 66 ∷ 193 ∷ [])) 2
+
 -- of `blocks`
 pub record Blocks : Type 0 where
   -- a damaged byte stripped; the bytes before it written, and then 24
-  pub strip : ((after : List ℕ) → Strips (193 ∷ []) (0 ∷ []) (record { number = 1; length = 1 }) after → ⊥)
+  pub strip : ((after : List ℕ) → Strips (193 ∷ []) (0 ∷ []) (record { number = 1; length = 1; place = 0 }) after → ⊥)
       × ((r : Stripped) → Strips (65 ∷ 193 ∷ []) (0 ∷ 0 ∷ []) r (65 ∷ 0 ∷ []) → ⊥)
+  -- the place of the last damaged byte; no place
+  pub strip-place : ((after : List ℕ) → Strips (65 ∷ 193 ∷ 193 ∷ []) (0 ∷ 0 ∷ 0 ∷ []) (record { number = 24; length = 0; place = 2 }) after → ⊥)
+      × ((after : List ℕ) → Strips (65 ∷ 193 ∷ 193 ∷ []) (0 ∷ 0 ∷ 0 ∷ []) (record { number = 24; length = 0; place = 0 }) after → ⊥)
   -- the ETX in the part; a BCC with its top bit set
   pub find : (Within block (record { number = 1; start = 1; length = 2 }) → ⊥) × (Within (2 ∷ 72 ∷ 3 ∷ 203 ∷ []) (record { number = 1; start = 1; length = 1 }) → ⊥)
   -- no BCC checked; a block without ETX called one with a wrong BCC

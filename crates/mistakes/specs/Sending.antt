@@ -20,7 +20,7 @@ use Rattle.replies.specs.Block.{blockSets, blockData}
 use Rattle.replies.specs.Fixed.{identification, passwordAsk, accepted, refused}
 use Rattle.state.specs.Setting.{withMark, withReceiver, withAttempts, withRegisters, withAccount, withTables, withCounters, withZones, withTotal}
 use Rattle.mistakes.specs.RuledOut.{RuledOut}
-use Rattle.mistakes.specs.Samples.{noon, serial, account, password, twos, newMeter, used}
+use Rattle.mistakes.specs.Samples.{noon, serial, account, password, twos, newMeter, used, heldIn}
 
 -- of `frames`
 pub record Frames : Type 0 where
@@ -37,7 +37,10 @@ pub record States : Type 0 where
   pub «limit_of» : RuledOut (limit 0) 32 × RuledOut (limit 1) 6
   -- the tables not looked at; a mark on an empty receiver
   pub «is_well_formed» : RuledOut (wellFormed (withRegisters newMeter (withTables (newMeter .registers) (replicate (tables * rowLength) 53)))) true
-      × RuledOut (wellFormed (withReceiver newMeter (withMark emptyReceiver 1))) true
+      × RuledOut (wellFormed (withReceiver newMeter (withMark emptyReceiver 1 0))) true
+  -- with a mark a place that nothing is held at; a place without a mark
+  pub is-well-formed-place : RuledOut (wellFormed (withReceiver (heldIn 2 (1 ∷ 66 ∷ [])) (withMark (heldIn 2 (1 ∷ 66 ∷ []) .receiver) 1 2))) true
+      × RuledOut (wellFormed (withReceiver (heldIn 2 (1 ∷ 66 ∷ [])) (withMark (heldIn 2 (1 ∷ 66 ∷ []) .receiver) 0 1))) true
   -- a total that is off by one; a sum that is not rolled over
   pub is-well-formed-total : RuledOut (wellFormed (withRegisters newMeter (withCounters (newMeter .registers) (withTotal noCounters 1)))) true
       × RuledOut (wellFormed (withRegisters newMeter (withCounters (newMeter .registers) (withTotal (withZones noCounters (999999999 ∷ 1 ∷ 0 ∷ 0 ∷ [])) 1000000000)))) true

@@ -27,7 +27,7 @@ use Rattle.state.specs.declared.Counters.{Counters}
 use Rattle.state.specs.declared.Registers.{Registers}
 use Rattle.frames.specs.Session.{speedSaid}
 use Rattle.state.specs.declared.Meter.{Meter}
-use Rattle.state.specs.WellFormed.{limit, firstGood, markGood, heldGood, receiverGood, below, zonesGood, sumOf, total, countersGood, tablesGood, registersGood, wellFormed, marked, speedGood}
+use Rattle.state.specs.WellFormed.{limit, firstGood, markGood, hurtGood, heldGood, receiverGood, below, zonesGood, sumOf, total, countersGood, tablesGood, registersGood, wellFormed, marked, speedGood}
 use Rattle.state.specs.Making.{emptyReceiver}
 use Rattle.state.proofs.Parts.{Formed, formed, well-formed, FormedRegisters, formed-registers, registers-good, FormedReceiver, formed-receiver, receiver-good, total-is-sum, speed-kept}
 use Rattle.state.proofs.Totals.{grows-alike}
@@ -75,20 +75,20 @@ symbol-small b = choice.either (λ (c : ℕ). (leb 0 c && leb c 127) ≡ true) (
     small c h = rw (le-leb 0 c (omega arith), le-leb c 127 (omega arith))
 
 pub empty-good : (mode : ℕ) → receiverGood mode emptyReceiver ≡ true
-unfolding heldGood firstGood markGood every between
+unfolding heldGood firstGood markGood hurtGood every between
 empty-good mode =
     receiver-good mode emptyReceiver
-    (record { count = omega arith; first = choice.either (λ (b : Bool). b ≡ true) (eqb mode 0) refl refl; mark = refl; held = refl })
+    (record { count = omega arith; first = choice.either (λ (b : Bool). b ≡ true) (eqb mode 0) refl refl; mark = refl; hurt = refl; held = refl })
 
 one-fits : (mode : ℕ) → 1 ≤ limit mode
 unfolding limit
 one-fits mode = choice.either (λ (k : ℕ). 1 ≤ k) (eqb mode 0) (omega arith) (choice.either (λ (k : ℕ). 1 ≤ k) (eqb mode 1) (omega arith) (omega arith))
 
 restarted-good : (mode c : ℕ) → firstGood mode 1 c ≡ true → between 0 127 c ≡ true → receiverGood mode (restartedReceiver c) ≡ true
-unfolding heldGood markGood every
+unfolding heldGood markGood hurtGood every
 restarted-good mode c f s =
     receiver-good mode (restartedReceiver c)
-    (record { count = one-fits mode; first = f; mark = refl; held = rw s (unfold between in refl) })
+    (record { count = one-fits mode; first = f; mark = refl; hurt = refl; held = rw s (unfold between in refl) })
 
 held-kept : (held : List ℕ) (k c : ℕ) → heldGood held k ≡ true → between 0 127 c ≡ true → heldGood (set held k c) (k + 1) ≡ true
 unfolding heldGood
@@ -116,6 +116,18 @@ unfolding markGood
 mark-kept k mark true h = rw (ne-eqb (k + 1) 0 (λ e. omega arith))
 mark-kept k mark false h = rw (and-left (leb mark 1) (not (eqb k 0) || eqb mark 0) h, ne-eqb (k + 1) 0 (λ e. omega arith))
 
+-- the first damaged one stays the first
+hurt-kept : (k mark place : ℕ) (d : Bool) → hurtGood k mark place ≡ true → hurtGood (k + 1) (cond d 1 mark) (cond (eqb mark 1) place (cond d k 0)) ≡ true
+unfolding hurtGood
+hurt-kept k mark place d h = go (eqb mark 1) refl d h
+  where
+    go : (p : Bool) → eqb mark 1 ≡ p → (d : Bool) → cond p (ltb place k) (eqb place 0) ≡ true
+        → cond (eqb (cond d 1 mark) 1) (ltb (cond p place (cond d k 0)) (k + 1)) (eqb (cond p place (cond d k 0)) 0) ≡ true
+    go true e true h = lt-ltb place (k + 1) (omega (arith, ltb-true place k h))
+    go true e false h = rw e (lt-ltb place (k + 1) (omega (arith, ltb-true place k h)))
+    go false e true h = lt-ltb k (k + 1) (omega arith)
+    go false e false h = rw e
+
 kept-good : (mode : ℕ) (r : Receiver) (c : ℕ) (d : Bool) → receiverGood mode r ≡ true → Room mode (r .count) → between 0 127 c ≡ true
     → receiverGood mode (keptReceiver r c d) ≡ true
 kept-good mode r c d g room s =
@@ -125,6 +137,7 @@ kept-good mode r c d g room s =
       count = omega (arith, room .below);
       first = first-kept mode (r .count) (r .held) c (f .first) (room .started);
       mark = mark-kept (r .count) (r .mark) d (f .mark);
+      hurt = hurt-kept (r .count) (r .mark) (r .place) d (f .hurt);
       held = held-kept (r .held) (r .count) c (f .held) s;
     })
 

@@ -18,10 +18,10 @@ use Rattle.state.specs.Setting.{withAccount, withTables, withRow}
 use Rattle.receiving.specs.declared.Hearing.{Hearing}
 use Rattle.receiving.specs.declared.Hearing.the-variants.{Drop, Hold, Restart, Empty, Line, Confirm, Frame, TooLong}
 use Rattle.receiving.specs.Hearing.{hearing}
-use Rattle.receiving.specs.Receivers.{heldText, lastHeld}
+use Rattle.receiving.specs.Receivers.{heldText, lastHeld, hurtPlace}
 use Rattle.deciding.specs.declared.Verdict.{Verdict}
 use Rattle.deciding.specs.Verdict.{verdict}
-use Rattle.meter.specs.Outcomes.{Outcome}
+use Rattle.meter.specs.Outcomes.{Outcome, atPlace}
 use Rattle.meter.specs.SignOn.{signsOnBy, wantsBlock, wantsProgram}
 use Rattle.meter.specs.Acting.{passwordGiven, tried, acted}
 use Rattle.meter.specs.Character.{symbol, lineEnded, confirmed, heard, taken, character}
@@ -36,6 +36,13 @@ module _ (m : Meter) (b : ℕ) where
   tried-kept =
       choice.either (Kept m b) (eqb (m .attempts) 3) (same refl)
       (choice.either (Kept m b) (sameText (passwordGiven m) (m .registers .facts .password)) (same refl) (same refl))
+
+  -- a place is no register
+  placed : (o : Outcome) (place : ℕ) → Kept m b o → Kept m b (atPlace o place)
+  placed o place (same e) = same e
+  placed o place (clock c w i r n e) = clock c w i r n e
+  placed o place (account w r n e) = account w r n e
+  placed o place (table t w i g r n e) = table t w i g r n e
 
   -- the verdict on the frame that this byte completes
   abbrev decision : Verdict
@@ -88,7 +95,7 @@ module _ (m : Meter) (b : ℕ) where
   heard-kept Empty e = same refl
   heard-kept Line e = line-kept
   heard-kept Confirm e = confirmed-kept (symbol b) (damagedAt b)
-  heard-kept Frame e = frame-kept e
+  heard-kept Frame e = placed (acted m decision) (hurtPlace (m .receiver) (damagedAt b)) (frame-kept e)
   heard-kept TooLong e = same refl
 
   -- only an accepted W1 changes the clock, the account or the tables by a character, and then only that register

@@ -3,8 +3,11 @@ pub mod Verdicts
 pub mod Pieces
 pub mod Password
 pub mod Kept
+pub mod Answering
 pub mod Malformed
 pub mod Formed
 pub mod Beginning
 pub mod Life
 pub mod Adding
+pub mod Hurt
+pub mod Ignoring

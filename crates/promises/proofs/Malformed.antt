@@ -7,26 +7,24 @@ use Prim.Native.Nat.{ℕ}
 use native.Mathlib.Omega.{arith}
 use lib.Dec.{eqb, ltb}
 use Rattle.line.specs.Characters.{damagedAt}
-use Rattle.text.specs.Classes.{sameText}
 use Rattle.text.specs.Writing.{holding}
 use Rattle.frames.specs.Frames.{onWire}
-use Rattle.values.specs.Registers.{goodTable}
-use Rattle.state.specs.Sizes.{replyRoom, tables}
+use Rattle.state.specs.Sizes.{replyRoom}
 use Rattle.state.specs.declared.Meter.{Meter}
 use Rattle.state.specs.WellFormed.{wellFormed, marked}
 use Rattle.receiving.specs.declared.Hearing.{Hearing}
 use Rattle.receiving.specs.declared.Hearing.the-variants.{Drop, Hold, Restart, Empty, Line, Confirm, Frame, TooLong}
 use Rattle.receiving.specs.Hearing.{hearing}
 use Rattle.receiving.specs.Receivers.{heldText, lastHeld}
-use Rattle.deciding.specs.declared.Verdict.{Verdict}
 use Rattle.deciding.specs.Verdict.{verdict}
 use Rattle.meter.specs.Outcomes.{Outcome, unheard}
 use Rattle.meter.specs.SignOn.{signsOnBy, wantsBlock, wantsProgram}
-use Rattle.meter.specs.Acting.{passwordGiven, tried, acted}
+use Rattle.meter.specs.Acting.{acted}
 use Rattle.meter.specs.Character.{symbol, lineEnded, confirmed, heard, taken, character}
 use Rattle.meter.specs.Events.{afterSilence, silence, tick, pulse, powerUp}
 use Rattle.promises.proofs.Choices as choice
-use Rattle.promises.proofs.Verdicts.{FrameNumber, parity, checksum, shape, unknown, not-allowed, content-wrong, Told, Known, verdict-all}
+use Rattle.promises.proofs.Verdicts.{FrameNumber, parity, checksum, shape, unknown, not-allowed, content-wrong}
+use Rattle.promises.proofs.Answering.{answered-all}
 
 -- what is not heard leaves the buffer as it was
 pub unheard-buffer : (n : ℕ) (m : Meter) (buf : List ℕ) → holding buf (onWire (unheard n m .reply)) ≡ buf
@@ -78,34 +76,17 @@ malformed-power-up m h = rw h
 Never : Outcome → Type 0
 Never o = o .number ≡ 14 → ⊥
 
-frame-number : (n : ℕ) → FrameNumber n → n ≡ 14 → ⊥
-frame-number n parity e = omega arith
-frame-number n checksum e = omega arith
-frame-number n shape e = omega arith
-frame-number n unknown e = omega arith
-frame-number n not-allowed e = omega arith
-frame-number n content-wrong e = omega arith
+frame-number : (mark : Bool) (n : ℕ) → FrameNumber mark n → n ≡ 14 → ⊥
+frame-number mark n (parity m) e = omega arith
+frame-number mark n checksum e = omega arith
+frame-number mark n shape e = omega arith
+frame-number mark n unknown e = omega arith
+frame-number mark n not-allowed e = omega arith
+frame-number mark n content-wrong e = omega arith
 
 frame-never : (m : Meter) (mark : Bool) (sum : ℕ) → Never (acted m (verdict (m .mode) (heldText (m .receiver)) mark sum))
-unfolding acted Never tried
-frame-never m mark sum =
-    verdict-all (λ (v : Verdict). Never (acted m v)) (m .mode) (heldText (m .receiver)) mark sum
-    (record {
-      refuse = λ n k. frame-number n k;
-      leave = λ e. omega arith;
-      enter = λ k e. omega arith;
-      password = λ k w.
-          choice.either Never (eqb (m .attempts) 3) (λ e. omega arith)
-          (choice.either Never (sameText (passwordGiven m) (m .registers .facts .password)) (λ e. omega arith) (λ e. omega arith));
-      read = λ a g e. omega arith;
-      write = λ k f.
-          record {
-            clock = λ c i r e. omega arith;
-            account = λ r e. omega arith;
-            table = λ t i g r. choice.either Never (goodTable tables (t .0)) (λ e. omega arith) (λ e. omega arith);
-            wrong = λ e. omega arith;
-          };
-    })
+unfolding Never
+frame-never m mark sum = answered-all (λ (n : ℕ). n ≡ 14 → ⊥) m mark sum (frame-number mark) (λ e. omega arith) (λ e. omega arith) (λ e. omega arith)
 
 heard-never : (m : Meter) (c : ℕ) (d : Bool) (h : Hearing) → Never (heard m c d h)
 unfolding heard Never lineEnded confirmed

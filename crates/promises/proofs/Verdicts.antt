@@ -116,31 +116,40 @@ asked-all P d read wrong =
     (choice.given P (tableRead tables (take 2 (drop 2 d)) .ok) (λ h. read _ (table-real (take 2 (drop 2 d)) h)) wrong)
     wrong))))))))
 
--- the numbers with which a frame is refused here
-pub data FrameNumber : ℕ → Type 0 where
-  parity : FrameNumber 3
-  checksum : FrameNumber 4
-  shape : FrameNumber 6
-  unknown : FrameNumber 7
-  not-allowed : FrameNumber 8
-  content-wrong : FrameNumber 9
+-- the numbers with which a frame is refused here; 3 only where it is marked
+pub data FrameNumber (mark : Bool) : ℕ → Type 0 where
+  parity : mark ≡ true → FrameNumber mark 3
+  checksum : FrameNumber mark 4
+  shape : FrameNumber mark 6
+  unknown : FrameNumber mark 7
+  not-allowed : FrameNumber mark 8
+  content-wrong : FrameNumber mark 9
+
+-- none of them is 0
+pub never-zero : (mark : Bool) (n : ℕ) → FrameNumber mark n → n ≡ 0 → ⊥
+never-zero mark n (parity m) e = omega arith
+never-zero mark n checksum e = omega arith
+never-zero mark n shape e = omega arith
+never-zero mark n unknown e = omega arith
+never-zero mark n not-allowed e = omega arith
+never-zero mark n content-wrong e = omega arith
 
 -- what is known of each verdict on a frame
-pub record Known (mode : ℕ) (h : List ℕ) (P : Verdict → Type 0) : Type 0 where
-  pub refuse : (n : ℕ) → FrameNumber n → P (Refuse n)
+pub record Known (mode : ℕ) (h : List ℕ) (mark : Bool) (P : Verdict → Type 0) : Type 0 where
+  pub refuse : (n : ℕ) → FrameNumber mark n → P (Refuse n)
   pub leave : P Leave
   pub enter : mode ≡ 2 → P Enter
   pub password : mode ≡ 2 → fits (chars "(########)") (content h) ≡ true → P Password
   pub read : (a : Ask) → answerable a ≡ true → P (Read a)
   pub write : mode ≡ 4 → take 4 h ≡ writeStart → Told (content h) P
 
-pub verdict-all : (P : Verdict → Type 0) (mode : ℕ) (h : List ℕ) (mark : Bool) (sum : ℕ) → Known mode h P → P (verdict mode h mark sum)
+pub verdict-all : (P : Verdict → Type 0) (mode : ℕ) (h : List ℕ) (mark : Bool) (sum : ℕ) → Known mode h mark P → P (verdict mode h mark sum)
 unfolding verdict shapeVerdict bareVerdict framedVerdict entry
 verdict-all P mode h mark sum k =
     let a = getD h 1 0 in
     let b = getD h 2 0 in
     let no8 = k .refuse 8 not-allowed in
-    choice.either P mark (k .refuse 3 parity)
+    choice.given P mark (λ e. k .refuse 3 (parity e))
     (choice.either P (eqb sum (bccOf (drop 1 h)))
     (choice.either P (bareShape h)
     (choice.either P (eqb a 66 && eqb b 48) (choice.either P (leb 2 mode && leb mode 4) (k .leave) no8) (k .refuse 7 unknown))

@@ -74,10 +74,11 @@ pub record BareOutcome : Type 0 where
   pub number : ℕ
   pub speed : ℕ
   pub reply : List ℕ
+  pub place : ℕ
   pub next : Bare
 
 abbrev pub bareOutcome : Outcome → BareOutcome
-bareOutcome o = record { number = o .number; speed = o .speed; reply = o .reply; next = bare (o .next) }
+bareOutcome o = record { number = o .number; speed = o .speed; reply = o .reply; place = o .place; next = bare (o .next) }
 
 -- it adds up, meets the event, and keeps no total
 unfoldable pub adding : Bare → ℕ → Event → BareOutcome
@@ -98,7 +99,7 @@ pub record AsRuled (b : Bare) : Type 0 where
   pub pulse : (zone wh : ℕ) → zonesGood (b .zones) ≡ true
       → counted (summed (b .zones)) zone wh .zones ≡ set (b .zones) (zonePlace zone) (grown (counterOf (summed (b .zones)) zone) wh)
 
--- of a well-formed meter: the total is the sum, and number, speed, reply and next state are those of the meter without one; all its life
+-- of a well-formed meter: the total is the sum, and number, speed, reply, place and next state are those of the meter without one; all its life
 pub record AsBefore (m : Meter) : Type 0 where
   pub kept : addedUp (bare m) ≡ m
   pub same : (room : ℕ) (e : Event) → bareOutcome (met m room e) ≡ adding (bare m) room e

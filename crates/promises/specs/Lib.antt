@@ -1,2 +1,4 @@
 pub mod Writes
 pub mod Adding
+pub mod Hurt
+pub mod Ignoring

@@ -31,7 +31,7 @@ module _ (s out : List ℕ) (characters : every isCharacter s ≡ true) (room : 
   enough : ltb (length out) (length (onWire s)) ≡ false
   enough = rw (length-map s sent) (le-ltb (length out) (length s) room)
 
-  pub strips : strippedOf (onWire s) out ≡ record { number = 1; length = length s }
+  pub strips : strippedOf (onWire s) out ≡ record { number = 1; length = length s; place = 0 }
   unfolding strippedOf
   strips = rw (enough, sent-undamaged-all s, length-map s sent)
 
@@ -100,9 +100,9 @@ module _ (content : List ℕ) where
 
   -- a block that was sent, stripped, is the block
   pub block-strips : (out : List ℕ) → every isContent content ≡ true → length (blockOf content) ≤ length out
-      → strippedOf (onWire (blockOf content)) out ≡ record { number = 1; length = length content + 3 }
+      → strippedOf (onWire (blockOf content)) out ≡ record { number = 1; length = length content + 3; place = 0 }
   block-strips out h room =
-      strips (blockOf content) out (block-characters content (content-characters content h)) room ∙ ap (λ (n : ℕ). record { number = 1; length = n }) block-long
+      strips (blockOf content) out (block-characters content (content-characters content h)) room ∙ ap (λ (n : ℕ). record { number = 1; length = n; place = 0 }) block-long
 
   pub block-strips-into : (out : List ℕ) → every isContent content ≡ true → length (blockOf content) ≤ length out
       → strippedInto (onWire (blockOf content)) out ≡ holding out (blockOf content)

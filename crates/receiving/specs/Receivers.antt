@@ -4,6 +4,7 @@ use mathlib.Core.List.{List}
 use Prim.Native.Nat.{ℕ, _+_, _-_}
 use lib.ListN.{getD, set, take}
 use Rattle.state.specs.declared.Receiver.{Receiver}
+use Rattle.state.specs.WellFormed.{marked}
 use Rattle.state.specs.Making.{emptyReceiver}
 use Rattle.state.specs.Setting.{withHeld, withMark}
 
@@ -14,9 +15,13 @@ heldText r = take (r .count) (r .held)
 abbrev pub lastHeld : Receiver → ℕ
 lastHeld r = getD (r .held) (r .count - 1) 0
 
+-- [2]: the place of the first damaged character, counted from the first held one at 0: the mark's, or where this one is damaged its own, behind the last held one
+abbrev pub hurtPlace : Receiver → Bool → ℕ
+hurtPlace r damaged = cond (marked r) (r .place) (cond damaged (r .count) 0)
+
 -- one more; a damaged one sets the mark
 abbrev pub keptReceiver : Receiver → ℕ → Bool → Receiver
-keptReceiver r c damaged = withMark (withHeld r (set (r .held) (r .count) c) (r .count + 1)) (cond damaged 1 (r .mark))
+keptReceiver r c damaged = withMark (withHeld r (set (r .held) (r .count) c) (r .count + 1)) (cond damaged 1 (r .mark)) (hurtPlace r damaged)
 
 -- this one alone, and no mark
 abbrev pub restartedReceiver : ℕ → Receiver

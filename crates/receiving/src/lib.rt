@@ -4,7 +4,7 @@ ghost use mathlib.Core.Bool.{cond};
 ghost use Prim.Native.Nat.{_<_, _-_};
 ghost use lib.ListN.{length, take, getD, set};
 ghost use Rattle.receiving.specs.Hearing.{listening, confirming, framing, hearing};
-ghost use Rattle.receiving.specs.Receivers.{keptReceiver, restartedReceiver, lastHeld};
+ghost use Rattle.receiving.specs.Receivers.{hurtPlace, keptReceiver, restartedReceiver, lastHeld};
 ghost use Rattle.state.specs.Sizes.{heldPlaces};
 use state::HELD_PLACES;
 use state::Receiver;
@@ -127,6 +127,14 @@ fn put_at(held: &mut [u8], at: u8, c: u8)
     }
 }
 
+// The place of the first damaged character: that of the mark, else this one's, behind the last held one.
+pub fn hurt_place(r: Receiver, damaged: bool) -> u8
+    ensures { λ x. ⌜ x ≡ hurtPlace r damaged ⌝ }
+{
+    let here = chosen(damaged, r.count, 0);
+    chosen(r.mark == 1, r.place, here)
+}
+
 // The receiver with one character more.
 pub fn keep(r: Receiver, c: u8, damaged: bool) -> Receiver
     requires { ⌜ r .count < heldPlaces ⌝ }
@@ -135,7 +143,7 @@ pub fn keep(r: Receiver, c: u8, damaged: bool) -> Receiver
     let mut held = r.held;
     put_at(&mut held, r.count, c);
     let next = with_held(r, held, r.count + 1);
-    with_mark(next, chosen(damaged, 1, r.mark))
+    with_mark(next, chosen(damaged, 1, r.mark), hurt_place(r, damaged))
 }
 
 // The receiver with this character alone.

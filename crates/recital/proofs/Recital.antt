@@ -51,7 +51,7 @@ reads-back : (c : List ℕ) (xs : List Register) (ds : List DataSet) (at : ℕ) 
 reads-back c xs ds at shows read h =
     let k = every-weaker (between 10 126) isContent content c shows in
     record {
-      strips = λ out room. block-strips c out k room ∙ ap (λ (n : ℕ). record { number = 1; length = n }) (sym (block-long c));
+      strips = λ out room. block-strips c out k room ∙ ap (λ (n : ℕ). record { number = 1; length = n; place = 0 }) (sym (block-long c));
       stripped = λ out room. block-strips-into c out k room;
       parted = part-of-block c k;
       part = part-is-content c;

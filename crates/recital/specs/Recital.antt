@@ -86,7 +86,7 @@ answerSays g (ask.Table t) = row (t .0) (rowOf (g .tables) (t .0)) ∷ []
 -- a block with this content, as a meter sends it: it strips, its part is the content, and that reads to its end as these registers
 pub record ReadsBack (content : List ℕ) (xs : List Register) : Type 0 where
   pub strips : (out : List ℕ) → length (blockOf content) ≤ length out
-      → strippedOf (onWire (blockOf content)) out ≡ record { number = 1; length = length (blockOf content) }
+      → strippedOf (onWire (blockOf content)) out ≡ record { number = 1; length = length (blockOf content); place = 0 }
   pub stripped : (out : List ℕ) → length (blockOf content) ≤ length out → strippedInto (onWire (blockOf content)) out ≡ holding out (blockOf content)
   pub parted : partOf (blockOf content) ≡ record { number = 1; start = 1; length = length content }
   pub part : take (length content) (drop 1 (blockOf content)) ≡ content

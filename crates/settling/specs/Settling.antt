@@ -62,4 +62,4 @@ settles m room e =
 
 -- all that comes of a settled event
 abbrev pub settledOutcome : Meter → Heard → Outcome
-settledOutcome m h = record { number = h .number; speed = h .speed; reply = []; next = withReceiver m (h .receiver) }
+settledOutcome m h = record { number = h .number; speed = h .speed; reply = []; place = 0; next = withReceiver m (h .receiver) }

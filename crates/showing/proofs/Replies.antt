@@ -15,7 +15,7 @@ use Rattle.text.proofs.Writing.{stored-holding}
 use Rattle.numerals.specs.Numerals.{numberLine}
 use Rattle.numerals.proofs.Widths.{line-few}
 use Rattle.blocks.specs.declared.Stripped.{Stripped}
-use Rattle.blocks.specs.Stripping.{strippedOf, strippedInto}
+use Rattle.blocks.specs.Stripping.{strippedBy, strippedOf, strippedInto}
 use Rattle.blocks.specs.Parts.{partOf}
 use Rattle.showing.specs.declared.Shown.{Shown}
 use Rattle.showing.specs.Shown.{Readout, refusalShown, blockShown, longest, replyShown, Shows}
@@ -47,7 +47,7 @@ module _ (shown : List ℕ → Readout) where
     block-shown h part e = rw (← is, eq-eqb n 1 h, e)
 
   module _ (reply : List ℕ) (r : Stripped) (is : r ≡ strippedOf reply (replicate longest 0)) where
-    pub reply-refused : (r .number ≡ 1 → ⊥) → replyShown shown reply ≡ refusalShown (r .number) 0
+    pub reply-refused : (r .number ≡ 1 → ⊥) → replyShown shown reply ≡ refusalShown (r .number) (r .place)
     unfolding replyShown
     reply-refused h = rw (← is, ne-eqb (r .number) 1 h)
 
@@ -56,11 +56,8 @@ module _ (shown : List ℕ → Readout) where
     reply-shown h = rw (← is, eq-eqb (r .number) 1 h)
 
 -- what was stripped is the characters of the reply
-abbrev answer : Bool → Bool → ℕ → Stripped
-answer short whole n = cond short (record { number = 26; length = 0 }) (cond whole (record { number = 1; length = n }) (record { number = 24; length = 0 }))
-
-stripped-by : (short whole : Bool) (reply out : List ℕ) → answer short whole (length reply) .number ≡ 1
-    → take (answer short whole (length reply) .length) (cond short out (cond whole (holding out (map seven reply)) out)) ≡ map seven reply
+stripped-by : (short whole : Bool) (reply out : List ℕ) → strippedBy reply short whole .number ≡ 1
+    → take (strippedBy reply short whole .length) (cond short out (cond whole (holding out (map seven reply)) out)) ≡ map seven reply
 unfolding holding
 stripped-by true whole reply out h = absurd (omega (arith, h))
 stripped-by false true reply out h = take-at (map seven reply) (drop (length (map seven reply)) out) (length reply) (length-map reply seven)

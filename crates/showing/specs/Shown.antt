@@ -68,10 +68,10 @@ blockShown shown b =
 abbrev pub longest : ℕ
 longest = 4096
 
--- and of a reply's; a longer reply is refused with 26, a damaged one with 24
+-- and of a reply's; a longer reply is refused with 26, a damaged one with 24 and the place of its first damaged byte ([2])
 unfoldable pub replyShown : (List ℕ → Readout) → List ℕ → Readout
 replyShown shown reply =
-    cond (eqb (strippedOf reply (replicate longest 0) .number) 1) (blockShown shown (map seven reply)) (refusalShown (strippedOf reply (replicate longest 0) .number) 0)
+    cond (eqb (strippedOf reply (replicate longest 0) .number) 1) (blockShown shown (map seven reply)) (refusalShown (strippedOf reply (replicate longest 0) .number) (strippedOf reply (replicate longest 0) .place))
 
 unfoldable pub readoutShown : List ℕ → Readout
 readoutShown reply = replyShown setsShown reply

@@ -124,7 +124,7 @@ fn show_reply(reply: &[u8], every: bool, address: &[u8], out: &mut [u8]) -> Show
     let stripped = blocks::strip(reply, &mut plain);
     let number = stripped.number;
     if number != blocks::DONE {
-        return refuse(out, 0, number, 0);
+        return refuse(out, 0, number, stripped.place);
     }
     let n = stripped.length;
     show_block(&plain[..n], every, address, out)

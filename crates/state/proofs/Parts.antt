@@ -19,7 +19,7 @@ use Rattle.state.specs.declared.Counters.{Counters}
 use Rattle.state.specs.declared.Registers.{Registers}
 use Rattle.state.specs.declared.Meter.{Meter}
 use Rattle.state.specs.Sizes.{heldPlaces, rowLength, tables, counterEnd}
-use Rattle.state.specs.WellFormed.{limit, firstGood, markGood, heldGood, receiverGood, below, zonesGood, total, countersGood, tablesGood, factsGood, factoryGood, registersGood, wellFormed, speedGood}
+use Rattle.state.specs.WellFormed.{limit, firstGood, markGood, hurtGood, heldGood, receiverGood, below, zonesGood, total, countersGood, tablesGood, factsGood, factoryGood, registersGood, wellFormed, speedGood}
 use Rattle.state.specs.Setting.{zonePlace, counterOf, speedIn}
 
 -- what is asked only after two tests have passed, and what has failed before it
@@ -121,6 +121,7 @@ pub record FormedReceiver (mode : ℕ) (r : Receiver) : Type 0 where
   pub count : r .count ≤ limit mode
   pub first : firstGood mode (r .count) (getD (r .held) 0 0) ≡ true
   pub mark : markGood (r .count) (r .mark) ≡ true
+  pub hurt : hurtGood (r .count) (r .mark) (r .place) ≡ true
   pub held : heldGood (r .held) (r .count) ≡ true
 
 pub formed-receiver : (mode : ℕ) (r : Receiver) → receiverGood mode r ≡ true → FormedReceiver mode r
@@ -129,14 +130,22 @@ formed-receiver mode r h =
     let f = firstGood mode (r .count) (getD (r .held) 0 0) in
     let k = markGood (r .count) (r .mark) in
     let l = heldGood (r .held) (r .count) in
-    let fits = chosen (λ (b : Bool). b) (leb (r .count) (limit mode)) ((f && k) && l) false refl h in
-    let all : ((f && k) && l) ≡ true = rw fits at h in
-    let fk = and-left (f && k) l all in
-    record { count = leb-true (r .count) (limit mode) fits; first = and-left f k fk; mark = and-right f k fk; held = and-right (f && k) l all }
+    let p = hurtGood (r .count) (r .mark) (r .place) in
+    let fits = chosen (λ (b : Bool). b) (leb (r .count) (limit mode)) (((f && k) && p) && l) false refl h in
+    let all : (((f && k) && p) && l) ≡ true = rw fits at h in
+    let fkp = and-left ((f && k) && p) l all in
+    let fk = and-left (f && k) p fkp in
+    record {
+      count = leb-true (r .count) (limit mode) fits;
+      first = and-left f k fk;
+      mark = and-right f k fk;
+      hurt = and-right (f && k) p fkp;
+      held = and-right ((f && k) && p) l all;
+    }
 
 pub receiver-good : (mode : ℕ) (r : Receiver) → FormedReceiver mode r → receiverGood mode r ≡ true
 unfolding receiverGood
-receiver-good mode r f = rw (le-leb (r .count) (limit mode) (f .count), f .first, f .mark, f .held)
+receiver-good mode r f = rw (le-leb (r .count) (limit mode) (f .count), f .first, f .mark, f .hurt, f .held)
 
 -- the lengths that are known of a well-formed state
 pub held-long : (mode : ℕ) (r : Receiver) → receiverGood mode r ≡ true → length (r .held) ≡ heldPlaces

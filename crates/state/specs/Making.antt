@@ -15,7 +15,7 @@ use Rattle.state.specs.Sizes.{heldPlaces, rowLength, tables}
 use Rattle.state.specs.WellFormed.{factoryGood}
 
 abbrev pub emptyReceiver : Receiver
-emptyReceiver = record { held = replicate heldPlaces 0; count = 0; mark = 0 }
+emptyReceiver = record { held = replicate heldPlaces 0; count = 0; mark = 0; place = 0 }
 
 abbrev pub noCounters : Counters
 noCounters = record { zones = replicate 4 0; total = 0 }

@@ -15,10 +15,11 @@ use Rattle.state.specs.Making.{emptyReceiver}
 
 -- these characters, so many of them
 abbrev pub withHeld : Receiver → List ℕ → ℕ → Receiver
-withHeld r held count = record { held = held; count = count; mark = r .mark }
+withHeld r held count = record { held = held; count = count; mark = r .mark; place = r .place }
 
-abbrev pub withMark : Receiver → ℕ → Receiver
-withMark r mark = record { held = r .held; count = r .count; mark = mark }
+-- this mark, and the place that it speaks of
+abbrev pub withMark : Receiver → ℕ → ℕ → Receiver
+withMark r mark place = record { held = r .held; count = r .count; mark = mark; place = place }
 
 -- a meter of these
 abbrev pub meterIn : ℕ → ℕ → ℕ → Receiver → Registers → Meter

@@ -32,6 +32,10 @@ heldGood held count = eqb (length held) heldPlaces && (every (between 0 127) hel
 unfoldable pub markGood : ℕ → ℕ → Bool
 markGood count mark = leb mark 1 && (not (eqb count 0) || eqb mark 0)
 
+-- [2]: with the mark the place is below the held count, without it it is 0
+unfoldable pub hurtGood : ℕ → ℕ → ℕ → Bool
+hurtGood count mark place = cond (eqb mark 1) (ltb place count) (eqb place 0)
+
 -- damage was seen
 abbrev pub marked : Receiver → Bool
 marked r = eqb (r .mark) 1
@@ -39,7 +43,7 @@ marked r = eqb (r .mark) 1
 unfoldable pub receiverGood : ℕ → Receiver → Bool
 receiverGood mode r =
     cond (leb (r .count) (limit mode))
-    ((firstGood mode (r .count) (getD (r .held) 0 0) && markGood (r .count) (r .mark)) && heldGood (r .held) (r .count))
+    (((firstGood mode (r .count) (getD (r .held) 0 0) && markGood (r .count) (r .mark)) && hurtGood (r .count) (r .mark) (r .place)) && heldGood (r .held) (r .count))
     false
 
 -- four counters, each 0 to 999,999,999

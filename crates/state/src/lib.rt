@@ -4,7 +4,7 @@ ghost use Prim.Native.Nat.{_≤_, _<_};
 ghost use lib.ListN.{length};
 ghost use Rattle.line.specs.Runs.{every};
 ghost use Rattle.state.specs.Sizes.{tables, heldPlaces};
-ghost use Rattle.state.specs.WellFormed.{limit, firstGood, heldGood, receiverGood, below, zonesGood, total, countersGood, tablesGood, factsGood, factoryGood, registersGood, wellFormed, speedGood};
+ghost use Rattle.state.specs.WellFormed.{limit, firstGood, hurtGood, heldGood, receiverGood, below, zonesGood, total, countersGood, tablesGood, factsGood, factoryGood, registersGood, wellFormed, speedGood};
 ghost use Rattle.state.specs.Making.{factsOf, meterOf, blankMeter, madeOf};
 use clock::Clock;
 use clock::Date;
@@ -26,12 +26,13 @@ pub const COUNTER_END: u32 = 1_000_000_000;
 // The least room of a reply buffer.
 pub const REPLY_ROOM: usize = 2_048;
 
-// What was received of a line or frame so far; the mark is 1 where damage was seen, else 0.
+// What was received of a line or frame so far; the mark is 1 where damage was seen, else 0, and the place is that of the first damaged character, or 0.
 #[repr(C)]
 pub struct Receiver {
     pub held: [u8; HELD_PLACES as usize],
     pub count: u8,
     pub mark: u8,
+    pub place: u8,
 }
 
 // What a meter has for life.
@@ -97,6 +98,16 @@ fn first_good(mode: u8, count: u8, first: u8) -> bool
     (count == 0) | ((mode == 1) | (first == line::SOH))
 }
 
+// Whether a place is that of a held character where there is a mark, and 0 where there is none.
+fn hurt_good(count: u8, mark: u8, place: u8) -> bool
+    ensures { λ r. ⌜ r ≡ hurtGood count mark place ⌝ }
+{
+    if mark == 1 {
+        return place < count;
+    }
+    place == 0
+}
+
 // Whether 63 characters are within 0 to 127, and 0 from the count on. As long as a place is below the count, `below` is 128 or more: it has
 // eight bits like the characters, so that the compiler tests many places at once.
 fn held_good(held: &[u8], count: u8) -> bool
@@ -123,7 +134,8 @@ fn receiver_good(mode: u8, r: Receiver) -> bool
     if count <= limit_of(mode) {
         let first = held[0];
         let mark = (r.mark <= 1) & (!(count == 0) | (r.mark == 0));
-        return (first_good(mode, count, first) & mark) & held_good(&held, count);
+        let hurt = hurt_good(count, r.mark, r.place);
+        return ((first_good(mode, count, first) & mark) & hurt) & held_good(&held, count);
     }
     false
 }

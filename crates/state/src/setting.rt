@@ -23,6 +23,7 @@ pub fn empty_receiver() -> Receiver
         held: [0; HELD_PLACES as usize],
         count: 0,
         mark: 0,
+        place: 0,
     }
 }
 
@@ -36,11 +37,13 @@ pub fn with_held(r: Receiver, held: [u8; HELD_PLACES as usize], count: u8) -> Re
     next
 }
 
-pub fn with_mark(r: Receiver, mark: u8) -> Receiver
-    ensures { λ x. ⌜ x ≡ withMark r mark ⌝ }
+// This mark, and the place that it speaks of.
+pub fn with_mark(r: Receiver, mark: u8, place: u8) -> Receiver
+    ensures { λ x. ⌜ x ≡ withMark r mark place ⌝ }
 {
     let mut next = r;
     next.mark = mark;
+    next.place = place;
     next
 }
 

@@ -6,20 +6,21 @@ use model::head::{answer, Lookup, Step};
 const STX: u8 = 0x02;
 const ETX: u8 = 0x03;
 
-/// Strips a reply's parity into `out`: answer and length.
-pub fn strip(reply: &[u8], out: &mut [u8]) -> (u8, usize) {
+/// Strips a reply's parity into `out`: answer, length, and with 24 the place of the first damaged byte.
+pub fn strip(reply: &[u8], out: &mut [u8]) -> (u8, usize, usize) {
     let Some(copy) = out.get_mut(..reply.len()) else {
-        return (answer::SHORT_COPY, 0);
+        return (answer::SHORT_COPY, 0, 0);
     };
     // The lowest bit gathers every odd count; without a way out the loop takes many bytes at a time.
     let counts = reply.iter().fold(0, |all, b| all | b.count_ones() as u8);
     if counts & 1 == 1 {
-        return (answer::DAMAGED, 0);
+        let first = reply.iter().position(|b| b.count_ones() % 2 == 1);
+        return (answer::DAMAGED, 0, first.unwrap_or(0));
     }
     for (character, byte) in copy.iter_mut().zip(reply) {
         *character = byte & 0x7F;
     }
-    (answer::DONE, reply.len())
+    (answer::DONE, reply.len(), 0)
 }
 
 /// Finds the part of a stripped block: answer, start and length.

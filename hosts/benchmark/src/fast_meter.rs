@@ -121,9 +121,13 @@ fn receiver_good(meter: &Meter) -> bool {
         bad |= eight(&meter.held, at) & eight(forbidden, at);
     }
     let start = if count == 0 {
-        meter.mark == 0
+        (meter.mark == 0) & (meter.place == 0)
     } else {
-        (meter.mark <= 1) & (meter.held[0] == first)
+        let place = match meter.mark {
+            0 => meter.place == 0,
+            _ => meter.place < meter.count,
+        };
+        (meter.mark <= 1) & place & (meter.held[0] == first)
     };
     (bad == 0) & start
 }
@@ -175,6 +179,7 @@ fn answer(number: u8, speed: u8, length: usize) -> Answer {
         number,
         speed,
         length,
+        place: 0,
     }
 }
 
@@ -185,6 +190,7 @@ fn parity(character: u8) -> u8 {
 fn empty(meter: &mut Meter) {
     meter.count = 0;
     meter.mark = 0;
+    meter.place = 0;
     meter.held = [0; PLACES];
 }
 
@@ -203,10 +209,18 @@ fn restart(meter: &mut Meter, first: u8) {
     meter.count = 1;
 }
 
+/// Only the first damaged character says where.
+fn watch(meter: &mut Meter, damaged: bool) {
+    if damaged & (meter.mark == 0) {
+        meter.mark = 1;
+        meter.place = meter.count;
+    }
+}
+
 fn hold(meter: &mut Meter, character: u8, damaged: bool) {
+    watch(meter, damaged);
     meter.held[usize::from(meter.count)] = character;
     meter.count += 1;
-    meter.mark |= u8::from(damaged);
 }
 
 /// A received character.
@@ -305,14 +319,17 @@ fn confirmation_character(
 fn frame_character(meter: &mut Meter, character: u8, damaged: bool, buffer: &mut [u8]) -> Answer {
     let count = usize::from(meter.count);
     if count > 0 && meter.held[count - 1] == ETX {
-        meter.mark |= u8::from(damaged);
-        let speed = meter.speed;
+        watch(meter, damaged);
+        let (speed, place) = (meter.speed, meter.place);
         return match decide(meter, count, character, buffer) {
             Ok(length) => {
                 empty(meter);
                 answer(1, speed, length)
             }
-            Err(number) => refuse(meter, number, buffer),
+            Err(number) => Answer {
+                place,
+                ..refuse(meter, number, buffer)
+            },
         };
     }
     if character == SOH {

@@ -94,6 +94,7 @@ extern "C" {
         out: *mut u8,
         out_length: usize,
         length: *mut usize,
+        place: *mut usize,
     ) -> u8;
     fn dirgemist_head_part(
         stripped: *const u8,
@@ -311,9 +312,15 @@ pub fn sign_off(out: &mut [u8]) -> (u8, usize) {
     plain(dirgemist_head_sign_off, out)
 }
 
-/// Strips a reply's parity into a buffer: the number and the length.
-pub fn strip(reply: &[u8], out: &mut [u8]) -> (u8, usize) {
-    lettered(dirgemist_head_strip, reply, out)
+/// Strips a reply's parity into a buffer: the number, the length, and with 24 the place of the first
+/// damaged byte.
+pub fn strip(reply: &[u8], out: &mut [u8]) -> (u8, usize, usize) {
+    let (mut length, mut place) = (UNWRITTEN, UNWRITTEN);
+    let (from, to) = ((reply.as_ptr(), reply.len()), (out.as_mut_ptr(), out.len()));
+    // SAFETY: see above.
+    let number =
+        unsafe { dirgemist_head_strip(from.0, from.1, to.0, to.1, &mut length, &mut place) };
+    (number, length, place)
 }
 
 /// Finds the part of a stripped block: the number, where it starts and how long it is.

@@ -48,14 +48,15 @@ pub struct Clock {
     pub time: Time,
 }
 
-/// What was received of a line or frame so far: 0 from `count` on, and `mark` 1 where one of them
-/// came damaged.
+/// What was received of a line or frame so far: 0 from `count` on; `mark` is 1 where one of them came
+/// damaged, and `place` is then that of the first such one, else 0.
 #[repr(C)]
 #[derive(Clone, Copy, Debug, PartialEq, Eq)]
 pub struct Receiver {
     pub held: [u8; 63],
     pub count: u8,
     pub mark: u8,
+    pub place: u8,
 }
 
 /// What a meter keeps for life.
@@ -99,8 +100,8 @@ pub struct Meter {
 }
 
 // The layout is C's; hosts/c/firmware.c holds the header to the same figures.
-const _: () = assert!(size_of::<Receiver>() == 65 && size_of::<Registers>() == 632);
-const _: () = assert!(size_of::<Meter>() == 700);
+const _: () = assert!(size_of::<Receiver>() == 66 && size_of::<Registers>() == 632);
+const _: () = assert!(size_of::<Meter>() == 704);
 
 /// What can happen to a meter.
 #[derive(Clone, Copy, Debug, PartialEq, Eq)]
@@ -130,12 +131,14 @@ impl Event {
     }
 }
 
-/// What a meter answers: its number, the bytes of its reply and the speed they go out at.
+/// What a meter answers: its number, the bytes of its reply, the speed they go out at, and with 3 the
+/// place of the first damaged character of the frame, else 0.
 #[derive(Clone, Copy, Debug, PartialEq, Eq)]
 pub struct Answer {
     pub number: u8,
     pub length: usize,
     pub speed: u8,
+    pub place: u8,
 }
 
 #[link(name = "firmware", kind = "static")]
@@ -148,6 +151,7 @@ extern "C" {
         room: usize,
         length: *mut usize,
         speed: *mut u8,
+        place: *mut u8,
     ) -> u8;
 }
 
@@ -220,15 +224,18 @@ impl Meter {
 
     /// The same with any kind and value; those of no event answer [`NO_EVENT`].
     pub fn told(&mut self, kind: u8, value: u32, reply: &mut [u8]) -> Answer {
-        let (mut length, mut speed) = (UNWRITTEN, UNWRITTEN_BYTE);
+        let (mut length, mut speed, mut place) = (UNWRITTEN, UNWRITTEN_BYTE, UNWRITTEN_BYTE);
         let (to, room) = (reply.as_mut_ptr(), reply.len());
         // SAFETY: the record has the library's layout, and the borrows do not overlap.
-        let number =
-            unsafe { dirgemist_meter_meet(self, kind, value, to, room, &mut length, &mut speed) };
+        let number = unsafe {
+            let out = (&mut length, &mut speed, &mut place);
+            dirgemist_meter_meet(self, kind, value, to, room, out.0, out.1, out.2)
+        };
         Answer {
             number,
             length,
             speed,
+            place,
         }
     }
 }

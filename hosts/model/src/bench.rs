@@ -114,6 +114,7 @@ impl Bench {
             let shown = answer.length.max(changed.map_or(0, |place| place + 1));
             put(transcript, format_args!(" {} ", answer.length));
             put_hex(transcript, &buffer[..shown]);
+            put(transcript, format_args!(" {}", answer.place));
         }
         transcript.push('\n');
         answer
@@ -195,9 +196,9 @@ fn clock_of(fields: &[&[u8]]) -> Option<Clock> {
     })
 }
 
-/// The state of the 21 fields that `dump` writes.
+/// The state of the 22 fields that `dump` writes.
 fn state(fields: &[&[u8]]) -> Option<Meter> {
-    let [mode, count, mark, held, serial, account, password, attempts, clock @ .., c1, c2, c3, c4, tables, speed, total] =
+    let [mode, count, mark, held, serial, account, password, attempts, clock @ .., c1, c2, c3, c4, tables, speed, place, total] =
         fields
     else {
         return None;
@@ -211,6 +212,7 @@ fn state(fields: &[&[u8]]) -> Option<Meter> {
         mode: decimal(mode)?,
         count: decimal(count)?,
         mark: decimal(mark)?,
+        place: decimal(place)?,
         held: exactly::<PLACES>(held)?,
         serial: exactly(serial)?,
         account: exactly(account)?,
@@ -224,7 +226,7 @@ fn state(fields: &[&[u8]]) -> Option<Meter> {
     })
 }
 
-/// The 20 fields of a state.
+/// The 22 fields of a state.
 pub fn dump(meter: &Meter) -> String {
     let mut line = String::new();
     put(
@@ -258,7 +260,10 @@ pub fn dump(meter: &Meter) -> String {
         put(&mut line, format_args!("{counter} "));
     }
     put_hex(&mut line, meter.tables.as_flattened());
-    put(&mut line, format_args!(" {} {}", meter.speed, meter.total));
+    put(
+        &mut line,
+        format_args!(" {} {} {}", meter.speed, meter.place, meter.total),
+    );
     line
 }
 

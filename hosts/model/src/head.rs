@@ -209,18 +209,20 @@ pub fn build(command: &Command, out: &mut [u8]) -> (u8, usize) {
 
 // Replies.
 
-/// Strips a reply's parity into `out`: answer and length.
-pub fn strip(reply: &[u8], out: &mut [u8]) -> (u8, usize) {
+/// Strips a reply's parity into `out`: answer, length, and with 24 the place of the first damaged byte.
+pub fn strip(reply: &[u8], out: &mut [u8]) -> (u8, usize, usize) {
     if out.len() < reply.len() {
-        return (answer::SHORT_COPY, 0);
+        return (answer::SHORT_COPY, 0, 0);
     }
-    if !reply.iter().all(|&byte| undamaged(byte)) {
-        return (answer::DAMAGED, 0);
+    for (place, &byte) in reply.iter().enumerate() {
+        if !undamaged(byte) {
+            return (answer::DAMAGED, 0, place);
+        }
     }
     for (place, byte) in reply.iter().enumerate() {
         out[place] = byte & 0x7F;
     }
-    (answer::DONE, reply.len())
+    (answer::DONE, reply.len(), 0)
 }
 
 /// Where the data of a stripped block lie, or the number of the refusal.
@@ -707,13 +709,13 @@ mod tests {
     #[test]
     fn strip_refuses_room_then_damage_and_keeps_the_buffer() {
         let mut out = [0x5A; 4];
-        assert_eq!(strip(&[0x81; 5], &mut out), (26, 0));
-        assert_eq!(strip(&[0x01; 5], &mut out), (26, 0));
-        assert_eq!(strip(&[0x81, 0x82, 0x02], &mut out), (24, 0));
+        assert_eq!(strip(&[0x81; 5], &mut out), (26, 0, 0));
+        assert_eq!(strip(&[0x01; 5], &mut out), (26, 0, 0));
+        assert_eq!(strip(&[0x81, 0x82, 0x02], &mut out), (24, 0, 2));
         assert_eq!(out, [0x5A; 4]);
-        assert_eq!(strip(&[0x81, 0x82, 0x03], &mut out), (1, 3));
+        assert_eq!(strip(&[0x81, 0x82, 0x03], &mut out), (1, 3, 0));
         assert_eq!(out, [1, 2, 3, 0x5A]);
-        assert_eq!(strip(&[], &mut []), (1, 0));
+        assert_eq!(strip(&[], &mut []), (1, 0, 0));
     }
 
     #[test]
@@ -757,7 +759,7 @@ mod tests {
         let wire = on_the_wire(&block(&registers.data()));
         assert_eq!(wire.len(), 1_063);
         let mut stripped = vec![0; wire.len()];
-        assert_eq!(strip(&wire, &mut stripped), (1, 1_063));
+        assert_eq!(strip(&wire, &mut stripped), (1, 1_063, 0));
         let data = &stripped[part(&stripped).unwrap()];
         let mut sets = Vec::new();
         let mut at = 0;

@@ -124,8 +124,8 @@ fn call(words: &[&[u8]]) -> Option<String> {
         }
         [b"strip", room, reply] => {
             let (reply, mut out) = (hex(reply)?, lent(room)?);
-            let (number, length) = head::strip(&reply, &mut out);
-            Some(written(number, length, length, &out))
+            let (number, length, place) = head::strip(&reply, &mut out);
+            Some(written(number, length, length, &out) + &format!(" {place}"))
         }
         [b"mercury", b"ask", room, address, array, month, tariff] => {
             let mut out = lent(room)?;
@@ -310,10 +310,11 @@ mod tests {
             (&format!("export 36 {line}210d0a"), &format!("1 36 {frame}")),
             (&format!("export 35 {line}210d0a"), "21 0 -"),
             ("export 0 31", "20 1 -"),
-            ("strip 3 8182aa", "1 3 01022a"),
-            ("strip 2 8182aa", "26 0 -"),
-            ("strip 2 01", "24 0 -"),
-            ("strip 0 -", "1 0 -"),
+            ("strip 3 8182aa", "1 3 01022a 0"),
+            ("strip 2 8182aa", "26 0 - 0"),
+            ("strip 2 01", "24 0 - 0"),
+            ("strip 4 81820101", "24 0 - 2"),
+            ("strip 0 -", "1 0 - 0"),
             ("part 02410342", "1 1 1"),
             ("part 02410343", "23 0 0"),
             ("part -", "22 0 0"),

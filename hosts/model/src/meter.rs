@@ -48,6 +48,8 @@ pub struct Meter {
     pub count: u8,
     /// 1 where a held character came damaged, else 0.
     pub mark: u8,
+    /// Where the first damaged one stands, the first held one being at 0; 0 without a mark.
+    pub place: u8,
     pub held: [u8; PLACES],
     pub serial: [u8; 10],
     pub account: [u8; 10],
@@ -68,11 +70,15 @@ pub struct Answer {
     pub number: u8,
     pub speed: u8,
     pub length: usize,
+    /// With 3 the place of the first damaged character, else 0.
+    pub place: u8,
 }
 
-/// What one event comes to: its number and, where something is sent, speed and characters.
+/// What one event comes to: its number, the place that 3 has and, where something is sent, speed and
+/// characters.
 struct Step {
     number: u8,
+    place: u8,
     reply: Option<(u8, Vec<u8>)>,
 }
 
@@ -223,6 +229,7 @@ impl Answer {
             number,
             speed: 0,
             length: 0,
+            place: 0,
         }
     }
 }
@@ -231,6 +238,7 @@ impl Step {
     fn quiet(number: u8) -> Step {
         Step {
             number,
+            place: 0,
             reply: None,
         }
     }
@@ -238,6 +246,7 @@ impl Step {
     fn reply(number: u8, speed: u8, characters: &[u8]) -> Step {
         Step {
             number,
+            place: 0,
             reply: Some((speed, characters.to_vec())),
         }
     }
@@ -250,6 +259,7 @@ impl Meter {
             mode: LISTENING,
             count: 0,
             mark: 0,
+            place: 0,
             held: [0; PLACES],
             serial: *b"0000000000",
             account: *b"          ",
@@ -308,6 +318,10 @@ impl Meter {
         held.iter().all(|&character| character <= 127)
             && unused.iter().all(|&place| place == 0)
             && self.mark <= u8::from(count > 0)
+            && match self.mark {
+                0 => self.place == 0,
+                _ => self.place < self.count,
+            }
             && (count == 0 || first.is_none() || first == Some(held[0]))
     }
 
@@ -335,14 +349,23 @@ impl Meter {
     fn empty(&mut self) {
         self.count = 0;
         self.mark = 0;
+        self.place = 0;
         self.held = [0; PLACES];
     }
 
     /// Holds one more character, a damaged one as 0 with the mark.
     fn hold(&mut self, got: Option<u8>) {
+        self.watch(got);
         self.held[usize::from(self.count)] = got.unwrap_or(0);
         self.count += 1;
-        self.mark |= u8::from(got.is_none());
+    }
+
+    /// Marks damage of the character that comes behind those held; only the first says where.
+    fn watch(&mut self, got: Option<u8>) {
+        if got.is_none() && self.mark == 0 {
+            self.mark = 1;
+            self.place = self.count;
+        }
     }
 
     fn restart(&mut self, first: u8) {
@@ -383,6 +406,7 @@ impl Meter {
                 number: step.number,
                 speed: self.speed,
                 length: 0,
+                place: step.place,
             };
         };
         for (place, &character) in buffer.iter_mut().zip(&characters) {
@@ -392,6 +416,7 @@ impl Meter {
             number: step.number,
             speed,
             length: characters.len(),
+            place: step.place,
         }
     }
 
@@ -451,14 +476,17 @@ impl Meter {
     fn frame_character(&mut self, got: Option<u8>) -> Step {
         if self.held().last() == Some(&ETX) {
             // The BCC, whatever it is.
-            self.mark |= u8::from(got.is_none());
+            self.watch(got);
             let frame = self.held().to_vec();
-            let speed = self.speed;
+            let (speed, place) = (self.speed, self.place);
             let decision = self.decide(&frame, got.unwrap_or(0));
             self.empty();
             return match decision {
                 Ok(reply) => Step::reply(1, speed, &reply),
-                Err(number) => self.refuse(number),
+                Err(number) => Step {
+                    place: if number == 3 { place } else { 0 },
+                    ..self.refuse(number)
+                },
             };
         }
         if got == Some(SOH) {
@@ -656,6 +684,7 @@ impl Meter {
             number: 1,
             speed: self.speed,
             length: 0,
+            place: 0,
         }
     }
 
@@ -670,6 +699,7 @@ impl Meter {
             number: 1,
             speed: 0,
             length: 0,
+            place: 0,
         }
     }
 
@@ -695,6 +725,7 @@ impl Meter {
             number: 1,
             speed: self.speed,
             length: 0,
+            place: 0,
         }
     }
 }

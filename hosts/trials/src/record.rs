@@ -26,6 +26,7 @@ pub fn record_of(meter: &model::meter::Meter) -> Meter {
             held: meter.held,
             count: meter.count,
             mark: meter.mark,
+            place: meter.place,
         },
         registers: Registers {
             facts: Facts {

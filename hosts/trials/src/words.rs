@@ -154,12 +154,19 @@ pub fn state(chance: &mut Chance, mode: u8) -> Meter {
     meter
 }
 
-/// The same with these characters held.
+/// The same with these characters held. The mark's place is that of the first 0, or the last.
 pub fn holding(mut meter: Meter, held: &[u8], mark: bool) -> Meter {
     meter.held = [0; PLACES];
     meter.held[..held.len()].copy_from_slice(held);
     meter.count = held.len() as u8;
     meter.mark = mark.into();
+    let damaged = held.iter().position(|&character| character == 0);
+    let last = held.len().saturating_sub(1);
+    meter.place = if mark {
+        damaged.unwrap_or(last) as u8
+    } else {
+        0
+    };
     meter
 }
 

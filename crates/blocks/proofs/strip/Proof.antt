@@ -14,7 +14,8 @@ returns c =
 returns-2 : tie.Need-returns-2
 unfolding strippedOf strippedInto
 returns-2 c =
-    let d = sym (c .before .undamaged .ensures) ∙ not-true _ (c .if2 .taken) in record { answer = rw (le-ltb _ _ (c .before .before .if1 .left), d); held = rw (le-ltb _ _ (c .before .before .if1 .left), d) }
+    let d = sym (c .before .before .undamaged .ensures) ∙ not-true _ (c .before .if2 .taken) in
+    record { answer = rw (le-ltb _ _ (c .before .before .before .if1 .left), d, c .first-damaged .ensures); held = rw (le-ltb _ _ (c .before .before .before .if1 .left), d) }
 
 returns-3 : tie.Need-returns-3
 unfolding strippedOf strippedInto
@@ -22,4 +23,4 @@ returns-3 c =
     let d = sym (c .before .before .before .before .before .undamaged .ensures) ∙ not-false _ (c .before .before .before .before .if2 .left) in record { answer = rw (le-ltb _ _ (c .before .before .before .before .before .before .if1 .left), d); held = rw (le-ltb _ _ (c .before .before .before .before .before .before .if1 .left), d) (c .before .before .copy-seven .ensures) }
 
 pub strip-spec : {M : Type 1} → statement M
-strip-spec = tie.close (tie.spec returns (λ c κs. search needs) returns-2 (λ c κs. search needs) (λ c. search needs) returns-3)
+strip-spec = tie.close (tie.spec returns (λ c κs. search needs) (λ c κs. search needs) returns-2 (λ c κs. search needs) (λ c. search needs) returns-3)

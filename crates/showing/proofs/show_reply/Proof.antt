@@ -18,7 +18,7 @@ returns c =
     let shown = wantedShown (a .every) (a .address .now) in
     let r = c .before .before .before .before .before .before .strip in
     let said = c .before .before .refuse .ensures in
-    let s = refusal-shows (a .out .now) (r .result .number) 0 _ _ (omega (arith, c .before .before .before .before .before .before .before .before .before .before .before .pre)) (said .0) (said .1) in
+    let s = refusal-shows (a .out .now) (r .result .number) (r .result .place) _ _ (omega (arith, c .before .before .before .before .before .before .before .before .before .before .before .pre)) (said .0) (said .1) in
     rw (reply-refused shown (a .reply .now) (r .result) (r .ensures .answer) (c .before .before .before .before .if1 .taken)) s
 
 array-share-prefix-plain : tie.Need-array-share-prefix-plain

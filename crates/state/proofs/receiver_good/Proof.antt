@@ -9,19 +9,19 @@ use Rattle.state.proofs.receiver_good.Tie as tie
 
 held-good-requires : tie.Need-held-good-requires
 held-good-requires c κs =
-    let asked = c .before .before .before .before in
+    let asked = c .before .before .before .before .before in
     let most = limit-most (asked .before .before .before .args .mode) in
     (search needs, omega (arith, asked .if1 .taken, asked .before .limit-of .ensures, most))
 
 returns : tie.Need-returns
 unfolding receiverGood markGood
 returns c =
-    let asked = c .before .before .before .before .before in
-    rw (← asked .before .limit-of .ensures, le-leb _ _ (asked .if1 .taken), c .before .before .first-good .ensures, c .held-good .ensures)
+    let asked = c .before .before .before .before .before .before in
+    rw (← asked .before .limit-of .ensures, le-leb _ _ (asked .if1 .taken), c .before .before .first-good .ensures, c .before .before .before .hurt-good .ensures, c .held-good .ensures)
 
 returns-2 : tie.Need-returns-2
 unfolding receiverGood markGood
 returns-2 c = rw (← c .before .limit-of .ensures, lt-leb _ _ (c .if1 .left))
 
 pub receiver-good-spec : {M : Type 1} → statement M
-receiver-good-spec = tie.close (tie.spec (λ c κs. search needs) (λ c. search needs) (λ c κs. search needs) (λ c. search needs) held-good-requires returns returns-2)
+receiver-good-spec = tie.close (tie.spec (λ c κs. search needs) (λ c. search needs) (λ c κs. search needs) (λ c κs. search needs) (λ c. search needs) held-good-requires returns returns-2)

@@ -69,7 +69,7 @@ fn library_find(sets: &[u8], address: &[u8]) -> Lookup {
 // The hand-written side behind calls that are not inlined, as the library's are.
 
 #[inline(never)]
-fn fast_strip(reply: &[u8], out: &mut [u8]) -> (u8, usize) {
+fn fast_strip(reply: &[u8], out: &mut [u8]) -> (u8, usize, usize) {
     fast_head::strip(reply, out)
 }
 

@@ -50,6 +50,7 @@ impl Side for library::Meter {
             number: answer.number,
             speed: answer.speed,
             length: answer.length,
+            place: answer.place,
         }
     }
 

@@ -187,7 +187,10 @@ fn spoil(chance: &mut Chance, meter: &mut Meter) {
         0 => meter.mode = byte % 8,
         1 => meter.count = byte % 80,
         2 => meter.held[chance.below(PLACES)] = byte,
-        3 => meter.mark = byte % 4,
+        3 => {
+            meter.mark = byte % 4;
+            meter.place = byte / 4 % 4;
+        }
         4 => meter.serial[chance.below(10)] = byte,
         5 => meter.account[chance.below(10)] = byte,
         6 => meter.password[chance.below(8)] = byte,

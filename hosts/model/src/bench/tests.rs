@@ -15,9 +15,9 @@ fn sign_on_by_hand() {
     let tables = "31".repeat(576);
     let expected = format!(
         "0 0 0 {zeros} 30303030303030303030 20202020202020202020 3030303030303030 \
-         0 2000 1 1 0 0 0 0 0 0 0 {tables} 0 0\n\
-         0 0 0 -\n0 0 0 -\n0 0 0 -\n0 0 0 -\n\
-         1 0 19 af5a5a5a355355422d565030b12e3030aa8d0a\n12 0 0 -\n1 0 1 95\n"
+         0 2000 1 1 0 0 0 0 0 0 0 {tables} 0 0 0\n\
+         0 0 0 - 0\n0 0 0 - 0\n0 0 0 - 0\n0 0 0 - 0\n\
+         1 0 19 af5a5a5a355355422d565030b12e3030aa8d0a 0\n12 0 0 - 0\n1 0 1 95 0\n"
     );
     assert_eq!(transcript(script), expected);
 }
@@ -27,6 +27,7 @@ fn dump_comes_back_through_set() {
     let mut bench = Bench::default();
     bench.meter.mode = 77;
     bench.meter.mark = 255;
+    bench.meter.place = 254;
     bench.meter.held[62] = 255;
     bench.meter.counters[3] = u32::MAX;
     bench.meter.clock.year = u16::MAX;
@@ -80,7 +81,10 @@ fn taken_lines() {
     assert_eq!(transcript("bytes -"), "");
     assert_eq!(transcript("\n"), "error\n");
     assert_eq!(transcript(""), "");
-    assert_eq!(transcript("byte 00 0\nbyte 00 8192"), "12 0 0 -\n0 0 0 -\n");
+    assert_eq!(
+        transcript("byte 00 0\nbyte 00 8192"),
+        "12 0 0 - 0\n0 0 0 - 0\n"
+    );
     assert_eq!(transcript("pulse 0001000000\ntick"), "1 0\n1 0\n");
     assert_eq!(transcript("pulse 1000001\nup"), "13 0\n1 0\n");
 }

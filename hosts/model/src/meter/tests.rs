@@ -227,6 +227,47 @@ fn sign_on_by_all_three_lines() {
     }
 }
 
+/// The last answer to wire bytes.
+fn answered(meter: &mut Meter, bytes: &[u8]) -> Answer {
+    let mut last = None;
+    for &byte in bytes {
+        last = Some(meter.character(byte, &mut [0; ROOM]));
+    }
+    last.unwrap()
+}
+
+#[test]
+fn three_says_where() {
+    for (bytes, place) in [
+        (&b"\x81\xc2\x30\x03\x71"[..], 1),
+        (b"\x81\x42\xb0\x03\x71", 2),
+        (b"\x81\x42\x30\x03\xf1", 4),
+        // The first of several.
+        (b"\x81\xc2\xb0\x03\xf1", 1),
+        // From the last SOH on.
+        (b"\x81\xc2\xb0\x81\x42\xb0\x03\x71", 2),
+        (b"\x81\x42\x81\x42\x30\x03\xf1", 4),
+    ] {
+        let answer = answered(&mut meter_in(PROGRAMMING), bytes);
+        assert_eq!((answer.number, answer.place), (3, place), "{bytes:x?}");
+    }
+    // Other answers have no place: a wrong BCC, a good frame, a confirmation.
+    let wrong = answered(&mut meter_in(PROGRAMMING), b"\x81\xc2\x81\x42\x30\x03\x72");
+    assert_eq!((wrong.number, wrong.place), (4, 0));
+    let confirmation = answered(&mut meter_in(CONFIRMATION), b"\x86\x30\x35\xb1\x8d\x0a");
+    assert_eq!((confirmation.number, confirmation.place), (2, 0));
+}
+
+#[test]
+fn places_that_no_receiver_has() {
+    for (mark, place, good) in [(0, 0, true), (0, 1, false), (1, 1, true), (1, 2, false)] {
+        let mut meter = meter_in(READ_ONLY);
+        meter.held[0] = SOH;
+        (meter.count, meter.mark, meter.place) = (2, mark, place);
+        assert_eq!(meter.well_formed(), good, "{mark} {place}");
+    }
+}
+
 #[test]
 fn restart_clears_the_mark() {
     let mut meter = meter_in(LISTENING);

@@ -53,15 +53,16 @@ fn exported(text: &[u8]) -> (Vec<u8>, i32) {
     }
 }
 
-/// The data of a reply's block, or the number of the refusal.
-fn data_of(reply: &[u8]) -> Result<Vec<u8>, u8> {
+/// The data of a reply's block, or the number of the refusal and its place.
+fn data_of(reply: &[u8]) -> Result<Vec<u8>, (u8, usize)> {
     let mut plain = vec![0; REPLY];
-    let (number, length) = head::strip(reply, &mut plain);
+    let (number, length, place) = head::strip(reply, &mut plain);
     if number != head::answer::DONE {
-        return Err(number);
+        return Err((number, place));
     }
     let block = &plain[..length];
-    Ok(block[head::part(block)?].to_vec())
+    let part = head::part(block).map_err(|number| (number, 0))?;
+    Ok(block[part].to_vec())
 }
 
 /// A data set, as the readout shows it.
@@ -73,7 +74,7 @@ fn shown(address: &[u8], value: &[u8]) -> Vec<u8> {
 fn read_out(reply: &[u8]) -> (Vec<u8>, u8) {
     let sets = match data_of(reply) {
         Ok(sets) => sets,
-        Err(number) => return (pair(number, 0), number),
+        Err((number, place)) => return (pair(number, place), number),
     };
     let mut lines = Vec::new();
     let mut at = 0;
@@ -100,7 +101,7 @@ fn read_out(reply: &[u8]) -> (Vec<u8>, u8) {
 fn looked_up(reply: &[u8], address: &str) -> (Vec<u8>, u8, usize) {
     let sets = match data_of(reply) {
         Ok(sets) => sets,
-        Err(number) => return (pair(number, 0), number, 0),
+        Err((number, place)) => return (pair(number, place), number, 0),
     };
     let found = head::find(&sets, address.as_bytes());
     let said = match found.answer {

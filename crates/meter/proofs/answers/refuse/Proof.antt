@@ -1,4 +1,4 @@
--- `meter::answers::refuse` meets its contract: each way out is the case of the definition that its tests name. Assumes nothing.
+-- `meter::answers::refuse` meets its contract: NAK with place 0. Assumes nothing.
 use Rattle.text.specs.Writing.{holding}
 use borrow.Author.Needs.{needs}
 use Rattle.meter.proofs.answers.refuse.Statement.{statement}
@@ -6,7 +6,7 @@ use Rattle.meter.proofs.answers.refuse.Tie as tie
 
 returns : tie.Need-returns
 unfolding holding
-returns c = (rw (c .in-mode .ensures, c .before .fall .ensures, c .before .before .before .before .refuse .ensures .0), (c .before .before .before .before .refuse .ensures .1))
+returns c = (rw (c .before .before .refuse-at .ensures .0), (c .before .before .refuse-at .ensures .1))
 
 pub refuse-spec : {M : Type 1} → statement M
-refuse-spec = tie.close (tie.spec (λ c κs. search needs) (λ c κs. search needs) (λ c κs. search needs) (λ c. search needs) returns)
+refuse-spec = tie.close (tie.spec (λ c κs. search needs) (λ c. search needs) returns)

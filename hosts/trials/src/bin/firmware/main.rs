@@ -19,7 +19,7 @@ use trials::record::record_of;
 use wrong::{Wrong, FAULTS};
 
 const SEED: u64 = 1;
-const EVENTS: u64 = 2_500_000;
+const EVENTS: u64 = 3_000_000;
 /// The events that a wrong meter may pass at most before it is found out.
 const PATIENCE: u64 = 400_000;
 
@@ -45,6 +45,7 @@ fn ruled(meter: &mut Meter, kind: u8, value: u32, reply: &mut [u8]) -> Answer {
             number: library::NO_EVENT,
             speed: 0,
             length: 0,
+            place: 0,
         },
     }
 }
@@ -185,10 +186,12 @@ fn run() -> Result<(), String> {
         return Err(format!("never reached: {}", missed.join("; ")));
     }
     println!(
-        "firmware: {} events, {} of slow sessions, {} meters made, {} records checked, all equal; \
+        "firmware: {} events, {} of slow sessions, {} with a place, {} meters made, {} records \
+         checked, all equal; \
          reached all of {}; answers {}",
         reached.events,
         reached.slow,
+        reached.hurt,
         reached.made,
         reached.checks,
         reached::AIMS.len(),

@@ -21,7 +21,7 @@ pub fn play(pair: &mut Pair, seed: u64, events: u64) -> Outcome {
     let chance = &mut Chance::new(seed);
     while pair.reached.events < events {
         let filling = chance.byte();
-        match chance.weighed(&[80, 5, 5, 4, 3, 4, 4, 3, 2, 2, 1]) {
+        match chance.weighed(&[80, 5, 5, 4, 3, 4, 4, 3, 2, 2, 1, 60]) {
             0 => {
                 for character in message(chance, &pair.model) {
                     let damage = u8::from(chance.one_in(400)) << 7;
@@ -55,6 +55,7 @@ pub fn play(pair: &mut Pair, seed: u64, events: u64) -> Outcome {
                 let (kind, value) = no_event(chance);
                 pair.meet(kind, value, chance.one_of(&[0, ROOM]), filling)?;
             }
+            11 => hurt_frame(pair, chance, filling)?,
             _ => {
                 let meter = any_bytes(chance);
                 let kept = std::mem::replace(&mut pair.model, Meter::blank());
@@ -114,6 +115,33 @@ fn message(chance: &mut Chance, meter: &Meter) -> Vec<u8> {
         message[at] = chance.byte() & 0x7F;
     }
     message
+}
+
+/// A frame with a few damaged characters, now and then begun once more before or after them.
+fn hurt_frame(pair: &mut Pair, chance: &mut Chance, filling: u8) -> Outcome {
+    if pair.model.mode < 2 || chance.one_in(8) {
+        let mode = chance.weighed(&[1, 3, 3]) as u8 + 2;
+        pair.put(state(chance, mode));
+    }
+    let message = message(chance, &pair.model);
+    let mut bytes: Vec<u8> = message.iter().map(|&c| with_parity(c)).collect();
+    for _ in 0..chance.one_of(&[1, 1, 2, 3, 8]) {
+        let any = chance.below(bytes.len());
+        let at = chance.one_of(&[1, 2, 3, any]).min(bytes.len() - 1);
+        bytes[at] ^= 1 << chance.below(8);
+    }
+    if chance.one_in(6) {
+        let last = bytes.len() - 1;
+        bytes[last] ^= 1 << chance.below(8);
+    }
+    if chance.one_in(4) {
+        let cut = chance.below(bytes.len());
+        bytes = [&bytes[..cut], &bytes].concat();
+    }
+    for byte in bytes {
+        pair.meet(0, byte.into(), ROOM, filling)?;
+    }
+    Ok(())
 }
 
 /// Seconds, often around the end of a day, a month, a year or the century.
@@ -219,7 +247,7 @@ fn broken(chance: &mut Chance) -> Meter {
         meter = holding(meter, &frame[..frame.len() - 1], true);
     }
     let odd = chance.byte();
-    match chance.below(15) {
+    match chance.below(17) {
         0 => meter.mode = odd,
         1 => meter.attempts = odd,
         2 => meter.count = odd,
@@ -238,6 +266,13 @@ fn broken(chance: &mut Chance) -> Meter {
                 .fold(0, |sum, wh| sum.wrapping_add(*wh))
         }
         13 => meter.speed = chance.one_of(&[5, odd]),
+        14 => meter.place = chance.one_of(&[1, odd, meter.count]),
+        15 if mode != 1 => {
+            // Just one beyond the last held, or just it.
+            let held: &[u8] = if mode == 0 { b"/?\0" } else { b"\x01B\0" };
+            meter = holding(meter, held, true);
+            meter.place = chance.one_of(&[2, 3, 3, odd]);
+        }
         _ => meter.tables[chance.below(24)][chance.below(24)] = odd,
     }
     meter
@@ -249,6 +284,7 @@ fn any_bytes(chance: &mut Chance) -> Meter {
         mode: chance.byte(),
         count: chance.byte(),
         mark: chance.byte(),
+        place: chance.byte(),
         held: [0; PLACES].map(|_| chance.byte()),
         serial: [0; 10].map(|_| chance.byte()),
         account: [0; 10].map(|_| chance.byte()),

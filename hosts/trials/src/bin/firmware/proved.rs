@@ -55,6 +55,7 @@ impl Firmware for Proved {
             number: answer.number,
             speed: answer.speed,
             length: answer.length,
+            place: answer.place,
         }
     }
 

@@ -5,7 +5,7 @@ use model::meter::{data_bits, BLOCK, ROOM};
 use std::collections::{BTreeMap, BTreeSet};
 
 /// What must have happened at least once.
-pub const AIMS: [&str; 90] = [
+pub const AIMS: [&str; 100] = [
     "character: 0",
     "character: 1",
     "character: 2",
@@ -67,6 +67,16 @@ pub const AIMS: [&str; 90] = [
     "damaged character held",
     "damaged BCC",
     "mark cleared by a new start",
+    "place of a damaged BCC",
+    "place of the first of several",
+    "place 1",
+    "place 62",
+    "place 63",
+    "place cleared by a new start",
+    "place beyond what is held",
+    "place just behind what is held",
+    "place without a mark",
+    "half a million events with a place",
     "bad character held",
     "count over its limit",
     "bad clock",
@@ -104,6 +114,8 @@ pub struct Reached {
     pub made: u64,
     pub checks: u64,
     pub slow: u64,
+    /// Events of a session that left damage held, or answered 3.
+    pub hurt: u64,
     numbers: BTreeMap<u8, u64>,
     zones: [bool; 4],
     met: BTreeSet<String>,
@@ -222,6 +234,11 @@ impl Reached {
             meter.mark == 1 && meter.count == 0,
             "mark with nothing held",
         );
+        if meter.mark == 1 && meter.count > 0 {
+            self.when(meter.place > meter.count, "place beyond what is held");
+            self.when(meter.place == meter.count, "place just behind what is held");
+        }
+        self.when(meter.mark == 0 && meter.place > 0, "place without a mark");
         self.when(meter.held[0] > 127, "bad character held");
         self.when(meter.count > 63, "count over its limit");
         self.when(!meter.clock.is_real(), "bad clock");
@@ -267,6 +284,22 @@ impl Reached {
                 self.when(damaged && answer.number == 3, "damaged BCC");
                 let restarted = before.mark == 1 && after.mark == 0 && after.count == 1;
                 self.when(restarted, "mark cleared by a new start");
+                self.when(
+                    restarted && before.place > 0,
+                    "place cleared by a new start",
+                );
+                let hurt = before.mode >= 2 && (after.mark == 1 || answer.number == 3);
+                self.hurt += u64::from(hurt);
+                self.when(self.hurt == 500_000, "half a million events with a place");
+                if answer.number == 3 {
+                    let last = answer.place == before.count;
+                    self.when(last, "place of a damaged BCC");
+                    let zeros = before.held().iter().filter(|&&c| c == 0).count();
+                    self.when(!last && zeros > 1, "place of the first of several");
+                    for place in [1, 62, 63] {
+                        self.when(answer.place == place, &format!("place {place}"));
+                    }
+                }
                 self.when(answer.length == BLOCK, "data block sent");
                 self.when(after.tables != before.tables, "row written");
                 self.when(after.account != before.account, "account written");

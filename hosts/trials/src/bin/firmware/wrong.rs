@@ -35,9 +35,15 @@ pub enum Fault {
     KeepsTheTotal,
     RunsTheTotalOn,
     TickNeedsRoom,
+    PlaceOfTheLast,
+    PlaceFromTheFirstByte,
+    KeepsThePlace,
+    NoPlaceForTheBcc,
+    PlaceWithEveryNumber,
+    TakesAPlaceBehind,
 }
 
-pub const FAULTS: [Fault; 30] = [
+pub const FAULTS: [Fault; 36] = [
     Fault::TakesAMarkOfTwo,
     Fault::MalformedBeforeRoom,
     Fault::RoomBeforeThePulse,
@@ -68,11 +74,20 @@ pub const FAULTS: [Fault; 30] = [
     Fault::KeepsTheTotal,
     Fault::RunsTheTotalOn,
     Fault::TickNeedsRoom,
+    Fault::PlaceOfTheLast,
+    Fault::PlaceFromTheFirstByte,
+    Fault::KeepsThePlace,
+    Fault::NoPlaceForTheBcc,
+    Fault::PlaceWithEveryNumber,
+    Fault::TakesAPlaceBehind,
 ];
 
 pub struct Wrong {
     meter: Meter,
     fault: Option<Fault>,
+    /// Characters received, and how many before the frame at hand began.
+    received: usize,
+    begun: usize,
 }
 
 impl Wrong {
@@ -81,6 +96,8 @@ impl Wrong {
         Wrong {
             meter: Meter::blank(),
             fault: None,
+            received: 0,
+            begun: 0,
         }
     }
 
@@ -88,6 +105,8 @@ impl Wrong {
         Wrong {
             meter: Meter::blank(),
             fault: Some(fault),
+            received: 0,
+            begun: 0,
         }
     }
 
@@ -113,6 +132,7 @@ fn refused(number: u8) -> Answer {
         number,
         speed: 0,
         length: 0,
+        place: 0,
     }
 }
 
@@ -169,6 +189,12 @@ impl Firmware for Wrong {
                 self.meter.mark = 2;
             }
         }
+        if self.fault == Some(Fault::TakesAPlaceBehind) && self.meter.place == self.meter.count {
+            self.meter.place -= u8::from(self.meter.mark == 1);
+            if !self.meter.well_formed() {
+                self.meter = before.clone();
+            }
+        }
         let frame_ends = before.well_formed() && before.held().last() == Some(&ETX);
         let damaged = kind == 0 && data_bits(value as u8).is_none();
         if self.fault == Some(Fault::TakesADamagedBcc) && frame_ends && damaged {
@@ -176,6 +202,11 @@ impl Firmware for Wrong {
             return ruled(&mut self.meter, kind, good, reply);
         }
         let mut answer = ruled(&mut self.meter, kind, value, reply);
+        let restarted = kind == 0 && value as u8 == SOH | 0x80 && self.meter.count == 1;
+        if restarted {
+            self.begun = self.received;
+        }
+        self.received += 1;
         let row = self.meter.tables != before.tables;
         let days = (before.clock.day, self.meter.clock.day);
         let leaps = kind == 2 && self.meter.clock.month == 2 && days == (28, 29);
@@ -195,6 +226,17 @@ impl Firmware for Wrong {
             Some(Fault::KeepsTheMark) if kind == 0 && value as u8 == SOH | 0x80 => {
                 self.meter.mark = u8::from(self.meter.count > 0) & before.mark;
             }
+            Some(Fault::PlaceOfTheLast) if damaged && self.meter.mark == 1 => {
+                self.meter.place = before.count;
+            }
+            Some(Fault::PlaceFromTheFirstByte) if answer.number == 3 => {
+                answer.place = answer.place.wrapping_add(self.begun as u8);
+            }
+            Some(Fault::KeepsThePlace) if restarted => self.meter.place = before.place,
+            Some(Fault::NoPlaceForTheBcc) if frame_ends && damaged && before.mark == 0 => {
+                answer.place = 0;
+            }
+            Some(Fault::PlaceWithEveryNumber) if answer.number < 12 => answer.place = before.place,
             Some(Fault::OnlyAcknowledgesARow) if row => self.meter.tables = before.tables,
             Some(Fault::WritesTheNextRow) if row => self.meter.tables.rotate_right(1),
             Some(Fault::CountsInTheNextHour) if kind == 3 && answer.number == 1 => {

@@ -17,7 +17,7 @@ use trials::memory::Guarded;
 /// A head under trial: the proved one, or a wrong one that the trial must notice.
 trait Head {
     fn build(&self, command: &Command, out: &mut [u8]) -> (u8, usize);
-    fn strip(&self, reply: &[u8], out: &mut [u8]) -> (u8, usize);
+    fn strip(&self, reply: &[u8], out: &mut [u8]) -> (u8, usize, usize);
     fn part(&self, stripped: &[u8]) -> (u8, usize, usize);
     fn next(&self, sets: &[u8], at: usize) -> Step;
     fn set_after(&self, sets: &[u8], count: usize) -> (usize, Step);
@@ -87,12 +87,12 @@ impl<'h> Trial<'h> {
 
     /// One call of the head and one of the model on buffers with the same pattern, another for every
     /// case: answer, length and every byte of the buffer have to be the same.
-    fn lent(
+    fn lent<T: PartialEq + Debug>(
         &mut self,
         call: &str,
         room: usize,
-        head: impl Fn(&dyn Head, &mut [u8]) -> (u8, usize),
-        model: impl Fn(&mut [u8]) -> (u8, usize),
+        head: impl Fn(&dyn Head, &mut [u8]) -> T,
+        model: impl Fn(&mut [u8]) -> T,
         input: impl Fn() -> String,
     ) -> Outcome {
         let first = self.cases as u8;
@@ -401,13 +401,13 @@ fn strips(t: &mut Trial) -> Outcome {
             }
         }
     }
-    for _ in 0..150_000 {
+    for _ in 0..600_000 {
         let longest = if t.chance.one_in(8) { 1_200 } else { 90 };
         let length = t.chance.below(longest);
         let characters: Vec<u8> = (0..length).map(|_| t.chance.byte() & 0x7F).collect();
         let mut reply = model::on_the_wire(&characters);
-        if length > 0 && t.chance.one_in(2) {
-            for _ in 0..t.chance.between(1, 3) {
+        if length > 0 && !t.chance.one_in(4) {
+            for _ in 0..t.chance.between(1, 4) {
                 reply[t.chance.below(length)] ^= 1 << t.chance.below(8);
             }
         }
@@ -746,6 +746,9 @@ enum Fault {
     StripsUpToTheDamage,
     DamageBeforeRoom,
     RefusesEqualRoom,
+    NoPlaceOfDamage,
+    LastPlaceOfDamage,
+    PlaceBeforeRoom,
     PartOneTooLong,
     TakesEtxInside,
     TakesHighBcc,
@@ -765,7 +768,7 @@ enum Fault {
     ZeroCharacters,
 }
 
-const FAULTS: [(Fault, Section); 27] = [
+const FAULTS: [(Fault, Section); 30] = [
     (Fault::WritesBeforeItChecks, commands),
     (Fault::FieldBeforeRoom, commands),
     (Fault::BuildsInRoom63, commands),
@@ -776,6 +779,9 @@ const FAULTS: [(Fault, Section); 27] = [
     (Fault::StripsUpToTheDamage, strips),
     (Fault::DamageBeforeRoom, strips),
     (Fault::RefusesEqualRoom, strips),
+    (Fault::NoPlaceOfDamage, strips),
+    (Fault::LastPlaceOfDamage, strips),
+    (Fault::PlaceBeforeRoom, strips),
     (Fault::PartOneTooLong, parts),
     (Fault::TakesEtxInside, parts),
     (Fault::TakesHighBcc, parts),
@@ -831,23 +837,33 @@ impl Head for Wrong {
         told
     }
 
-    fn strip(&self, reply: &[u8], out: &mut [u8]) -> (u8, usize) {
+    fn strip(&self, reply: &[u8], out: &mut [u8]) -> (u8, usize, usize) {
         let told = model::strip(reply, out);
         match (self.0, told) {
-            (Fault::WritesPastTheReply, (answer::DONE, length)) if out.len() > length => {
+            (Fault::WritesPastTheReply, (answer::DONE, length, _)) if out.len() > length => {
                 out[length] = 0
             }
-            (Fault::StripsUpToTheDamage, (answer::DAMAGED, _)) => {
+            (Fault::StripsUpToTheDamage, (answer::DAMAGED, ..)) => {
                 let good = reply.iter().take_while(|&&byte| model::undamaged(byte));
                 for (place, byte) in good.enumerate() {
                     out[place] = byte & 0x7F;
                 }
             }
             (Fault::DamageBeforeRoom, _) if !reply.iter().all(|&b| model::undamaged(b)) => {
-                return (answer::DAMAGED, 0)
+                let whole = &mut vec![0; reply.len()];
+                return model::strip(reply, whole);
             }
             (Fault::RefusesEqualRoom, _) if out.len() == reply.len() => {
-                return (answer::SHORT_COPY, 0)
+                return (answer::SHORT_COPY, 0, 0)
+            }
+            (Fault::NoPlaceOfDamage, (answer::DAMAGED, ..)) => return (told.0, told.1, 0),
+            (Fault::LastPlaceOfDamage, (answer::DAMAGED, ..)) => {
+                let last = reply.iter().rposition(|&byte| !model::undamaged(byte));
+                return (told.0, told.1, last.unwrap_or(0));
+            }
+            (Fault::PlaceBeforeRoom, (answer::SHORT_COPY, ..)) => {
+                let first = reply.iter().position(|&byte| !model::undamaged(byte));
+                return (told.0, told.1, first.unwrap_or(0));
             }
             _ => (),
         }

@@ -62,7 +62,7 @@ impl Head for Proved {
         }
     }
 
-    fn strip(&self, reply: &[u8], out: &mut [u8]) -> (u8, usize) {
+    fn strip(&self, reply: &[u8], out: &mut [u8]) -> (u8, usize, usize) {
         self.on(reply, |reply| head::strip(reply, out))
     }
 

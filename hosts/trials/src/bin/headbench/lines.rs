@@ -294,9 +294,11 @@ fn strip(chance: &mut Chance) -> String {
         let text: Vec<u8> = (0..length).map(|_| chance.byte() & 0x7F).collect();
         wire = on_the_wire(&text);
     }
-    if chance.percent(30) && !wire.is_empty() {
-        let place = chance.below(wire.len());
-        wire[place] ^= 1 << chance.below(8);
+    if chance.percent(40) && !wire.is_empty() {
+        for _ in 0..chance.one_of(&[1, 1, 2, 5]) {
+            let place = chance.below(wire.len());
+            wire[place] ^= 1 << chance.below(8);
+        }
     }
     format!("strip {} {}", room(chance, wire.len()), hex(&wire))
 }

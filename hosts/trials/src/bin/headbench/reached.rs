@@ -76,6 +76,9 @@ const MORE: &[&str] = &[
     "session in the middle of another",
     "the last message of 32 reads",
     "the last message of 24 lines",
+    "damage at the first byte",
+    "damage at the last byte",
+    "damage at more than one byte",
 ];
 
 #[derive(Default)]
@@ -184,6 +187,7 @@ impl Reached {
         match (&call[..], done) {
             ("build energy", true) if rest[1] == "0" => self.reach("total asked for"),
             ("build table" | "build settable", true) if rest[1] == "24" => self.reach("table 24"),
+            ("strip", false) if told[0] == "24" => self.hurt(rest[1], told[3]),
             ("export", true) if told[1] == "864" => self.reach("24 lines exported"),
             ("find", true) if told[1] != "1" => self.reach("a register found behind others"),
             ("mercury read", true) if told.contains(&"-") => {
@@ -203,6 +207,23 @@ impl Reached {
         let length = words.iter().map(|word| word.len() + 1).sum::<usize>() - 1;
         if length == model::bench::LINE_MOST {
             self.reach("line of the greatest length");
+        }
+    }
+
+    /// A damaged reply, and the place that was told.
+    fn hurt(&mut self, reply: &str, place: &str) {
+        let length = hex_length(reply);
+        let damaged = (0..length).filter(|at| {
+            let byte = u8::from_str_radix(&reply[2 * at..2 * at + 2], 16);
+            byte.expect("it was taken").count_ones() % 2 == 1
+        });
+        if damaged.count() > 1 {
+            self.reach("damage at more than one byte");
+        }
+        match place.parse() {
+            Ok(0) => self.reach("damage at the first byte"),
+            Ok(at) if at + 1 == length => self.reach("damage at the last byte"),
+            _ => {}
         }
     }
 

@@ -327,7 +327,10 @@ impl Aim<'_> {
             held[0] = first;
         }
         let mark = chance.percent(40);
-        let meter = holding(state(chance, mode), &held, mark);
+        let mut meter = holding(state(chance, mode), &held, mark);
+        if mark {
+            meter.place = chance.below(count) as u8;
+        }
         // The BCC that would fit, often.
         let fitting = held[1..].iter().fold(0, |sum, c| sum ^ c);
         self.player.set(&meter);
@@ -351,7 +354,7 @@ impl Aim<'_> {
         let mode = chance.below(5) as u8;
         let mut meter = state(chance, mode);
         for _ in 0..chance.one_of(&[1, 1, 1, 2, 4]) {
-            match chance.below(13) {
+            match chance.below(15) {
                 0 => meter.mode = chance.between(5, 255) as u8,
                 1 => meter.count = chance.byte(),
                 2 => meter.held[chance.below(PLACES)] = chance.byte(),
@@ -364,6 +367,11 @@ impl Aim<'_> {
                 9 => meter.counters[chance.below(4)] = chance.bits() as u32,
                 10 => meter.total = meter.total.wrapping_add(1 + chance.bits() as u32 % 2),
                 11 => meter.speed = chance.one_of(&[1, 2, 3, 4, 5, 5, 6, 255]),
+                12 => meter.place = chance.one_of(&[1, 2, 62, 63, 255]),
+                13 if meter.mode >= 2 => {
+                    meter = holding(meter, b"\x01R\0\x02", true);
+                    meter.place = chance.one_of(&[2, 4, 4, 5, 255]);
+                }
                 _ => meter.tables[chance.below(24)][chance.below(24)] = chance.byte(),
             }
         }

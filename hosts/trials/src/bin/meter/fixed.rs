@@ -26,6 +26,7 @@ struct Shown {
     mode: u8,
     held: &'static str,
     mark: u8,
+    place: u8,
     serial: &'static str,
     account: &'static str,
     password: &'static str,
@@ -42,6 +43,7 @@ const MADE: Shown = Shown {
     mode: 0,
     held: "",
     mark: 0,
+    place: 0,
     serial: "1234567890",
     account: "Kiln_7 old",
     password: "20304050",
@@ -96,7 +98,7 @@ impl Shown {
             .sum();
         let total = sum % 1_000_000_000;
         format!(
-            "{} {count} {} {held} {} {} {} {} {} {} {tables} {} {total}",
+            "{} {count} {} {held} {} {} {} {} {} {} {tables} {} {} {total}",
             self.mode,
             self.mark,
             hex(self.serial.bytes()),
@@ -106,6 +108,7 @@ impl Shown {
             self.clock,
             self.counters,
             self.speed,
+            self.place,
         )
     }
 }
@@ -152,13 +155,21 @@ impl Fixed {
 
     /// Wire bytes in hex: all but the last answered 0 at a speed, the last as told.
     fn wire(mut self, bytes: &str, quiet: u8, number: u8, speed: u8, reply: &str) -> Fixed {
-        let mut answers = vec![format!("0 {quiet} 0 -"); bytes.len() / 2 - 1];
+        let mut answers = vec![format!("0 {quiet} 0 - 0"); bytes.len() / 2 - 1];
         let sent = if reply.is_empty() {
             "-".into()
         } else {
             wire(reply)
         };
-        answers.push(format!("{number} {speed} {} {sent}", reply.len()));
+        answers.push(format!("{number} {speed} {} {sent} 0", reply.len()));
+        self.lines.push((format!("bytes {bytes}"), answers));
+        self
+    }
+
+    /// Wire bytes of a frame at 9600 baud that was damaged first at this place.
+    fn hurt(mut self, bytes: &str, place: usize) -> Fixed {
+        let mut answers = vec!["0 5 0 - 0".to_string(); bytes.len() / 2 - 1];
+        answers.push(format!("3 5 1 95 {place}"));
         self.lines.push((format!("bytes {bytes}"), answers));
         self
     }
@@ -265,10 +276,10 @@ fn by_hand() -> Fixed {
     let row = "b1".repeat(24);
     let tables = "31".repeat(576);
     let write = format!("bytes 81d7b1825a2830b1bb{row}a90306");
-    let taken = "0 5 0 -\n".repeat(35) + "1 5 1 06";
+    let taken = "0 5 0 - 0\n".repeat(35) + "1 5 1 06 0";
     let state = format!(
         "4 0 0 {} 31323334353637383930 4b696c6e5f37206f6c64 3230333034303530 0 2024 2 29 8 5 9 \
-         0 0 0 0 {tables} 5 0",
+         0 0 0 0 {tables} 5 0 0",
         "00".repeat(63)
     );
     Fixed::empty("a session byte by byte")
@@ -278,24 +289,24 @@ fn by_hand() -> Fixed {
         )
         .line(
             "bytes af3f218d0a",
-            "0 0 0 -\n0 0 0 -\n0 0 0 -\n0 0 0 -\n1 0 19 af5a5a5a355355422d565030b12e3030aa8d0a",
+            "0 0 0 - 0\n0 0 0 - 0\n0 0 0 - 0\n0 0 0 - 0\n1 0 19 af5a5a5a355355422d565030b12e3030aa8d0a 0",
         )
         .line(
             "bytes 063035b18d0a",
-            "0 0 0 -\n0 0 0 -\n0 0 0 -\n0 0 0 -\n0 0 0 -\n1 5 12 815030822830303030a90360",
+            "0 0 0 - 0\n0 0 0 - 0\n0 0 0 - 0\n0 0 0 - 0\n0 0 0 - 0\n1 5 12 815030822830303030a90360 0",
         )
         .line(
             "bytes 8150b18228b2303330b4303530a903",
-            &"0 5 0 -\n".repeat(15),
+            &"0 5 0 - 0\n".repeat(15),
         )
-        .line("byte e1", "1 5 1 06")
+        .line("byte e1", "1 5 1 06 0")
         .line(&write, &taken)
         .line("dump", &state)
         .line(
             "bytes 8142300371",
-            "0 5 0 -\n0 5 0 -\n0 5 0 -\n0 5 0 -\n1 5 1 06",
+            "0 5 0 - 0\n0 5 0 - 0\n0 5 0 - 0\n0 5 0 - 0\n1 5 1 06 0",
         )
-        .line("byte 00", "0 0 0 -")
+        .line("byte 00", "0 0 0 - 0")
 }
 
 fn last_line_without_lf() -> Played {
@@ -339,7 +350,7 @@ fn facts() -> Vec<Fixed> {
             }),
         Fixed::asked("BCC of P1 () is 61, on the wire e1")
             .quiet("\x01P1\x02()\x03", 5)
-            .line("byte e1", "1 5 1 06")
+            .line("byte e1", "1 5 1 06 0")
             .dump(Shown {
                 mode: 3,
                 speed: 5,
@@ -436,7 +447,7 @@ fn signing_on() -> Vec<Fixed> {
         Fixed::listening("sign-on in three ways")
             .send("/?123 4567890!\r\n", 0, 1, 0, IDENTIFICATION)
             .dump(confirming)
-            .line("silence", "1 0 1 95")
+            .line("silence", "1 0 1 95 0")
             .send("/?000 0000000!\r\n", 0, 1, 0, IDENTIFICATION)
             .line("up", "1 0")
             .send("/?!\r\n", 0, 1, 0, IDENTIFICATION)
@@ -463,6 +474,7 @@ fn signing_on() -> Vec<Fixed> {
             .dump(Shown {
                 held: "/\0",
                 mark: 1,
+                place: 1,
                 ..MADE
             })
             .sign_on(),
@@ -486,12 +498,14 @@ fn signing_on() -> Vec<Fixed> {
             .dump(Shown {
                 held: "/?!\r\0",
                 mark: 1,
+                place: 4,
                 ..MADE
             })
             .quiet_wire("2f", 0)
             .dump(Shown {
                 held: "/?!\r\0\0",
                 mark: 1,
+                place: 4,
                 ..MADE
             }),
         Fixed::listening("a good NUL is held without the mark")
@@ -593,20 +607,49 @@ fn frames() -> Vec<Fixed> {
             .dump(Shown {
                 held: "\x01\0",
                 mark: 1,
+                place: 1,
                 ..PROGRAMMING
             })
             .frame(BYE, 1, ACK)
             .dump(MADE),
         Fixed::programming("one bad character spoils one frame")
-            .wire("8142b00371", 5, 3, 5, NAK)
+            .hurt("8142b00371", 2)
             .dump(PROGRAMMING)
             .frame(BYE, 1, ACK),
         Fixed::programming("a damaged BCC gives 3")
-            .wire("81423003f1", 5, 3, 5, NAK)
+            .hurt("81423003f1", 4)
             .dump(PROGRAMMING)
             // Also one that would be SOH or ETX.
-            .wire("8142300301", 5, 3, 5, NAK)
-            .wire("8142300383", 5, 3, 5, NAK)
+            .hurt("8142300301", 4)
+            .hurt("8142300383", 4)
+            .dump(PROGRAMMING),
+        Fixed::programming("the first of several, and not the last")
+            .hurt("81c2b00371", 1)
+            .hurt("8142b003f1", 2)
+            .hurt("81c2b003f1", 1)
+            .dump(PROGRAMMING),
+        Fixed::programming("a restart forgets the place, and counts anew")
+            .quiet_wire("8142b0b0", 5)
+            .dump(Shown {
+                held: "\x01B\0\0",
+                mark: 1,
+                place: 2,
+                ..PROGRAMMING
+            })
+            .quiet_wire("81", 5)
+            .dump(Shown {
+                held: "\x01",
+                ..PROGRAMMING
+            })
+            .hurt("42300331", 4)
+            .quiet_wire("81c242", 5)
+            .hurt("8142b00371", 2)
+            .quiet_wire("81c2", 5)
+            .frame(BYE, 1, ACK)
+            .dump(MADE),
+        Fixed::programming("a frame too long has no place")
+            .quiet_wire(&("8101".to_string() + &"f8".repeat(61)), 5)
+            .send("x", 5, 5, 5, NAK)
             .dump(PROGRAMMING),
         Fixed::programming("a wrong BCC that is SOH is used up")
             .frame("\x01B0\x03\x01", 4, NAK)
@@ -620,11 +663,12 @@ fn frames() -> Vec<Fixed> {
             .dump(Shown {
                 held: "\x01B0\0\0",
                 mark: 1,
+                place: 3,
                 ..PROGRAMMING
             }),
         Fixed::reading("order of deciding: 3, 4, 6, 7, 8, 9")
             // Marked, wrong BCC, no shape.
-            .wire("81010300", 5, 3, 5, NAK)
+            .hurt("81010300", 1)
             .frame("\x01\x02\x03\x00", 4, NAK)
             .frame("\x01\x03\x03", 6, NAK)
             .frame("\x01R1T()\x03\x35", 6, NAK)
@@ -682,13 +726,7 @@ fn frames() -> Vec<Fixed> {
             .dump(PROGRAMMING),
         Fixed::programming("a damaged 64th is too long, or the BCC")
             .wire(&format!("{}80", wire(&format!("\x01{x62}"))), 5, 5, 5, NAK)
-            .wire(
-                &format!("{}80", wire(&format!("\x01{x61}\x03"))),
-                5,
-                3,
-                5,
-                NAK,
-            )
+            .hurt(&format!("{}80", wire(&format!("\x01{x61}\x03"))), 63)
             .dump(PROGRAMMING),
         Fixed::programming("a 64th while marked is too long")
             .wire(&format!("8180{}", wire(&x62)), 5, 5, 5, NAK)
@@ -755,7 +793,7 @@ fn passwords() -> Vec<Fixed> {
                 speed: 5,
                 ..failed(1)
             })
-            .line("silence", "1 0 0 -")
+            .line("silence", "1 0 0 - 0")
             .dump(failed(1)),
     ]
 }
@@ -886,24 +924,24 @@ fn events() -> Vec<Fixed> {
         ticks,
         Fixed::listening("silence in every mode")
             .quiet("/?", 0)
-            .line("silence", "0 0 0 -")
+            .line("silence", "0 0 0 - 0")
             .dump(MADE)
             .sign_on()
             .quiet("\x0605", 0)
-            .line("silence", "1 0 1 95")
+            .line("silence", "1 0 1 95 0")
             .dump(MADE)
             .ask()
             .quiet("\x01P", 5)
-            .line("silence", "1 0 0 -")
+            .line("silence", "1 0 0 - 0")
             .dump(MADE)
             .ask()
             .frame(NO_PASSWORD, 1, ACK)
-            .line("silence", "1 0 0 -")
+            .line("silence", "1 0 0 - 0")
             .dump(MADE)
             .ask()
             .frame(RIGHT, 1, ACK)
             .quiet("\x01W1", 5)
-            .line("silence", "1 0 0 -")
+            .line("silence", "1 0 0 - 0")
             .dump(MADE),
         Fixed::asked("power-up in a session")
             .frame(WRONG, 10, NAK)
@@ -972,19 +1010,19 @@ fn events() -> Vec<Fixed> {
                 ..MADE
             }),
         Fixed::listening("a reply buffer under 2,048 takes no character")
-            .line("byte af 2047", "12 0 0 -")
-            .line("byte af 0", "12 0 0 -")
-            .line("silence 2047", "12 0 0 -")
+            .line("byte af 2047", "12 0 0 - 0")
+            .line("byte af 0", "12 0 0 - 0")
+            .line("silence 2047", "12 0 0 - 0")
             .dump(MADE)
-            .line("byte af 2048", "0 0 0 -")
+            .line("byte af 2048", "0 0 0 - 0")
             .quiet("?!\r", 0)
             .line(
                 "byte 0a 8192",
-                "1 0 19 af5a5a5a355355422d565030b12e3030aa8d0a",
+                "1 0 19 af5a5a5a355355422d565030b12e3030aa8d0a 0",
             )
-            .line("silence 1", "12 0 0 -")
+            .line("silence 1", "12 0 0 - 0")
             .dump(Shown { mode: 1, ..MADE })
-            .line("silence 2049", "1 0 1 95"),
+            .line("silence 2049", "1 0 1 95 0"),
     ]
 }
 
@@ -995,10 +1033,10 @@ fn states() -> Vec<Fixed> {
     };
     vec![
         Fixed::empty("a malformed state is kept by every call")
-            .kept(broken, "byte 81", "14 0 0 -")
-            .kept(broken, "byte 81 2047", "12 0 0 -")
-            .kept(broken, "silence", "14 0 0 -")
-            .kept(broken, "silence 0", "12 0 0 -")
+            .kept(broken, "byte 81", "14 0 0 - 0")
+            .kept(broken, "byte 81 2047", "12 0 0 - 0")
+            .kept(broken, "silence", "14 0 0 - 0")
+            .kept(broken, "silence 0", "12 0 0 - 0")
             .kept(broken, "tick", "14 0")
             .kept(broken, "up", "14 0")
             .kept(broken, "pulse 1000000", "14 0")
@@ -1049,7 +1087,14 @@ fn states() -> Vec<Fixed> {
                 mark: 1,
                 ..PROGRAMMING
             })
-            .send("\x71", 5, 3, 5, NAK)
+            .hurt("71", 0)
+            .set(Shown {
+                held: "\x01B0\x03",
+                mark: 1,
+                place: 3,
+                ..PROGRAMMING
+            })
+            .hurt("71", 3)
             .dump(PROGRAMMING)
             .set(Shown {
                 mode: 1,
@@ -1122,7 +1167,14 @@ fn script_rules() -> Vec<Fixed> {
             .line(&format!("set {shown} 31"), "error")
             .line(&format!("set {shown}4294967296"), "error")
             .line(&format!("set {}256 0", &shown[..shown.len() - 2]), "error")
-            .line(&format!("set {}31 0 0", &shown[..shown.len() - 4]), "error")
+            .line(
+                &format!("set {}256 0 0", &shown[..shown.len() - 4]),
+                "error",
+            )
+            .line(
+                &format!("set {}31 0 0 0", &shown[..shown.len() - 6]),
+                "error",
+            )
             .line(&format!("set {} 0", &shown[..shown.len() - 4]), "error")
             .line(&format!("set 256{}", &shown[1..]), "error")
             .line(&format!("set 0 0 256{}", &shown[5..]), "error")
@@ -1131,8 +1183,8 @@ fn script_rules() -> Vec<Fixed> {
             .line("tick", "14 0"),
         Fixed::listening("a mark is any number of 8 bits, and well-formed as 0 and 1")
             .line(&format!("set 0 0 2{}", &shown[5..]), "ok")
-            .line("byte af", "14 0 0 -")
-            .line("silence", "14 0 0 -")
+            .line("byte af", "14 0 0 - 0")
+            .line("silence", "14 0 0 - 0")
             .line("up", "14 0")
             .dump(Shown { mark: 2, ..MADE })
             .line(&format!("set 0 0 255{}", &shown[5..]), "ok")
@@ -1142,7 +1194,7 @@ fn script_rules() -> Vec<Fixed> {
             .line("bytes -", "")
             .line("tick", "1 0")
             .line("pulse 0000000007", "1 0")
-            .line("byte 00 0002048", "0 0 0 -")
+            .line("byte 00 0002048", "0 0 0 - 0")
             .dump(Shown {
                 clock: "2024 2 29 8 5 10",
                 counters: "7 0 0 0",

@@ -42,7 +42,11 @@ const AIMS: &[&str] = &[
     "'/' or SOH first in mode 1",
     // Modes 2 to 4.
     "SOH clears the mark",
+    "SOH clears a place",
     "damaged BCC",
+    "3 with the place of the BCC",
+    "3 with a place before the BCC",
+    "3 with the first place of several",
     "NUL held without the mark",
     "damaged character dropped, mode 0",
     "damaged character dropped, modes 2 to 4",
@@ -145,6 +149,8 @@ const RANGES: &[&str] = &[
     "unused place",
     "mark of an empty receiver",
     "mark",
+    "place with the mark",
+    "place without the mark",
     "first of mode 0",
     "first of mode 2",
     "first of mode 3",
@@ -273,6 +279,9 @@ impl Reached {
             return self.malformed(&broken, kind, answer.number);
         }
         self.kinds[kind][usize::from(before.mode)] += 1;
+        if answer.number == 3 {
+            self.hurt(before, answer.place);
+        }
         if answer.number == 12 || answer.number == 13 {
             return;
         }
@@ -289,6 +298,18 @@ impl Reached {
                 }
             }
             Event::Pulse { wh } => self.pulse(before, wh, after),
+        }
+    }
+
+    /// A frame that was answered 3.
+    fn hurt(&mut self, before: &Meter, place: u8) {
+        if place == before.count {
+            return self.reach("3 with the place of the BCC");
+        }
+        self.reach("3 with a place before the BCC");
+        let behind = &before.held()[usize::from(place) + 1..];
+        if before.held()[usize::from(place)] == 0 && behind.contains(&0) {
+            self.reach("3 with the first place of several");
         }
     }
 
@@ -447,6 +468,9 @@ impl Reached {
         }
         if got == Some(SOH) && before.mark == 1 {
             self.reach("SOH clears the mark");
+            if before.place > 0 {
+                self.reach("SOH clears a place");
+            }
         }
         if count == 63 {
             self.reach(match got {
@@ -744,6 +768,12 @@ fn broken_ranges(meter: &Meter) -> Vec<&'static str> {
         "mark of an empty receiver",
     );
     must(meter.mark < 2, "mark");
+    let marked = meter.mark == 1 && !held.is_empty();
+    must(!marked || meter.place < meter.count, "place with the mark");
+    must(
+        meter.mark != 0 || meter.place == 0,
+        "place without the mark",
+    );
     if let Some(&first) = held.first() {
         match meter.mode {
             0 => must(first == b'/', "first of mode 0"),
