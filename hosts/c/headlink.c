@@ -608,7 +608,7 @@ static void try_counter(const char *text, size_t size, int good, uint32_t value)
 }
 
 static void try_numbers(void) {
-    char text[32];
+    char text[64];
     static const int years[] = {0, 1, 4, 23, 24, 96, 99};
     for (size_t y = 0; y < COUNT(years); y++) {
         for (int m = 0; m <= 13; m++) {
