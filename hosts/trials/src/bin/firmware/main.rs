@@ -19,7 +19,7 @@ use trials::record::record_of;
 use wrong::{Wrong, FAULTS};
 
 const SEED: u64 = 1;
-const EVENTS: u64 = 2_500_000;
+const EVENTS: u64 = 3_000_000;
 /// The events that a wrong meter may pass at most before it is found out.
 const PATIENCE: u64 = 400_000;
 
@@ -148,7 +148,7 @@ fn trial(firmware: &mut dyn Firmware, seed: u64, events: u64) -> Result<Reached,
     let mut pair = Pair {
         firmware,
         model: Meter::blank(),
-        replies: Guarded::new(4_096),
+        replies: Guarded::new(8_192),
         reached: Reached::default(),
     };
     pair.put(Meter::blank());
@@ -185,10 +185,14 @@ fn run() -> Result<(), String> {
         return Err(format!("never reached: {}", missed.join("; ")));
     }
     println!(
-        "firmware: {} events, {} of slow sessions, {} meters made, {} records checked, all equal; \
-         reached all of {}; answers {}",
+        "firmware: {} events, {} of slow sessions, {} cases of closed months ({} periods closed, {} \
+         blocks with periods), {} meters made, {} records checked, all equal; reached all of {}; \
+         answers {}",
         reached.events,
         reached.slow,
+        reached.months,
+        reached.closed,
+        reached.blocks,
         reached.made,
         reached.checks,
         reached::AIMS.len(),
