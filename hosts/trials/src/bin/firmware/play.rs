@@ -126,10 +126,14 @@ fn months(pair: &mut Pair, chance: &mut Chance, filling: u8) -> Outcome {
     if chance.percent(10) {
         close_some(chance, &mut meter);
     }
-    meter.clock = midnight(chance);
     pair.put(meter);
-    for _ in 0..chance.between(1, 3) {
-        pair.meet(2, chance.bits() as u32, 0, filling)?;
+    for _ in 0..chance.between(1, 12) {
+        let mut meter = pair.model.clone();
+        meter.clock = midnight(chance);
+        pair.put(meter);
+        for _ in 0..chance.one_of(&[1, 1, 1, 2, 3]) {
+            pair.meet(2, chance.bits() as u32, 0, filling)?;
+        }
     }
     match chance.below(64) {
         0..=7 => {
