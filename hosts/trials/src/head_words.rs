@@ -72,30 +72,32 @@ impl Chance {
         }
     }
 
+    /// Registers, some with closed periods.
     pub fn registers(&mut self) -> Registers {
+        let any = self.below(13);
+        let count = self.one_of(&[0, 0, 0, 1, any, 12]);
+        self.registers_closed(count)
+    }
+
+    /// Registers with so many closed periods.
+    pub fn registers_closed(&mut self, count: usize) -> Registers {
         Registers {
             serial: self.texts(DIGITS),
             account: self.texts(ACCOUNT),
             clock: self.real_clock(),
             counters: std::array::from_fn(|_| self.counter()),
             tables: std::array::from_fn(|_| self.texts(ZONES)),
-            periods: Vec::new(),
+            periods: (0..count).map(|_| self.period()).collect(),
         }
     }
 
-    /// The same with so many closed periods.
-    pub fn registers_closed(&mut self, count: usize) -> Registers {
-        let periods = (0..count).map(|_| Period {
+    fn period(&mut self) -> Period {
+        Period {
             closed: Clock {
                 second: 0,
                 ..self.real_clock()
             },
             counters: std::array::from_fn(|_| self.counter()),
-        });
-        let periods = periods.collect();
-        Registers {
-            periods,
-            ..self.registers()
         }
     }
 
