@@ -257,7 +257,7 @@ mod tests {
     #[test]
     fn reads_sets_as_the_model_does() {
         let data = registers().data();
-        assert_eq!(read_all(&data), (answer::END, 33, data.len() - 3));
+        assert_eq!(read_all(&data), (answer::END, 38, data.len() - 3));
         for at in (0..data.len() + 3).chain([usize::MAX]) {
             same_next(&data, at);
         }
