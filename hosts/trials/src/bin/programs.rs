@@ -480,7 +480,7 @@ fn held(case: &Case) -> Result<(), String> {
 
 /// The programs as a shell starts them: command, exit status, whether something stands on standard
 /// error, and what is reached.
-const STARTED: [(&str, i32, bool, &str); 23] = [
+const STARTED: [(&str, i32, bool, &str); 24] = [
     ("./export-post examples/winter.post", 0, false, "status 0"),
     ("./export-post <examples/winter.post", 0, false, "status 0"),
     ("./export-post examples/crafted.post", 1, false, "status 1"),
@@ -522,6 +522,12 @@ const STARTED: [(&str, i32, bool, &str); 23] = [
     ),
     (
         "[ \"$(hosts/tool readout 15.8.0 <crates/readout/stdin)\" = '15.8.0 123458.288*kWh' ]",
+        0,
+        false,
+        "status 0",
+    ),
+    (
+        "[ \"$(hosts/tool readout '0.1.2*02' <crates/readout/stdin)\" = '0.1.2*02 24-01-15 17:42' ]",
         0,
         false,
         "status 0",
