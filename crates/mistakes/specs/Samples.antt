@@ -6,6 +6,7 @@ use Rattle.text.specs.Decimal.{decimal}
 use Rattle.text.specs.Writing.{stored}
 use Rattle.values.specs.Edition.{rowLength}
 use Rattle.clock.specs.declared.Clock.{Clock}
+use Rattle.clock.specs.declared.Stamp.{Stamp}
 use Rattle.clock.specs.Seconds.{dateOf, timeOf}
 use Rattle.state.specs.declared.Registers.{Registers}
 use Rattle.state.specs.declared.Meter.{Meter}
@@ -14,6 +15,9 @@ use Rattle.state.specs.Setting.{withHeld, withReceiver, withCounters, withTable
 
 abbrev pub clockAt : ℕ → ℕ → ℕ → ℕ → ℕ → ℕ → Clock
 clockAt y m d h n s = record { date = dateOf y m d; time = timeOf h n s }
+
+abbrev pub stampAt : ℕ → ℕ → ℕ → ℕ → ℕ → Stamp
+stampAt y m d h n = record { date = dateOf y m d; hour = h; minute = n }
 
 -- 2000-01-01 12:00:00, a Saturday
 abbrev pub noon : Clock
