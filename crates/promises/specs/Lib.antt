@@ -1,2 +1,3 @@
 pub mod Writes
 pub mod Adding
+pub mod Months
