@@ -46,6 +46,7 @@ module _ (m : Meter) (b : ℕ) where
   placed o place (clock c w i r n e) = clock c w i r n e
   placed o place (account w r n e) = account w r n e
   placed o place (table t w i g r n e) = table t w i g r n e
+  placed o place (closed w n e) = closed w n e
 
   -- the verdict on the frame that this byte completes
   abbrev decision : Verdict
