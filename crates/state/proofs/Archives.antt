@@ -1,11 +1,12 @@
 -- The archive: what is said of its periods one by one, and what one more period makes of it. Assumes nothing.
 use mathlib.Core.Path.{_≡_, refl, sym, ap, _∙_}
-use mathlib.Core.Bool.{Bool, true, false, cond, _&&_, and-true}
+use mathlib.Core.Bool.{Bool, true, false, cond, _&&_}
 use mathlib.Core.List.{List, [], _∷_, _++_}
 use Prim.Native.Nat.{ℕ, zero, suc, _+_, _-_, _<_, _≤_}
 use native.Mathlib.Omega.{arith}
+use native.Mathlib.Nat.{add-zero, zero-add}
 use native.Mathlib.Numerals.{add-one}
-use borrow.Author.Tests.{leb-true, eqb-true, ltb-true, ltb-false}
+use borrow.Author.Tests.{leb-true, eqb-true, ltb-true, ltb-false, lt-ltb, le-ltb}
 use lib.Dec.{eqb, leb, ltb}
 use lib.ListN.{length, getD, take, drop, replicate, drop-of-length-le}
 use lib.Seq.{drop-cons, length-take-le, take-all, take-take}
@@ -15,7 +16,7 @@ use Rattle.clock.specs.Seconds.{dateOf}
 use Rattle.state.specs.declared.Period.{Period}
 use Rattle.state.specs.declared.Archive.{Archive}
 use Rattle.state.specs.Sizes.{periodPlaces}
-use Rattle.state.specs.WellFormed.{below, zonesBelow, noTime, periodGood, unused, everyPeriod, archiveGood}
+use Rattle.state.specs.WellFormed.{below, zonesBelow, noTime, periodGood, unused, everyPeriod, placeGood, placesGood, archiveGood}
 use Rattle.state.specs.Making.{noPeriod}
 use Rattle.state.specs.Closing.{periodsOf, closedWith, oneMore}
 
@@ -23,16 +24,68 @@ use Rattle.state.specs.Closing.{periodsOf, closedWith, oneMore}
 pub period-next : (i : ℕ) (s : List Period) (d : Period) → i < length s → drop i s ≡ getD s i d ∷ drop (i + 1) s
 period-next i s d h = rw add-one (drop-cons s i d h)
 
--- a flag that every period passed so far, with what is left, says it of the whole
-module _ (p : Period → Bool) (s : List Period) (i : ℕ) (ok whole : Bool) where
-  pub periods-turn : (d : Period) → i < length s → (ok && everyPeriod p (drop i s)) ≡ whole
-      → ((ok && p (getD s i d)) && everyPeriod p (drop (i + 1) s)) ≡ whole
-  unfolding everyPeriod
-  periods-turn d h e = and-assoc ok (p (getD s i d)) (everyPeriod p (drop (i + 1) s)) ∙ (rw (period-next i s d h) at e)
+-- places behind places
+pub places-append : (i count : ℕ) (ps qs : List Period) → placesGood i count (ps ++ qs) ≡ (placesGood i count ps && placesGood (i + length ps) count qs)
+unfolding placesGood
+places-append i count [] qs = ap (λ (k : ℕ). placesGood k count qs) (sym (add-zero i))
+places-append i count (p ∷ ps) qs =
+    ap (λ (b : Bool). placeGood (ltb i count) p && b)
+    (places-append (i + 1) count ps qs ∙ ap (λ (k : ℕ). placesGood (i + 1) count ps && placesGood k count qs) (along i (length ps)))
+    ∙ sym (and-assoc (placeGood (ltb i count) p) (placesGood (i + 1) count ps) (placesGood (i + length (p ∷ ps)) count qs))
+  where
+    along : (j n : ℕ) → j + 1 + n ≡ j + suc n
+    along j n = omega arith
 
-  pub periods-end : length s ≤ i → (ok && everyPeriod p (drop i s)) ≡ whole → ok ≡ whole
-  unfolding everyPeriod
-  periods-end h e = sym (and-true ok) ∙ (rw (drop-of-length-le s h) at e)
+-- so many kept, and then unused ones
+all-unused : (i count : ℕ) (ps : List Period) → count ≤ i → placesGood i count ps ≡ everyPeriod unused ps
+unfolding placesGood everyPeriod placeGood
+all-unused i count [] h = refl
+all-unused i count (p ∷ ps) h = rw (le-ltb i count h, all-unused (i + 1) count ps (omega (arith, h)))
+
+pub places-all : (n i count : ℕ) (ps : List Period) → count ≡ i + n
+    → placesGood i count ps ≡ (everyPeriod periodGood (take n ps) && everyPeriod unused (drop n ps))
+unfolding placesGood everyPeriod placeGood
+places-all zero i count ps e = all-unused i count ps (omega (arith, e))
+places-all (suc n) i count [] e = refl
+places-all (suc n) i count (p ∷ ps) e =
+    rw (lt-ltb i count (omega (arith, e)), places-all n (i + 1) count ps (omega (arith, e)))
+    (sym (and-assoc (periodGood p) (everyPeriod periodGood (take n ps)) (everyPeriod unused (drop n ps))))
+
+one-by-one : (q : List Period) (d : Period) → length q ≡ periodPlaces
+    → getD q 0 d ∷ getD q 1 d ∷ getD q 2 d ∷ getD q 3 d ∷ getD q 4 d ∷ getD q 5 d ∷ getD q 6 d ∷ getD q 7 d ∷ getD q 8 d ∷ getD q 9 d ∷ getD q 10 d ∷ getD q 11 d ∷ []
+    ≡ drop 0 q
+one-by-one q d n =
+    let end : length q ≤ 12 = omega arith in
+    rw (
+      period-next 0 q d (omega arith),
+      period-next 1 q d (omega arith),
+      period-next 2 q d (omega arith),
+      period-next 3 q d (omega arith),
+      period-next 4 q d (omega arith),
+      period-next 5 q d (omega arith),
+      period-next 6 q d (omega arith),
+      period-next 7 q d (omega arith),
+      period-next 8 q d (omega arith),
+      period-next 9 q d (omega arith),
+      period-next 10 q d (omega arith),
+      period-next 11 q d (omega arith),
+      drop-of-length-le q end,
+    )
+
+-- all twelve, told in fours
+pub twelve-good : (q : List Period) (d : Period) (count : ℕ) → length q ≡ periodPlaces
+    → (placesGood 0 count (getD q 0 d ∷ getD q 1 d ∷ getD q 2 d ∷ getD q 3 d ∷ [])
+    && (placesGood 4 count (getD q 4 d ∷ getD q 5 d ∷ getD q 6 d ∷ getD q 7 d ∷ [])
+    && placesGood 8 count (getD q 8 d ∷ getD q 9 d ∷ getD q 10 d ∷ getD q 11 d ∷ [])))
+    ≡ (everyPeriod periodGood (take count q) && everyPeriod unused (drop count q))
+twelve-good q d count n =
+    let first = getD q 0 d ∷ getD q 1 d ∷ getD q 2 d ∷ getD q 3 d ∷ [] in
+    let second = getD q 4 d ∷ getD q 5 d ∷ getD q 6 d ∷ getD q 7 d ∷ [] in
+    let third = getD q 8 d ∷ getD q 9 d ∷ getD q 10 d ∷ getD q 11 d ∷ [] in
+    ap (λ (b : Bool). placesGood 0 count first && b) (sym (places-append 4 count second third))
+    ∙ sym (places-append 0 count first (second ++ third))
+    ∙ ap (placesGood 0 count) (one-by-one q d n)
+    ∙ places-all count 0 count q (sym (zero-add count))
 
 -- an archive taken apart
 pub record FormedArchive (a : Archive) : Type 0 where
@@ -131,20 +184,7 @@ more c ps l h = go (ltb c periodPlaces) refl
 pub first-eleven : (q : List Period) (d : Period) → length q ≡ periodPlaces
     → getD q 0 d ∷ getD q 1 d ∷ getD q 2 d ∷ getD q 3 d ∷ getD q 4 d ∷ getD q 5 d ∷ getD q 6 d ∷ getD q 7 d ∷ getD q 8 d ∷ getD q 9 d ∷ getD q 10 d ∷ []
     ≡ take 11 (drop 0 q)
-first-eleven q d n =
-    rw (
-      period-next 0 q d (omega arith),
-      period-next 1 q d (omega arith),
-      period-next 2 q d (omega arith),
-      period-next 3 q d (omega arith),
-      period-next 4 q d (omega arith),
-      period-next 5 q d (omega arith),
-      period-next 6 q d (omega arith),
-      period-next 7 q d (omega arith),
-      period-next 8 q d (omega arith),
-      period-next 9 q d (omega arith),
-      period-next 10 q d (omega arith),
-    )
+first-eleven q d n = ap (take 11) (one-by-one q d n)
 
 abbrev archiveFrom : List Period → ℕ → Archive
 archiveFrom ps count = record { periods = ps; count = count }

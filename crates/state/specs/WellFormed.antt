@@ -86,6 +86,14 @@ unfoldable pub everyPeriod : (Period → Bool) → List Period → Bool
 everyPeriod p [] = true
 everyPeriod p (x ∷ xs) = p x && everyPeriod p xs
 
+-- places from the i-th on: a period where it is one of the first so many, else nothing
+unfoldable pub placeGood : Bool → Period → Bool
+placeGood used p = cond used (periodGood p) (unused p)
+
+unfoldable pub placesGood : ℕ → ℕ → List Period → Bool
+placesGood i count [] = true
+placesGood i count (p ∷ ps) = placeGood (ltb i count) p && placesGood (i + 1) count ps
+
 -- 0 to 12 periods are kept, the others of the twelve places are unused
 unfoldable pub archiveGood : Archive → Bool
 archiveGood a =
