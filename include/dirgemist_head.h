@@ -51,11 +51,14 @@ extern "C" {
 /* The sign-on to any meter: `/?!` CR LF. */
 uint8_t dirgemist_head_sign_on(uint8_t *out, size_t out_length, size_t *length);
 
+/* The sign-on `/C!` CR LF: the meter closes a period and answers as to `/?!`. */
+uint8_t dirgemist_head_close(uint8_t *out, size_t out_length, size_t *length);
+
 /* The sign-on to the meter of a serial: `/?nnn nnnnnnn!` CR LF. The serial is ten digits, '0' to '9'. */
 uint8_t dirgemist_head_sign_on_to(const uint8_t *serial, size_t serial_length, uint8_t *out, size_t out_length, size_t *length);
 
 /* The confirmation: ACK `0` speed choice CR LF. The speed is the character '0' (300 baud) or '5' (9600), the choice '0' or '7' for the data
- * block, '1' for a session. */
+ * block, '6' for the data block with the closed periods, '1' for a session. */
 uint8_t dirgemist_head_confirm(uint8_t speed, uint8_t choice, uint8_t *out, size_t out_length, size_t *length);
 
 /* P1 `()`: a session that only reads. */
@@ -107,8 +110,8 @@ uint8_t dirgemist_head_strip(const uint8_t *reply, size_t reply_length, uint8_t 
  * A refusal gives *start and *length 0. */
 uint8_t dirgemist_head_part(const uint8_t *stripped, size_t stripped_length, size_t *start, size_t *length);
 
-/* Reads the data set that starts at place at of the sets_length bytes at sets: an address of 1 to 16 letters, digits or '.', '(', a
- * value of 0 to 32 printable characters without `()/!`, ')' CR LF. Returns
+/* Reads the data set that starts at place at of the sets_length bytes at sets: an address of 1 to 16 letters, digits, '.' or '*',
+ * '(', a value of 0 to 32 printable characters without `()/!`, ')' CR LF. Returns
  *   DIRGEMIST_HEAD_DONE       the address is the *address_length bytes from at on, the value the *value_length bytes behind its '(', and
  *                             *next the place behind the set; *place is 0;
  *   DIRGEMIST_HEAD_END        `!` CR LF stands at at, or at is the end of the data or past it; *next is at and *place is 0;
@@ -150,6 +153,9 @@ uint8_t dirgemist_head_value_date(const uint8_t *value, size_t length, uint16_t 
 
 /* `hh:nn:ss`: a time of day. */
 uint8_t dirgemist_head_value_time(const uint8_t *value, size_t length, uint8_t *hour, uint8_t *minute, uint8_t *second);
+
+/* `yy-mm-dd hh:nn`: when a period was closed, a real date of 20yy with hour and minute. */
+uint8_t dirgemist_head_value_period(const uint8_t *value, size_t length, uint16_t *year, uint8_t *month, uint8_t *day, uint8_t *hour, uint8_t *minute);
 
 /* `eeeeee.eee*kWh`: a counter's Wh, 0 to 999,999,999. */
 uint8_t dirgemist_head_value_counter(const uint8_t *value, size_t length, uint32_t *wh);

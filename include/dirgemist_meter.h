@@ -11,9 +11,9 @@
  * Each is proved, for all records, numbers and buffers, to do what its paragraph says. Pointers
  * must not be null, and what they point to must not overlap.
  *
- * Stack: an event takes some 5,900 bytes (64-bit Arm), a test 1,700, making 350; DIRGEMIST_STACK
+ * Stack: an event takes some 9,000 bytes (64-bit Arm), a test 2,600, making 400; DIRGEMIST_STACK
  * is above each, and hosts/stack measures them. The steps of an event hand the state on by value,
- * and up to eight copies of its tables are alive at once.
+ * and up to eight copies of its tables and its archive are alive at once.
  *
  * Link with libfirmware.a for events, and with libkeeping.a for making, testing and showing.
  */
@@ -27,8 +27,8 @@
 extern "C" {
 #endif
 
-#define DIRGEMIST_REPLY_ROOM 2048 /* the least room of a reply buffer */
-#define DIRGEMIST_STACK 6144      /* the most stack that a call takes, in bytes */
+#define DIRGEMIST_REPLY_ROOM 4096 /* the least room of a reply buffer */
+#define DIRGEMIST_STACK 9216      /* the most stack that a call takes, in bytes */
 
 struct dirgemist_date {
     uint16_t year; /* 2000 to 2099 */
@@ -64,6 +64,27 @@ struct dirgemist_counters {
     uint32_t total;
 };
 
+/* What is shown of the time at which a period was closed: no second. */
+struct dirgemist_stamp {
+    struct dirgemist_date date;
+    uint8_t hour;
+    uint8_t minute;
+};
+
+/* A closed period: when it was closed, and the zones' counters as they stood. */
+struct dirgemist_period {
+    struct dirgemist_stamp closed;
+    uint32_t zones[4];
+};
+
+/* The closed periods, count of them, the newest first. The places from count on are all 0; a
+ * thirteenth period pushes out the oldest. Periods need not be in order, since the clock may be
+ * set. */
+struct dirgemist_archive {
+    struct dirgemist_period periods[12];
+    uint8_t count;
+};
+
 /* What a meter has for life: texts without an end mark. */
 struct dirgemist_facts {
     uint8_t serial[10];
@@ -77,6 +98,7 @@ struct dirgemist_registers {
     struct dirgemist_clock clock;
     struct dirgemist_counters counters;
     uint8_t tables[576];
+    struct dirgemist_archive archive;
 };
 
 /* Mode: 0 listening, 1 confirmation, 2 password, 3 read-only, 4 programming. Speed: the identifier that
@@ -121,9 +143,10 @@ struct dirgemist_meter {
 
 /* Makes a new meter in *meter: the serial's ten digits, the account's ten letters, digits, spaces
  * or underscores, the password's eight digits, and the clock, a real date of 2000 to 2099 with a
- * time; counters and attempts 0, all tables '1', listening, nothing received. Returns 1. Bad facts,
- * other lengths among them, give 15, and *meter is then the blank meter: zeros for the serial and
- * the password, ten spaces, 2000-01-01 00:00:00. What stood in *meter before does not matter. */
+ * time; counters and attempts 0, all tables '1', no closed period, listening, nothing received.
+ * Returns 1. Bad facts, other lengths among them, give 15, and *meter is then the blank meter: zeros
+ * for the serial and the password, ten spaces, 2000-01-01 00:00:00. What stood in *meter before does
+ * not matter. */
 uint8_t dirgemist_meter_make(struct dirgemist_meter *meter, const uint8_t *serial,
                              size_t serial_length, const uint8_t *account, size_t account_length,
                              const uint8_t *password, size_t password_length, uint16_t year,
@@ -176,7 +199,8 @@ static inline uint8_t dirgemist_meter_note(struct dirgemist_meter *meter, uint8_
     return dirgemist_meter_meet(meter, kind, value, &nowhere, 0, &length, speed, &place);
 }
 
-/* A second has gone by: the clock moves on. 14, or 1. */
+/* A second has gone by: the clock moves on, and where it reaches 00:00:00 on the first of a month a
+ * period is closed. 14, or 1. */
 static inline uint8_t dirgemist_meter_tick(struct dirgemist_meter *meter, uint8_t *speed) {
     return dirgemist_meter_note(meter, DIRGEMIST_TICK, 0, speed);
 }

@@ -72,6 +72,15 @@ static void put_fields(const struct field *fields, size_t count, const void *rec
 
 #define STATE(kind, name, member) FIELD(kind, struct dirgemist_meter, name, member)
 
+/* Nine fields of a closed period; the newest has place 0. */
+#define CLOSED(name, place, member) STATE(NUMBER, name, registers.archive.periods[place].member)
+#define PERIOD(place)                                                                       \
+    CLOSED("YEAR", place, closed.date.year), CLOSED("MONTH", place, closed.date.month),     \
+        CLOSED("DAY", place, closed.date.day), CLOSED("HOUR", place, closed.hour),          \
+        CLOSED("MINUTE", place, closed.minute), CLOSED("C1", place, zones[0]),              \
+        CLOSED("C2", place, zones[1]), CLOSED("C3", place, zones[2]),                       \
+        CLOSED("C4", place, zones[3])
+
 static const struct field state[] = {
     STATE(NUMBER, "MODE", mode),
     STATE(NUMBER, "COUNT", receiver.count),
@@ -95,6 +104,19 @@ static const struct field state[] = {
     STATE(NUMBER, "SPEED", speed),
     STATE(NUMBER, "PLACE", receiver.place),
     STATE(NUMBER, "TOTAL", registers.counters.total),
+    STATE(NUMBER, "PERIODS", registers.archive.count),
+    PERIOD(0),
+    PERIOD(1),
+    PERIOD(2),
+    PERIOD(3),
+    PERIOD(4),
+    PERIOD(5),
+    PERIOD(6),
+    PERIOD(7),
+    PERIOD(8),
+    PERIOD(9),
+    PERIOD(10),
+    PERIOD(11),
 };
 
 /* ---- What a meter is made from: a row for each word of `new`. Those past NEEDED may be left out,

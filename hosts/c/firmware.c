@@ -26,11 +26,18 @@ _Static_assert(offsetof(struct dirgemist_registers, account) == 18, "account's p
 _Static_assert(offsetof(struct dirgemist_registers, clock) == 28, "clock's place");
 _Static_assert(offsetof(struct dirgemist_registers, counters) == 36, "counters' place");
 _Static_assert(offsetof(struct dirgemist_registers, tables) == 56, "tables' place");
-_Static_assert(sizeof(struct dirgemist_registers) == 632, "registers");
+_Static_assert(sizeof(struct dirgemist_stamp) == 6, "stamp");
+_Static_assert(offsetof(struct dirgemist_stamp, hour) == 4, "hour's place");
+_Static_assert(sizeof(struct dirgemist_period) == 24, "period");
+_Static_assert(offsetof(struct dirgemist_period, zones) == 8, "a period's counters' place");
+_Static_assert(sizeof(struct dirgemist_archive) == 292, "archive");
+_Static_assert(offsetof(struct dirgemist_archive, count) == 288, "the number of periods' place");
+_Static_assert(offsetof(struct dirgemist_registers, archive) == 632, "archive's place");
+_Static_assert(sizeof(struct dirgemist_registers) == 924, "registers");
 _Static_assert(offsetof(struct dirgemist_meter, speed) == 2, "speed's place");
 _Static_assert(offsetof(struct dirgemist_meter, receiver) == 3, "receiver's place");
 _Static_assert(offsetof(struct dirgemist_meter, registers) == 72, "registers' place");
-_Static_assert(sizeof(struct dirgemist_meter) == 704, "meter");
+_Static_assert(sizeof(struct dirgemist_meter) == 996, "meter");
 
 #define ROOM DIRGEMIST_REPLY_ROOM
 
@@ -56,12 +63,24 @@ static uint8_t *place;
 static uint32_t *total;
 static uint8_t filled[ROOM];
 
+/* Whether two archives hold the same periods. */
+static int same_periods(const struct dirgemist_archive *a, const struct dirgemist_archive *b) {
+    int equal = a->count == b->count;
+    for (int at = 0; at < 12; at++) {
+        const struct dirgemist_period *p = &a->periods[at], *q = &b->periods[at];
+        equal &= memcmp(&p->closed, &q->closed, sizeof p->closed) == 0
+                 && memcmp(p->zones, q->zones, sizeof p->zones) == 0;
+    }
+    return equal;
+}
+
 /* Whether two records hold the same state; what lies between the fields is not looked at. */
 static int same(const struct dirgemist_meter *a, const struct dirgemist_meter *b) {
 #define SAME(field) (memcmp(&a->field, &b->field, sizeof a->field) == 0)
     return SAME(mode) && SAME(attempts) && SAME(speed) && SAME(receiver) && SAME(registers.facts.serial)
            && SAME(registers.account) && SAME(registers.facts.password) && SAME(registers.clock.date)
-           && SAME(registers.clock.time) && SAME(registers.counters) && SAME(registers.tables);
+           && SAME(registers.clock.time) && SAME(registers.counters) && SAME(registers.tables)
+           && same_periods(&a->registers.archive, &b->registers.archive);
 #undef SAME
 }
 
@@ -270,6 +289,63 @@ static void tells_the_place(struct dirgemist_meter *meter) {
     meter->speed = 0;
 }
 
+/* A period closed at the record's own clock. */
+static void close_by_hand(struct dirgemist_meter *meter) {
+    struct dirgemist_archive *kept = &meter->registers.archive;
+    struct dirgemist_clock now = meter->registers.clock;
+    memmove(&kept->periods[1], &kept->periods[0], 11 * sizeof kept->periods[0]);
+    kept->periods[0].closed = (struct dirgemist_stamp){now.date, now.time.hour, now.time.minute};
+    memcpy(kept->periods[0].zones, meter->registers.counters.zones, sizeof kept->periods[0].zones);
+    kept->count += kept->count < 12;
+}
+
+/* The bytes of the next reply from a place on are these characters. */
+static void expect_at(size_t at, const char *text, const char *what) {
+    for (size_t n = 0; n < strlen(text); n++) {
+        expect(at + n < *length && reply[at + n] == with_parity((uint8_t)text[n]), what);
+    }
+}
+
+/* Months closed by `/C!` and by the seconds that reach a first; what the block with them says. */
+static void closes(struct dirgemist_meter *meter) {
+    struct dirgemist_meter before = *meter;
+    memset(&meter->registers.archive, 0, sizeof meter->registers.archive);
+    memset(&before.registers.archive, 0, sizeof before.registers.archive);
+    for (unsigned n = 1; n <= 14; n++) {
+        meter->registers.clock = (struct dirgemist_clock){{2024, 2, 29}, {23, 59, 57}};
+        if (n % 2 == 0) {
+            for (uint8_t second = 58; second <= 61; second++) {
+                expect(dirgemist_meter_tick(meter, speed) == 1, "tick");
+            }
+            before.registers.clock = (struct dirgemist_clock){{2024, 3, 1}, {0, 0, 0}};
+            close_by_hand(&before);
+            before.registers.clock.time.second = 1;
+        } else {
+            SAY(meter, "closing sign-on", "/C!\r\n", 1, "/ZZZ5SUB-VP01.00*\r\n", 0);
+            before.registers.clock = meter->registers.clock;
+            close_by_hand(&before);
+            expect(dirgemist_meter_silence(meter, reply, ROOM, length, speed) == 1, "back to listening");
+        }
+        expect(meter->registers.archive.count == (n < 12 ? n : 12), "how many periods are kept");
+        expect(same(meter, &before), "a period closed");
+        expect(dirgemist_meter_check(meter) == 1, "an archive is well-formed");
+        expect(dirgemist_meter_pulse(meter, 1, speed) == 1 && dirgemist_meter_pulse(&before, 1, speed) == 1, "a pulse");
+        calls += 6;
+        uint8_t confirmed[6] = "\006" "056\r";
+        meter->mode = 1;
+        for (int at = 0; at < 5; at++) {
+            expect(meet(meter, DIRGEMIST_CHARACTER, with_parity(confirmed[at]), ROOM) == 0, "collected");
+        }
+        expect(meet(meter, DIRGEMIST_CHARACTER, with_parity('\n'), ROOM) == 1, "the block with periods");
+        expect(*length == 1063 + 134u * meter->registers.archive.count && *speed == 5, "its length");
+        expect_at(1058, n % 2 ? "0.1.2*01(24-02-29 23:59)\r\n15.8.1*01(" : "0.1.2*01(24-03-01 00:00)\r\n15.8.1*01(", "the newest first");
+        if (n > 12) {
+            expect_at(1058 + 11 * 134, n % 2 ? "0.1.2*12(24-03-01 00:00)\r\n" : "0.1.2*12(24-02-29 23:59)\r\n", "the oldest last");
+        }
+        expect(same(meter, &before), "the block changes nothing");
+    }
+}
+
 /* Silence in each mode, seconds over the end of a month, a zone for each hour, power-up. */
 static void passes(struct dirgemist_meter *meter) {
     struct dirgemist_meter before = *meter;
@@ -293,7 +369,8 @@ static void passes(struct dirgemist_meter *meter) {
     meter->mode = 0;
     meter->speed = 0;
     before.registers.clock = (struct dirgemist_clock){{2024, 3, 1}, {0, 0, 0}};
-    expect(same(meter, &before), "the first of March, midnight");
+    close_by_hand(&before);
+    expect(same(meter, &before), "the first of March, midnight, and February closed");
     /* A Friday: table 3, whose first two hours are now zones 1 and 2. */
     meter->registers.tables[2 * 24 + 1] = '2';
     expect(dirgemist_meter_pulse(meter, 999999, speed) == 1, "a pulse in zone 1");
@@ -315,7 +392,7 @@ static void refuses(struct dirgemist_meter *meter) {
     for (int malformed = 0; malformed < 2; malformed++) {
         meter->attempts = malformed ? 4 : 0;
         expect(dirgemist_meter_check(meter) == (malformed ? 14 : 1), "the check");
-        for (size_t room = 0; room < ROOM; room += 2047) {
+        for (size_t room = 0; room < ROOM; room += ROOM - 1) {
             refused(meter, DIRGEMIST_CHARACTER, '/', room, 12, "a character without room");
             refused(meter, DIRGEMIST_SILENCE, 0, room, 12, "silence without room");
             refused(meter, DIRGEMIST_PULSE, 1000001, room, 13, "a pulse of too much, without room");
@@ -402,7 +479,24 @@ static int is_formed(const struct dirgemist_meter *meter) {
     }
     zones &= kept == sum % 1000000000;
     int leap = date->year % 4 == 0;
-    return account && zones && all_within(held->held, 63, 0, 127)
+    const struct dirgemist_archive *archive = &have->archive;
+    int periods = archive->count <= 12;
+    for (int at = 0; periods && at < 12; at++) {
+        struct dirgemist_period p = archive->periods[at];
+        const struct dirgemist_date *d = &p.closed.date;
+        int used = at < archive->count;
+        if (!used) {
+            periods = d->year == 0 && d->month == 0 && d->day == 0 && p.closed.hour == 0 && p.closed.minute == 0;
+        } else {
+            periods = d->year >= 2000 && d->year <= 2099 && d->month >= 1 && d->month <= 12 && d->day >= 1
+                      && d->day <= days[d->month - 1] - (d->month == 2 && d->year % 4 != 0)
+                      && p.closed.hour <= 23 && p.closed.minute <= 59;
+        }
+        for (int zone = 0; zone < 4; zone++) {
+            periods &= p.zones[zone] <= (used ? 999999999 : 0);
+        }
+    }
+    return account && zones && periods && all_within(held->held, 63, 0, 127)
            && all_within(held->held + held->count, 63 - held->count, 0, 0)
            && all_within(have->facts.serial, 10, '0', '9') && all_within(have->facts.password, 8, '0', '9')
            && all_within(have->tables, sizeof have->tables, '1', '4') && date->year >= 2000
@@ -461,6 +555,7 @@ int main(void) {
     talks_slowly(meter);
     tells_the_place(meter);
     passes(meter);
+    closes(meter);
     refuses(meter);
     takes_anything(meter, &formed);
     give_back(total, sizeof *total);

@@ -100,7 +100,7 @@ static bool play_call(const struct call *call, const struct word *words, size_t 
 #define NUMBERS 6
 
 static size_t *numbers[NUMBERS];
-static uint8_t *shorts[3];
+static uint8_t *shorts[4];
 static uint16_t *year;
 static uint32_t *wh;
 static uint32_t *quantities[4];
@@ -152,6 +152,7 @@ static void put_written(uint8_t answer, size_t beside, size_t length) {
 #define T(place) g[place].text, g[place].length
 
 BUILD(any, dirgemist_head_sign_on(out, room, length))
+BUILD(closing, dirgemist_head_close(out, room, length))
 BUILD(serial, dirgemist_head_sign_on_to(T(1), out, room, length))
 BUILD(confirm, dirgemist_head_confirm(N(1), N(2), out, room, length))
 BUILD(readonly, dirgemist_head_enter(out, room, length))
@@ -211,6 +212,13 @@ static void value_time(const struct given *g) {
     unwrite();
     uint8_t answer = dirgemist_head_value_time(T(0), shorts[0], shorts[1], shorts[2]);
     TELL(answer, *shorts[0], *shorts[1], *shorts[2]);
+    put('\n');
+}
+
+static void value_period(const struct given *g) {
+    unwrite();
+    uint8_t answer = dirgemist_head_value_period(T(0), year, shorts[0], shorts[1], shorts[2], shorts[3]);
+    TELL(answer, *year, *shorts[0], *shorts[1], *shorts[2], *shorts[3]);
     put('\n');
 }
 
@@ -387,6 +395,7 @@ static void quiet(const struct given *g) {
 
 static const struct call calls[] = {
     {"build", "any", 1, {ROOM}, any},
+    {"build", "close", 1, {ROOM}, closing},
     {"build", "serial", 2, {ROOM, TEXT}, serial},
     {"build", "confirm", 3, {ROOM, BYTE, BYTE}, confirm},
     {"build", "readonly", 1, {ROOM}, readonly},
@@ -406,6 +415,7 @@ static const struct call calls[] = {
     {"value", "counter", 1, {TEXT}, value_counter},
     {"value", "date", 1, {TEXT}, value_date},
     {"value", "time", 1, {TEXT}, value_time},
+    {"value", "period", 1, {TEXT}, value_period},
     {"mercury", "ask", 5, {ROOM, SHORT, SHORT, SHORT, SHORT}, mercury_ask},
     {"mercury", "read", 2, {SHORT, TEXT}, mercury_read},
     {"check", "", 1, {TEXT}, check},

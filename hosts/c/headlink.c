@@ -51,7 +51,7 @@ static int in_account(int c) {
 }
 
 static int in_address(int c) {
-    return is_letter(c) || is_digit(c) || c == '.';
+    return is_letter(c) || is_digit(c) || c == '.' || c == '*';
 }
 
 static int in_value(int c) {
@@ -155,6 +155,8 @@ static void answered(uint8_t got, const char *text, size_t text_length) {
 
 static void try_fixed_commands(void) {
     SAYS("/?!\r\n", dirgemist_head_sign_on(out, room, length));
+    SAYS("/C!\r\n", dirgemist_head_close(out, room, length));
+    FIXED(dirgemist_head_close(out, room, length), 0xAF, 0xC3, 0x21, 0x8D, 0x0A);
     SAYS("\001P1\002()\003", dirgemist_head_enter(out, room, length));
     SAYS("\001R1\002T()\003", dirgemist_head_read_clock(out, room, length));
     SAYS("\001R1\002L()\003", dirgemist_head_read_serial(out, room, length));
@@ -170,7 +172,7 @@ static void try_numbered_commands(void) {
     for (int c = 0; c < 256; c++) {
         char text[64];
         int size = sprintf(text, "\006" "05%c\r\n", c);
-        int good = c == '0' || c == '1' || c == '7';
+        int good = c == '0' || c == '1' || c == '6' || c == '7';
         BUILDS(good ? text : NULL, (size_t)size, dirgemist_head_confirm('5', (uint8_t)c, out, room, length));
         size = sprintf(text, "\006" "0%c1\r\n", c);
         good = c == '0' || c == '5';
@@ -567,7 +569,7 @@ static void try_characters(void) {
 }
 
 static uint16_t *year;
-static uint8_t *first, *second, *third;
+static uint8_t *first, *second, *third, *fourth;
 static uint32_t *wh;
 
 static void try_date(const char *text, size_t size, int y, int m, int d) {
@@ -590,6 +592,18 @@ static void try_time(const char *text, size_t size, int h, int m, int s) {
     expect(*first == (good ? h : 0) && *second == (good ? m : 0) && *third == (good ? s : 0), "a time");
 }
 
+/* An hour of 99 says that the text is no such time. */
+static void try_period(const char *text, size_t size, int y, int m, int d, int h, int n) {
+    set_field(text, size);
+    int good = is_date(y, m, d) && is_time(h, n, 0);
+    *year = 99;
+    *first = *second = *third = *fourth = 99;
+    calls++;
+    expect(dirgemist_head_value_period(field, field_length, year, first, second, third, fourth) == (good ? 1 : 25), "a period's number");
+    expect(*year == (good ? y : 0) && *first == (good ? m : 0) && *second == (good ? d : 0), "a period's date");
+    expect(*third == (good ? h : 0) && *fourth == (good ? n : 0), "a period's hour and minute");
+}
+
 static void try_counter(const char *text, size_t size, int good, uint32_t value) {
     set_field(text, size);
     *wh = 99;
@@ -599,13 +613,15 @@ static void try_counter(const char *text, size_t size, int good, uint32_t value)
 }
 
 static void try_numbers(void) {
-    char text[32];
+    char text[64];
     static const int years[] = {0, 1, 4, 23, 24, 96, 99};
     for (size_t y = 0; y < COUNT(years); y++) {
         for (int m = 0; m <= 13; m++) {
             for (int d = 0; d <= 32; d++) {
                 int size = sprintf(text, "%02d-%02d-%02d", years[y], m, d);
                 try_date(text, (size_t)size, 2000 + years[y], m, d);
+                size = sprintf(text, "%02d-%02d-%02d %02d:%02d", years[y], m, d, d % 24, 4 * m + 3);
+                try_period(text, (size_t)size, 2000 + years[y], m, d, d % 24, 4 * m + 3);
             }
         }
     }
@@ -613,6 +629,8 @@ static void try_numbers(void) {
         for (int m = 0; m <= 61; m++) {
             int size = sprintf(text, "%02d:%02d:%02d", h, m, 61 - m);
             try_time(text, (size_t)size, h, m, 61 - m);
+            size = sprintf(text, "24-02-29 %02d:%02d", h, m);
+            try_period(text, (size_t)size, 2024, 2, 29, h, m);
         }
     }
     static const uint32_t counters[] = {0, 1, 999, 1000, 1500, 123456789, 999999000, 999999999};
@@ -633,6 +651,14 @@ static void try_numbers(void) {
                 value = i == 6 ? value : value * 10 + (uint32_t)(text[i] - '0');
             }
             try_counter(text, 14, good, value);
+            memcpy(text, "11-11-11 11:11", 14);
+            good = at % 3 == 2 ? c == text[at] : digit;
+            text[at] = (char)c;
+            int pairs[5];
+            for (size_t i = 0; i < 5; i++) {
+                pairs[i] = (text[3 * i] - '0') * 10 + text[3 * i + 1] - '0';
+            }
+            try_period(text, 14, 2000 + pairs[0], pairs[1], pairs[2], good ? pairs[3] : 99, pairs[4]);
             if (at < 8) {
                 memcpy(text, "11-11-11", 8);
                 good = at % 3 == 2 ? c == '-' : digit;
@@ -651,6 +677,7 @@ static void try_numbers(void) {
         try_counter("000001.500*kWh00", size, size == 14, 1500);
         try_date("24-02-2900000000", size, size == 8 ? 2024 : 0, 2, 29);
         try_time("23:05:0900000000", size, size == 8 ? 23 : 99, 5, 9);
+        try_period("24-02-29 23:0500", size, 2024, 2, 29, size == 14 ? 23 : 99, 5);
     }
 }
 
@@ -667,6 +694,7 @@ int main(void) {
     first = exactly(1);
     second = exactly(1);
     third = exactly(1);
+    fourth = exactly(1);
     wh = exactly(sizeof *wh);
     field = lent("", 0);
 

@@ -7,7 +7,7 @@ use borrow.Author.Tests.{leb-true, le-leb, ltb-true, ltb-false, lt-ltb, le-ltb, 
 use lib.Dec.{leb, ltb, eqb}
 use Rattle.line.proofs.Runs.{and-left, and-right, and-both}
 use Rattle.clock.specs.Dates.{leap, thirty, daysIn, realDate, realTime}
-use Rattle.clock.specs.Seconds.{realClock, dateOf, timeOf, nextMonth, nextDay, nextSecond}
+use Rattle.clock.specs.Seconds.{realClock, realStamp, stampOf, dateOf, timeOf, nextMonth, nextDay, nextSecond}
 use Rattle.clock.specs.declared.Date.{Date}
 use Rattle.clock.specs.declared.Clock.{Clock}
 
@@ -134,3 +134,10 @@ next-second-real c h = go (ltb (c .time .second) 59) refl (ltb (c .time .minute)
         and-both _ _ d (time-real _ _ _ (record { hour = omega (arith, ltb-true (c .time .hour) 23 g); minute = omega arith; second = omega arith }))
     go false e false f false g =
         and-both _ _ (next-day-real (c .date) d) (time-real 0 0 0 (record { hour = omega arith; minute = omega arith; second = omega arith }))
+
+-- a real clock's stamp is real
+pub stamp-real : (c : Clock) → realClock c ≡ true → realStamp (stampOf c) ≡ true
+unfolding realClock realStamp
+stamp-real c h =
+    let t = time-facts (c .time .hour) (c .time .minute) (c .time .second) (and-right (realDate (c .date .year) (c .date .month) (c .date .day)) (realTime (c .time .hour) (c .time .minute) (c .time .second)) h) in
+    and-both _ _ (and-left (realDate (c .date .year) (c .date .month) (c .date .day)) (realTime (c .time .hour) (c .time .minute) (c .time .second)) h) (time-real _ _ _ (record { hour = t .hour; minute = t .minute; second = omega arith }))

@@ -6,9 +6,18 @@ use Rattle.clock.specs.Dates.{daysIn, realDate, realTime}
 use Rattle.clock.specs.declared.Date.{Date}
 use Rattle.clock.specs.declared.Time.{Time}
 use Rattle.clock.specs.declared.Clock.{Clock}
+use Rattle.clock.specs.declared.Stamp.{Stamp}
 
 unfoldable pub realClock : Clock → Bool
 realClock c = realDate (c .date .year) (c .date .month) (c .date .day) && realTime (c .time .hour) (c .time .minute) (c .time .second)
+
+-- a stamp has no second: it is real if it is with second 0
+unfoldable pub realStamp : Stamp → Bool
+realStamp s = realDate (s .date .year) (s .date .month) (s .date .day) && realTime (s .hour) (s .minute) 0
+
+-- a clock without its second
+abbrev pub stampOf : Clock → Stamp
+stampOf c = record { date = c .date; hour = c .time .hour; minute = c .time .minute }
 
 abbrev pub dateOf : ℕ → ℕ → ℕ → Date
 dateOf y m d = record { year = y; month = m; day = d }

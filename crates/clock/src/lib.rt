@@ -5,7 +5,7 @@ ghost use Prim.Native.Nat.{_-_, _<_};
 ghost use lib.ListN.{getD};
 ghost use lib.Dec.{ltb};
 ghost use Rattle.clock.specs.Dates.{leap, daysIn, realDate, realTime};
-ghost use Rattle.clock.specs.Seconds.{realClock, nextMonth, nextDay, nextSecond};
+ghost use Rattle.clock.specs.Seconds.{realClock, realStamp, stampOf, nextMonth, nextDay, nextSecond};
 ghost use Rattle.clock.specs.Weekday.{daysBefore, weekday};
 
 #[repr(C)]
@@ -26,6 +26,14 @@ pub struct Time {
 pub struct Clock {
     pub date: Date,
     pub time: Time,
+}
+
+// What is shown of the time at which something was kept: no second.
+#[repr(C)]
+pub struct Stamp {
+    pub date: Date,
+    pub hour: u8,
+    pub minute: u8,
 }
 
 pub fn is_leap(y: u16) -> bool
@@ -67,6 +75,27 @@ pub fn is_clock(c: Clock) -> bool
     let d = c.date;
     let t = c.time;
     is_date(d.year, d.month, d.day) & is_time(t.hour, t.minute, t.second)
+}
+
+// Whether a stamp shows a real date and time.
+pub fn is_stamp(s: Stamp) -> bool
+    ensures { λ r. ⌜ r ≡ realStamp s ⌝ }
+{
+    let d = s.date;
+    is_date(d.year, d.month, d.day) & is_time(s.hour, s.minute, 0)
+}
+
+// A clock without its second.
+pub fn stamp_of(c: Clock) -> Stamp
+    ensures { λ r. ⌜ r ≡ stampOf c ⌝ }
+{
+    let d = c.date;
+    let t = c.time;
+    Stamp {
+        date: d,
+        hour: t.hour,
+        minute: t.minute,
+    }
 }
 
 // The first of the month after a month; after 2099 comes 2000.

@@ -9,9 +9,9 @@ use Rattle.line.specs.Quoted.{char}
 use Rattle.text.specs.Writing.{holding}
 use Rattle.commands.specs.declared.Built.{Built}
 
--- Y of the confirmation: '0', '1' or '7'
+-- Y of the confirmation: '0', '6' or '7' for a block, '1' for a session
 unfoldable pub goodChoice : ℕ → Bool
-goodChoice y = (eqb y (char "0") || eqb y (char "1")) || eqb y (char "7")
+goodChoice y = ((eqb y (char "0") || eqb y (char "6")) || eqb y (char "7")) || eqb y (char "1")
 
 -- 19 for a buffer under 64, then 9 for a field outside its rule, else 1 with the command's length
 unfoldable pub builtIn : List ℕ → Bool → List ℕ → Built

@@ -5,13 +5,14 @@ use Prim.Native.Nat.{ℕ}
 use Rattle.values.specs.Registers.{goodSerial}
 use Rattle.frames.specs.Frames.{bareFrame}
 use Rattle.frames.specs.Commands.{B0}
-use Rattle.frames.specs.Session.{signOn, signOnTo, confirmation, goodSpeed}
+use Rattle.frames.specs.Session.{signOn, closingSignOn, signOnTo, confirmation, goodSpeed}
 use Rattle.commands.specs.Building.{goodChoice}
 use Rattle.commands.specs.Spoken.{Command, goodFields, spoken}
 
--- the sign-on to any meter or to one, the confirmation, a command with data, B0
+-- the sign-on to any meter, the one that closes a period, the one to a serial, the confirmation, a command with data, B0
 pub data Message : Type 0 where
   call : Message
+  close : Message
   callTo : List ℕ → Message
   confirm : ℕ → ℕ → Message
   command : Command → Message
@@ -20,6 +21,7 @@ pub data Message : Type 0 where
 -- its characters
 unfoldable pub textOf : Message → List ℕ
 textOf call = signOn
+textOf close = closingSignOn
 textOf (callTo serial) = signOnTo serial
 textOf (confirm v y) = confirmation v y
 textOf (command c) = spoken c
@@ -28,6 +30,7 @@ textOf leave = bareFrame B0
 -- the head builds it: its fields lie within their rules, for a meter of so many tables
 unfoldable pub goodMessage : ℕ → Message → Bool
 goodMessage tables call = true
+goodMessage tables close = true
 goodMessage tables (callTo serial) = goodSerial serial
 goodMessage tables (confirm v y) = goodSpeed v && goodChoice y
 goodMessage tables (command c) = goodFields tables c

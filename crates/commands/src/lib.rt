@@ -11,7 +11,7 @@ ghost use Rattle.values.specs.Registers.{goodSerial, goodPassword, goodAccount,
 ghost use Rattle.values.specs.Texts.{serialText, tableText, clockText};
 ghost use Rattle.frames.specs.Frames.{sealed, frameOf, bareFrame, onWire};
 ghost use Rattle.frames.specs.Commands.{B0, P1, R1, W1, askClock, askSerial, askAccount, askEnergy, askTable, setClock, setAccount, setTable};
-ghost use Rattle.frames.specs.Session.{signOn, signOnTo, confirmation, goodSpeed, enterData, passwordData};
+ghost use Rattle.frames.specs.Session.{signOn, closingSignOn, signOnTo, confirmation, goodSpeed, enterData, passwordData};
 ghost use Rattle.commands.specs.Building.{goodChoice, Builds, Room, Small, Made};
 use clock::Clock;
 use values::TableNo;
@@ -104,6 +104,16 @@ pub fn sign_on(buf: &mut [u8]) -> Built
     line_of(buf, b"/?", b"", b"!\r\n")
 }
 
+// The sign-on `/C!`, at which the meter closes a period.
+pub fn close(buf: &mut [u8]) -> Built
+    ensures { λ r. ⌜ Builds (now (buf .entry)) true (onWire closingSignOn) r (now (buf .exit)) ⌝ }
+{
+    if buf.len() < ROOM {
+        return short();
+    }
+    line_of(buf, b"/C", b"", b"!\r\n")
+}
+
 // The serial as it is shown.
 fn shown_serial(serial: &[u8]) -> [u8; 11]
     requires { ⌜ length (now serial) ≡ 10 ⌝ }
@@ -127,7 +137,7 @@ pub fn sign_on_to(buf: &mut [u8], serial: &[u8]) -> Built
     line_of(buf, b"/?", &shown_serial(serial), b"!\r\n")
 }
 
-// The confirmation, with the character '0' (300 baud) or '5' (9600) as speed, and with '0', '1' or '7'.
+// The confirmation, with the character '0' (300 baud) or '5' (9600) as speed, and with '0', '1', '6' or '7'.
 pub fn confirm(buf: &mut [u8], speed: u8, choice: u8) -> Built
     ensures { λ r. ⌜ Builds (now (buf .entry)) (goodSpeed speed && goodChoice choice) (onWire (confirmation speed choice)) r (now (buf .exit)) ⌝ }
 {
@@ -135,7 +145,8 @@ pub fn confirm(buf: &mut [u8], speed: u8, choice: u8) -> Built
         return short();
     }
     let slow_or_fast = (speed == b'0') | (speed == b'5');
-    let good = slow_or_fast & (((choice == b'0') | (choice == b'1')) | (choice == b'7'));
+    let block = ((choice == b'0') | (choice == b'6')) | (choice == b'7');
+    let good = slow_or_fast & (block | (choice == b'1'));
     if !good {
         return refused();
     }

@@ -28,7 +28,7 @@ use Rattle.receiving.specs.Receivers.{heldText, lastHeld}
 use Rattle.deciding.specs.declared.Verdict.{Verdict}
 use Rattle.deciding.specs.Verdict.{verdict}
 use Rattle.meter.specs.Outcomes.{Outcome}
-use Rattle.meter.specs.SignOn.{signsOnBy, wantsBlock, wantsProgram}
+use Rattle.meter.specs.SignOn.{signsOnBy, closesBy, wantsBlock, wantsPeriods, wantsProgram}
 use Rattle.meter.specs.Acting.{passwordGiven, tried, acted}
 use Rattle.meter.specs.Character.{symbol, lineEnded, confirmed, heard, taken, character}
 use Rattle.promises.proofs.Choices as choice
@@ -53,14 +53,16 @@ module _ (m : Meter) (c : ℕ) (d : Bool) where
   unfolding lineEnded
   line-stays z =
       choice.either Stays (marked (m .receiver)) (λ e. (sym z, refl))
-      (choice.either Stays (signsOnBy (heldText (m .receiver)) (m .registers .facts .serial)) (λ e. absurd (omega arith)) (λ e. (sym z, refl)))
+      (choice.either Stays (signsOnBy (heldText (m .receiver)) (m .registers .facts .serial)) (λ e. absurd (omega arith))
+      (choice.either Stays (closesBy (heldText (m .receiver))) (λ e. absurd (omega arith)) (λ e. (sym z, refl))))
 
   confirmed-stays : Stays (confirmed m c d)
   unfolding confirmed
   confirmed-stays =
       choice.either Stays (marked (m .receiver) || d) (λ e. absurd (omega arith))
       (choice.either Stays (wantsBlock (heldText (m .receiver)) c) (λ e. absurd (omega arith))
-      (choice.either Stays (wantsProgram (heldText (m .receiver)) c) (λ e. absurd (omega arith)) (λ e. absurd (omega arith))))
+      (choice.either Stays (wantsPeriods (heldText (m .receiver)) c) (λ e. absurd (omega arith))
+      (choice.either Stays (wantsProgram (heldText (m .receiver)) c) (λ e. absurd (omega arith)) (λ e. absurd (omega arith)))))
 
   tried-stays : Stays (tried m)
   unfolding tried

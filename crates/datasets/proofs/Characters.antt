@@ -57,9 +57,9 @@ value-low c h = omega (arith, between-high 32 126 c (and-left (between 32 126 c)
 address-low : (c : ℕ) → isAddress c ≡ true → c < 128
 unfolding isAddress isLetter
 address-low c h =
-    or-cases ((between 65 90 c || between 97 122 c) || isDigit c) (eqb c 46) h
+    or-cases ((between 65 90 c || between 97 122 c) || isDigit c) (eqb c 46 || eqb c 42) h
     (λ k. or-cases (between 65 90 c || between 97 122 c) (isDigit c) k (letter-low c) (digit-low c))
-    (λ k. omega (arith, eqb-true c 46 k))
+    (λ k. or-cases (eqb c 46) (eqb c 42) k (λ l. omega (arith, eqb-true c 46 l)) (λ l. omega (arith, eqb-true c 42 l)))
 
 pub digit-shown : Within isDigit isValue
 unfolding isDigit between isValue isPrintable

@@ -16,11 +16,12 @@ use Rattle.text.specs.Decimal.{decimal}
 use Rattle.text.proofs.Decimal.{decimal-digits}
 use Rattle.clock.specs.declared.Date.{Date}
 use Rattle.clock.specs.declared.Time.{Time}
+use Rattle.clock.specs.declared.Stamp.{Stamp}
 use Rattle.values.specs.Registers.{isAccountCharacter}
-use Rattle.values.specs.Texts.{serialText, tableText, dateText, timeText, counterText, dateForm, timeForm, counterForm, tableForm}
-use Rattle.datasets.specs.Sets.{DataSet, dataSet, linesOf, lineOf, timeSet, dateSet, serialSet, accountSet, energySet, tableSet}
+use Rattle.values.specs.Texts.{serialText, tableText, dateText, timeText, stampText, counterText, dateForm, timeForm, stampForm, counterForm, tableForm}
+use Rattle.datasets.specs.Sets.{DataSet, dataSet, linesOf, lineOf, timeSet, dateSet, serialSet, accountSet, energySet, tableSet, closedSet, keptSet}
 use Rattle.datasets.specs.Good.{goodSet, goodSets}
-use Rattle.datasets.proofs.Lengths.{time-long, date-long, counter-long, serial-long}
+use Rattle.datasets.proofs.Lengths.{time-long, date-long, stamp-long, counter-long, serial-long}
 use Rattle.datasets.proofs.Characters.{digit-shown, digit-address, account-shown, row-shown, value-line, address-line, layout-within}
 
 -- an address and a value of their kinds and lengths
@@ -65,6 +66,21 @@ unfolding every isAddress isLetter isDigit between tableText
 table-good n row short h =
     good (tableSet n row) (unfold layoutText decimal in refl) (layout-within isAddress digit-address tableForm (n ∷ []) refl) short
     (every-weaker (between 49 52) isValue row-shown row h)
+
+-- [12]: a number in digits stands in an address, and so does '*'
+in-digits : (width n : ℕ) → every isAddress (decimal width n) ≡ true
+in-digits width n = every-weaker isDigit isAddress digit-address (decimal width n) (decimal-digits width n)
+
+pub closed-good : (k : ℕ) (t : Stamp) → goodSet (closedSet k t) ≡ true
+unfolding every isAddress isLetter isDigit between stampText isValue isPrintable
+closed-good k t =
+    good (closedSet k t) (unfold decimal in refl) (in-digits 2 k) (omega (arith, stamp-long t)) (layout-within isValue digit-shown stampForm _ refl)
+
+pub kept-good : (k n wh : ℕ) → goodSet (keptSet k n wh) ≡ true
+unfolding every isAddress isLetter isDigit between counterText isValue isPrintable
+kept-good k n wh =
+    good (keptSet k n wh) (unfold decimal in refl) (every-append isAddress (decimal 1 n) (42 ∷ decimal 2 k) (in-digits 1 n) (in-digits 2 k))
+    (omega (arith, counter-long wh)) (layout-within isValue digit-shown (counterForm 9 3) _ refl)
 
 pub good-append : (s t : List DataSet) → goodSets s ≡ true → goodSets t ≡ true → goodSets (s ++ t) ≡ true
 unfolding goodSets

@@ -9,8 +9,9 @@ use Rattle.text.specs.Decimal.{decimal}
 use Rattle.text.specs.Layout.{layoutText}
 use Rattle.clock.specs.declared.Date.{Date}
 use Rattle.clock.specs.declared.Time.{Time}
-use Rattle.values.specs.Texts.{serialText, tableText, dateText, timeText, counterText}
-use Rattle.datasets.specs.Sets.{DataSet, dataSet, linesOf, lineOf, timeSet, dateSet, serialSet, accountSet, energySet, tableSet}
+use Rattle.clock.specs.declared.Stamp.{Stamp}
+use Rattle.values.specs.Texts.{serialText, tableText, dateText, timeText, stampText, counterText}
+use Rattle.datasets.specs.Sets.{DataSet, dataSet, linesOf, lineOf, timeSet, dateSet, serialSet, accountSet, energySet, tableSet, closedSet, keptSet}
 
 pub time-long : (t : Time) → length (timeText t) ≡ 8
 unfolding timeText layoutText decimal
@@ -19,6 +20,10 @@ time-long t = refl
 pub date-long : (d : Date) → length (dateText d) ≡ 8
 unfolding dateText layoutText decimal
 date-long d = refl
+
+pub stamp-long : (t : Stamp) → length (stampText t) ≡ 14
+unfolding stampText layoutText decimal
+stamp-long t = refl
 
 pub counter-long : (n : ℕ) → length (counterText 9 3 n) ≡ 14
 unfolding counterText layoutText decimal
@@ -67,3 +72,11 @@ energy-line n wh = line-long (energySet n wh .address) (counterText 9 3 wh) ∙ 
 
 pub table-line : (n : ℕ) (row : List ℕ) → length (lineOf (tableSet n row)) ≡ 12 + length row
 table-line n row = line-long (tableSet n row .address) row ∙ omega (arith, table-long n)
+
+pub closed-line : (k : ℕ) (t : Stamp) → length (lineOf (closedSet k t)) ≡ 26
+unfolding decimal
+closed-line k t = line-long (closedSet k t .address) (stampText t) ∙ omega (arith, stamp-long t)
+
+pub kept-line : (k n wh : ℕ) → length (lineOf (keptSet k n wh)) ≡ 27
+unfolding decimal
+kept-line k n wh = line-long (keptSet k n wh .address) (counterText 9 3 wh) ∙ omega (arith, counter-long wh)

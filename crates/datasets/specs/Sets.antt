@@ -6,8 +6,9 @@ use Rattle.text.specs.Decimal.{decimal}
 pub use Rattle.text.specs.DataSet.{DataSet}
 use Rattle.clock.specs.declared.Date.{Date}
 use Rattle.clock.specs.declared.Time.{Time}
+use Rattle.clock.specs.declared.Stamp.{Stamp}
 use Rattle.values.specs.Edition.{counterDigits, counterDecimals}
-use Rattle.values.specs.Texts.{serialText, tableText, dateText, timeText, counterText}
+use Rattle.values.specs.Texts.{serialText, tableText, dateText, timeText, stampText, counterText}
 
 -- address(value) CR LF
 unfoldable pub dataSet : List ℕ → List ℕ → List ℕ
@@ -41,6 +42,14 @@ energySet n wh = record { address = chars "15.8." ++ decimal 1 n; value = counte
 -- 131.0.xx(row)
 abbrev pub tableSet : ℕ → List ℕ → DataSet
 tableSet n row = record { address = chars "131.0." ++ tableText n; value = row }
+
+-- [12], of the period numbered kk: 0.1.2*kk(yy-mm-dd hh:nn)
+abbrev pub closedSet : ℕ → Stamp → DataSet
+closedSet k t = record { address = chars "0.1.2*" ++ decimal 2 k; value = stampText t }
+
+-- 15.8.n*kk(eeeeee.eee*kWh)
+abbrev pub keptSet : ℕ → ℕ → ℕ → DataSet
+keptSet k n wh = record { address = chars "15.8." ++ (decimal 1 n ++ (chars "*" ++ decimal 2 k)); value = counterText counterDigits counterDecimals wh }
 
 abbrev pub lineOf : DataSet → List ℕ
 lineOf s = dataSet (s .address) (s .value)

@@ -5,11 +5,13 @@ ghost use Prim.Native.Nat.{_+_, _≤_};
 ghost use lib.ListN.{length};
 ghost use Rattle.text.specs.Writing.{stored};
 ghost use Rattle.values.specs.Registers.{energyNo};
-ghost use Rattle.datasets.specs.Sets.{lineOf, timeSet, dateSet, serialSet, accountSet, energySet, tableSet};
+ghost use Rattle.datasets.specs.Sets.{lineOf, timeSet, dateSet, serialSet, accountSet, energySet, tableSet, closedSet, keptSet};
 use clock::Date;
+use clock::Stamp;
 use clock::Time;
 use values::Energy;
 use values::TableNo;
+use values::ZoneNo;
 
 // A time as `0.9.1(hh:nn:ss)`.
 pub fn put_time_set(buf: &mut [u8], at: usize, time: Time) -> usize
@@ -115,5 +117,51 @@ pub fn put_table_set(buf: &mut [u8], at: usize, t: TableNo, row: &[u8]) -> usize
     ];
     let a = text::put(buf, at, &opening);
     let b = put_row(buf, a, row);
+    text::put(buf, b, b")\r\n")
+}
+
+// The time of the period numbered k as `0.1.2*kk(yy-mm-dd hh:nn)`.
+pub fn put_closed_set(buf: &mut [u8], at: usize, k: u8, stamp: Stamp) -> usize
+    requires { ⌜ at + 26 ≤ length (now buf) ⌝ }
+    ensures next { λ r. ⌜ r ≡ at + 26 ⌝ }
+    ensures held { λ _. ⌜ now (buf .exit) ≡ stored (now (buf .entry)) at (lineOf (closedSet k stamp)) ⌝ }
+{
+    let opening = [
+        b'0',
+        b'.',
+        b'1',
+        b'.',
+        b'2',
+        b'*',
+        48 + k / 10 % 10,
+        48 + k % 10,
+        b'(',
+    ];
+    let a = text::put(buf, at, &opening);
+    let b = values::writing::put_stamp(buf, a, stamp);
+    text::put(buf, b, b")\r\n")
+}
+
+// A zone's counter in the period numbered k as `15.8.n*kk(eeeeee.eee*kWh)`.
+pub fn put_kept_set(buf: &mut [u8], at: usize, k: u8, z: ZoneNo, wh: u32) -> usize
+    requires { ⌜ at + 27 ≤ length (now buf) ⌝ }
+    ensures next { λ r. ⌜ r ≡ at + 27 ⌝ }
+    ensures held { λ _. ⌜ now (buf .exit) ≡ stored (now (buf .entry)) at (lineOf (keptSet k (z .0) wh)) ⌝ }
+{
+    let n = z.0;
+    let opening = [
+        b'1',
+        b'5',
+        b'.',
+        b'8',
+        b'.',
+        48 + n % 10,
+        b'*',
+        48 + k / 10 % 10,
+        48 + k % 10,
+        b'(',
+    ];
+    let a = text::put(buf, at, &opening);
+    let b = values::writing::put_counter(buf, a, wh);
     text::put(buf, b, b")\r\n")
 }

@@ -1,4 +1,4 @@
--- The delivery of a post, over all posts and all states: the frames of its entries fed to a meter that is ready, with rooms of 2,048 or more.
+-- The delivery of a post, over all posts and all states: the frames of its entries fed to a meter that is ready, with rooms of 4,096 or more.
 -- Assumes nothing.
 use mathlib.Core.Path.{_≡_, refl, sym, ap, ap₂, subst, _∙_}
 use mathlib.Core.Bool.{true}

@@ -47,6 +47,7 @@ still-fit a s g n row fit good =
             clock = f .clock;
             counters = f .counters;
             tables = tables-stay-good tables (g .tables) (rowStart n) row (row-zones row good) (f .tables);
+            archive = f .archive;
           });
     }
 

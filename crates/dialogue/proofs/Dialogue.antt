@@ -17,7 +17,7 @@ use Rattle.values.specs.Edition.{editionTables}
 use Rattle.values.specs.Texts.{serialText}
 use Rattle.values.proofs.Rules.{digits-long, serial-text-long}
 use Rattle.frames.specs.Frames.{closed, frameOf, bareFrame, onWire}
-use Rattle.frames.specs.Session.{signOn, signOnTo, confirmation, goodSpeed}
+use Rattle.frames.specs.Session.{signOn, closingSignOn, signOnTo, confirmation, goodSpeed}
 use Rattle.state.specs.declared.Registers.{Registers}
 use Rattle.state.specs.declared.Meter.{Meter}
 use Rattle.state.proofs.Parts.{slow-low}
@@ -26,12 +26,12 @@ use Rattle.commands.specs.declared.Built.{Built}
 use Rattle.commands.specs.Building.{goodChoice, builtIn, keptOr, Builds}
 use Rattle.commands.specs.Spoken.{Command, enter, password, readClock, readSerial, readAccount, readTotal, readZone, readTable, writeClock, writeAccount, writeTable, spoken}
 use Rattle.dialogue.specs.Feeding.{saidIn, atLast}
-use Rattle.commands.specs.Messages.{Message, call, callTo, confirm, command, leave, textOf, goodMessage}
+use Rattle.commands.specs.Messages.{Message, call, close, callTo, confirm, command, leave, textOf, goodMessage}
 use Rattle.dialogue.specs.Messages.{allowedIn, triedWith, obeyed, outcomeOf, Listens, Taken, misheard}
 use Rattle.dialogue.proofs.Feeding.{Fed, fed-in}
 use Rattle.dialogue.proofs.Held.{Fit, idle, idle-formed, idle-is, fit-is}
 use Rattle.dialogue.proofs.Commands.{bodyOf, command-fed}
-use Rattle.dialogue.proofs.Session.{call-fed, call-to-fed, confirm-fed, leave-fed}
+use Rattle.dialogue.proofs.Session.{call-fed, close-fed, call-to-fed, confirm-fed, leave-fed}
 
 -- nothing at each byte but the last, and there what the message comes to
 abbrev pub FedAs : Meter → Message → Type 0
@@ -61,6 +61,7 @@ at-low mode n a s g x low e fit f =
 pub message-fed : (mode a s : ℕ) (g : Registers) (x : Message) → Fit mode a s g → goodMessage editionTables x ≡ true → allowedIn x mode ≡ true → FedAs (idle mode a s g) x
 unfolding textOf goodMessage allowedIn
 message-fed mode a s g call fit h k = unfold signOn in (at-low mode 0 a s g call (lit≤ tt) k fit (call-fed a g))
+message-fed mode a s g close fit h k = unfold closingSignOn in (at-low mode 0 a s g close (lit≤ tt) k fit (close-fed a g))
 message-fed mode a s g (callTo x) fit h k =
     at-low mode 0 a s g (callTo x) (lit≤ tt) k fit
     (λ f.
@@ -126,6 +127,7 @@ command-heard m (writeTable n row) = refl
 pub never-misheard : (m : Meter) (x : Message) → misheard (outcomeOf m x .number) ≡ false
 unfolding outcomeOf misheard
 never-misheard m call = refl
+never-misheard m close = refl
 never-misheard m (callTo s) = either (sameText s (m .registers .facts .serial) || sameText s (replicate 10 48)) _ _ refl refl
 never-misheard m (confirm v y) = either (eqb y 49) _ _ refl refl
 never-misheard m (command c) = command-heard m c

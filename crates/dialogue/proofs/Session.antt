@@ -22,10 +22,11 @@ use Rattle.values.proofs.Rules.{digits-long, serial-text-long}
 use Rattle.datasets.proofs.Characters.{Within, within}
 use Rattle.frames.specs.Frames.{bareFrame, onWire}
 use Rattle.frames.specs.Commands.{B0}
-use Rattle.frames.specs.Session.{signOn, signOnTo, confirmation, goodSpeed, speedSaid}
+use Rattle.frames.specs.Session.{signOn, closingSignOn, signOnTo, confirmation, goodSpeed, speedSaid}
 use Rattle.state.specs.Sizes.{replyRoom}
 use Rattle.state.specs.declared.Registers.{Registers}
 use Rattle.state.specs.WellFormed.{limit}
+use Rattle.state.specs.Closing.{closing}
 use Rattle.state.proofs.Parts.{formed-registers, formed-facts}
 use Rattle.receiving.specs.declared.Hearing.the-variants.{Line, Confirm}
 use Rattle.deciding.specs.declared.Verdict.the-variants.{Leave}
@@ -34,12 +35,12 @@ use Rattle.deciding.specs.Verdict.{bareVerdict, shapeVerdict, verdict}
 use Rattle.replies.specs.Fixed.{identification}
 use Rattle.meter.specs.Outcomes.{Outcome, silent, saying, ack}
 use Rattle.meter.specs.Acting.{acted}
-use Rattle.meter.specs.SignOn.{signsOnBy, confirms, wantsBlock, wantsProgram}
+use Rattle.meter.specs.SignOn.{signsOnBy, closesBy, confirms, wantsBlock, wantsPeriods, wantsProgram}
 use Rattle.meter.specs.Character.{lineEnded, confirmed, heard, character}
 use Rattle.commands.specs.Building.{goodChoice}
 use Rattle.reading.proofs.Leading.{or-cases}
 use Rattle.dialogue.specs.Feeding.{saidIn, atLast}
-use Rattle.commands.specs.Messages.{call, callTo, confirm, leave}
+use Rattle.commands.specs.Messages.{call, close, callTo, confirm, leave}
 use Rattle.dialogue.specs.Messages.{outcomeOf}
 use Rattle.dialogue.proofs.Feeding.{Fed, fed-none, fed-next}
 use Rattle.dialogue.proofs.Held.{Fit, idle, holding, heard-as, held-is, holding-formed, begun}
@@ -52,27 +53,29 @@ inLine-small : Within inLine (between 0 127)
 unfolding between besides
 inLine-small = within inLine (between 0 127) refl (λ x h. omega (arith, leb-true x 127 (and-left (leb x 127) _ h)))
 
--- identified, or nothing said
-abbrev called : ℕ → Registers → Bool → Outcome
-called a g ours = cond ours (saying 1 0 identification (idle 1 a 0 g)) (silent 0 (idle 0 a 0 g))
+-- identified, a period being closed before it, or nothing said
+abbrev called : ℕ → Registers → Bool → Bool → Outcome
+called a g ours closes =
+    cond ours (saying 1 0 identification (idle 1 a 0 g)) (cond closes (saying 1 0 identification (idle 1 a 0 (closing g))) (silent 0 (idle 0 a 0 g)))
 
 module _ (a : ℕ) (g : Registers) (fit : Fit 0 a 0 g) (ys : List ℕ) (plain : every inLine ys ≡ true) (long : length ys ≤ 20) where
-  line-ends : (ours : Bool) → signsOnBy (47 ∷ ys) (g .facts .serial) ≡ ours → character (holding 0 a 0 g 47 ys) replyRoom (sent 10) ≡ called a g ours
+  line-ends : (ours closes : Bool) → signsOnBy (47 ∷ ys) (g .facts .serial) ≡ ours → closesBy (47 ∷ ys) ≡ closes
+      → character (holding 0 a 0 g 47 ys) replyRoom (sent 10) ≡ called a g ours closes
   unfolding heard lineEnded limit
-  line-ends ours e =
+  line-ends ours closes e k =
       let f = holding-formed 0 a 0 g fit 47 inLine line-rule ys (omega arith) (every-weaker inLine (between 0 127) inLine-small ys plain) in
       heard-as (holding 0 a 0 g 47 ys) 10 Line f (lit< tt) (ends-line (length ys) _)
-      ∙ ap (λ (t : List ℕ). called a g (signsOnBy t (g .facts .serial))) (held-is 47 ys) ∙ ap (called a g) e
+      ∙ ap (λ (t : List ℕ). called a g (signsOnBy t (g .facts .serial)) (closesBy t)) (held-is 47 ys) ∙ ap₂ (called a g) e k
 
   -- '/', some characters and LF
-  line-fed : (ours : Bool) → signsOnBy (47 ∷ ys) (g .facts .serial) ≡ ours
-      → Fed (idle 0 a 0 g) (onWire ((47 ∷ ys) ++ (10 ∷ []))) (atLast (suc (length ys)) 0 (saidIn (called a g ours))) (called a g ours .next)
+  line-fed : (ours closes : Bool) → signsOnBy (47 ∷ ys) (g .facts .serial) ≡ ours → closesBy (47 ∷ ys) ≡ closes
+      → Fed (idle 0 a 0 g) (onWire ((47 ∷ ys) ++ (10 ∷ []))) (atLast (suc (length ys)) 0 (saidIn (called a g ours closes))) (called a g ours closes .next)
   unfolding limit
-  line-fed ours e =
-      let o = called a g ours in
+  line-fed ours closes e k =
+      let o = called a g ours closes in
       continued (idle 0 a 0 g) (holding 0 a 0 g 47 ys) (o .next) (47 ∷ ys) (10 ∷ []) (suc (length ys)) 0 (saidIn o ∷ [])
       (begun 0 a 0 g fit 47 inLine line-rule ys plain (omega arith))
-      (fed-next (holding 0 a 0 g 47 ys) (sent 10) o [] [] (o .next) (line-ends ours e) (fed-none (o .next)))
+      (fed-next (holding 0 a 0 g 47 ys) (sent 10) o [] [] (o .next) (line-ends ours closes e k) (fed-none (o .next)))
 
 -- two serials look the same just where they are
 same-shown : (s t : List ℕ) → length s ≡ 10 → length t ≡ 10 → sameText (serialText s) (serialText t) ≡ sameText s t
@@ -122,10 +125,18 @@ signs-on-by : (s ours : List ℕ) → length s ≡ 10 → length ours ≡ 10 →
 unfolding signsOnBy
 signs-on-by s ours hs ho = rw (to-serial-is s, not-any s hs, same-called s ours hs ho, same-called s (replicate 10 48) hs refl)
 
+closes-not : (s : List ℕ) → closesBy (47 ∷ toSerial s) ≡ false
+unfolding closesBy closingSignOn sameText matching
+closes-not s = refl
+
 module _ (a : ℕ) (g : Registers) (fit : Fit 0 a 0 g) where
   pub call-fed : Fed (idle 0 a 0 g) (onWire signOn) (atLast 4 0 (saidIn (outcomeOf (idle 0 a 0 g) call))) (outcomeOf (idle 0 a 0 g) call .next)
-  unfolding signOn signsOnBy sameText matching outcomeOf every besides
-  call-fed = line-fed a g fit (63 ∷ 33 ∷ 13 ∷ []) refl (lit≤ tt) true refl
+  unfolding signOn closingSignOn signsOnBy closesBy sameText matching outcomeOf every besides
+  call-fed = line-fed a g fit (63 ∷ 33 ∷ 13 ∷ []) refl (lit≤ tt) true false refl refl
+
+  pub close-fed : Fed (idle 0 a 0 g) (onWire closingSignOn) (atLast 4 0 (saidIn (outcomeOf (idle 0 a 0 g) close))) (outcomeOf (idle 0 a 0 g) close .next)
+  unfolding signOn signOnTo closingSignOn signsOnBy closesBy sameText matching outcomeOf every besides
+  close-fed = line-fed a g fit (67 ∷ 33 ∷ 13 ∷ []) refl (lit≤ tt) false true refl refl
 
   pub call-to-fed : (s : List ℕ) → goodSerial s ≡ true
       → Fed (idle 0 a 0 g) (onWire (signOnTo s)) (atLast 15 0 (saidIn (outcomeOf (idle 0 a 0 g) (callTo s)))) (outcomeOf (idle 0 a 0 g) (callTo s) .next)
@@ -135,10 +146,10 @@ module _ (a : ℕ) (g : Registers) (fit : Fit 0 a 0 g) where
       let ours = sameText s (g .facts .serial) || sameText s (replicate 10 48) in
       let own = digits-long 10 (g .facts .serial) (formed-facts (g .facts) (formed-registers g (fit .registers) .facts) .serial) in
       let k = to-serial-long s n in
-      let o = called a g ours in
+      let o = called a g ours false in
       subst (λ (t : List ℕ). Fed (idle 0 a 0 g) (onWire t) (atLast 15 0 (saidIn o)) (o .next)) (to-serial-is s)
       (subst (λ (n : ℕ). Fed (idle 0 a 0 g) (onWire ((47 ∷ toSerial s) ++ (10 ∷ []))) (atLast (suc n) 0 (saidIn o)) (o .next)) k
-      (line-fed a g fit (toSerial s) (to-serial-plain s h) (omega (arith, k)) ours (signs-on-by s (g .facts .serial) n own)))
+      (line-fed a g fit (toSerial s) (to-serial-plain s h) (omega (arith, k)) ours false (signs-on-by s (g .facts .serial) n own) (closes-not s)))
 
 -- ---- a confirmation
 
@@ -162,19 +173,20 @@ module _ (a : ℕ) (g : Registers) (fit : Fit 1 a 0 g) where
       (begun 1 a 0 g fit 6 anything confirmation-rule (afterAck v y) plain (lit< tt))
       (fed-next held (sent 10) o [] [] (o .next) ends (fed-none (o .next)))
 
-  -- each of the three that the head says, at either speed
+  -- each of the four that the head says, at either speed
   pub record Choices (v : ℕ) : Type 0 where
     pub zero : Confirmed v 48
     pub one : Confirmed v 49
+    pub six : Confirmed v 54
     pub seven : Confirmed v 55
 
   slow-fed : Choices 48
-  unfolding confirmed confirms wantsBlock wantsProgram confirmation speedSaid sameText matching outcomeOf every between
-  slow-fed = record { zero = confirmation-fed 48 48 refl refl refl; one = confirmation-fed 48 49 refl refl refl; seven = confirmation-fed 48 55 refl refl refl }
+  unfolding confirmed confirms wantsBlock wantsPeriods wantsProgram confirmation speedSaid sameText matching outcomeOf every between
+  slow-fed = record { zero = confirmation-fed 48 48 refl refl refl; one = confirmation-fed 48 49 refl refl refl; six = confirmation-fed 48 54 refl refl refl; seven = confirmation-fed 48 55 refl refl refl }
 
   fast-fed : Choices 53
-  unfolding confirmed confirms wantsBlock wantsProgram confirmation speedSaid sameText matching outcomeOf every between
-  fast-fed = record { zero = confirmation-fed 53 48 refl refl refl; one = confirmation-fed 53 49 refl refl refl; seven = confirmation-fed 53 55 refl refl refl }
+  unfolding confirmed confirms wantsBlock wantsPeriods wantsProgram confirmation speedSaid sameText matching outcomeOf every between
+  fast-fed = record { zero = confirmation-fed 53 48 refl refl refl; one = confirmation-fed 53 49 refl refl refl; six = confirmation-fed 53 54 refl refl refl; seven = confirmation-fed 53 55 refl refl refl }
 
   any-speed : (v : ℕ) → goodSpeed v ≡ true → Choices v
   unfolding goodSpeed
@@ -187,8 +199,9 @@ module _ (a : ℕ) (g : Registers) (fit : Fit 1 a 0 g) where
   unfolding goodChoice
   confirm-fed v y k h =
       let c = any-speed v k in
-      ⊎-elim (λ e. ⊎-elim (is 48 (c .zero)) (is 49 (c .one)) (or-cases (eqb y 48) (eqb y 49) e)) (is 55 (c .seven))
-      (or-cases (eqb y 48 || eqb y 49) (eqb y 55) h)
+      ⊎-elim
+      (λ e. ⊎-elim (λ f. ⊎-elim (is 48 (c .zero)) (is 54 (c .six)) (or-cases (eqb y 48) (eqb y 54) f)) (is 55 (c .seven)) (or-cases (eqb y 48 || eqb y 54) (eqb y 55) e))
+      (is 49 (c .one)) (or-cases ((eqb y 48 || eqb y 54) || eqb y 55) (eqb y 49) h)
     where
       is : (n : ℕ) → Confirmed v n → eqb y n ≡ true → Confirmed v y
       is n f e = subst (Confirmed v) (sym (eqb-true y n e)) f

@@ -31,7 +31,7 @@ unfoldable pub left : Meter → (ℕ → ℕ) → List ℕ → Meter
 left m rooms [] = m
 left m rooms (b ∷ bs) = left (character m (rooms 0) b .next) (later rooms) bs
 
--- reply buffers of 2,048 bytes
+-- reply buffers of 4,096 bytes
 abbrev pub full : ℕ → ℕ
 full i = replyRoom
 

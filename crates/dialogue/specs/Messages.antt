@@ -20,13 +20,15 @@ use Rattle.replies.specs.declared.Ask.{Ask}
 use Rattle.replies.specs.declared.Ask.the-variants as ask
 use Rattle.replies.specs.Answers.{askedData}
 use Rattle.replies.specs.Block.{blockData}
-use Rattle.replies.specs.Fixed.{identification, passwordAsk}
+use Rattle.replies.specs.Periods.{longData}
+use Rattle.replies.specs.Fixed.{passwordAsk}
 use Rattle.state.specs.Setting.{inMode, withSpeed, withAttempts, withRegisters, withClock, withAccount, withTables, withRow}
 use Rattle.deciding.specs.declared.Verdict.{Verdict}
 use Rattle.deciding.specs.declared.Verdict.the-variants as verdict
 use Rattle.meter.specs.Outcomes.{Outcome, speedOf, silent, saying, nak, ack}
+use Rattle.meter.specs.Character.{signedOn, periodClosed, readOut}
 use Rattle.commands.specs.Spoken.{Command, enter, password, readClock, readSerial, readAccount, readTotal, readZone, readTable, writeClock, writeAccount, writeTable, lettersOf}
-use Rattle.commands.specs.Messages.{Message, call, callTo, confirm, command, leave}
+use Rattle.commands.specs.Messages.{Message, call, close, callTo, confirm, command, leave}
 use Rattle.dialogue.specs.Feeding.{saidIn, answered, left, atLast}
 
 -- P1 in mode 2, R1 in 3 and 4, W1 in 4
@@ -36,6 +38,7 @@ allowedAt c mode = cond (sameText (lettersOf c) P1) (eqb mode 2) (cond (sameText
 -- the sign-on in mode 0, the confirmation in 1, B0 in 2 to 4
 unfoldable pub allowedIn : Message → ℕ → Bool
 allowedIn call mode = eqb mode 0
+allowedIn close mode = eqb mode 0
 allowedIn (callTo serial) mode = eqb mode 0
 allowedIn (confirm v y) mode = eqb mode 1
 allowedIn (command c) mode = allowedAt c mode
@@ -80,14 +83,16 @@ obeyed m (writeClock c) = ack (speedOf m) (withRegisters m (withClock (m .regist
 obeyed m (writeAccount a) = ack (speedOf m) (withRegisters m (withAccount (m .registers) a))
 obeyed m (writeTable n row) = ack (speedOf m) (withRegisters m (withTables (m .registers) (withRow (m .registers .tables) n row)))
 
--- every reply in a session at its speed, a confirmation at the one that it names; a meter that is called by its own serial, or by zeros, identifies itself; another says nothing
+-- every reply in a session at its speed, a confirmation at the one that it names; a meter that is called by its own serial, or by zeros, identifies itself; another says nothing;
+-- [12]: `/C!` finds any meter and closes a period, and '6' asks for the closed periods too
 unfoldable pub outcomeOf : Meter → Message → Outcome
-outcomeOf m call = saying 1 0 identification (inMode m 1)
+outcomeOf m call = signedOn m
+outcomeOf m close = signedOn (periodClosed m)
 outcomeOf m (callTo serial) =
-    cond (sameText serial (m .registers .facts .serial) || sameText serial (replicate 10 (char "0"))) (saying 1 0 identification (inMode m 1)) (silent 0 m)
+    cond (sameText serial (m .registers .facts .serial) || sameText serial (replicate 10 (char "0"))) (signedOn m) (silent 0 m)
 outcomeOf m (confirm v y) =
     cond (eqb y (char "1")) (saying 1 (speedSaid v) passwordAsk (withSpeed (inMode m 2) (speedSaid v)))
-    (saying 1 (speedSaid v) (blockOf (blockData editionTables (m .registers))) (inMode m 0))
+    (readOut m (speedSaid v) (cond (eqb y (char "6")) (longData editionTables (m .registers)) (blockData editionTables (m .registers))))
 outcomeOf m (command c) = obeyed m c
 outcomeOf m leave = ack (speedOf m) (inMode m 0)
 

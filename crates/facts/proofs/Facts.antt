@@ -2,9 +2,10 @@
 use mathlib.Core.Path.{_≡_, refl, ap, _∙_}
 use mathlib.Core.Bool.{true, cond, _&&_}
 use mathlib.Core.List.{List, [], _∷_, _++_, map}
-use Prim.Native.Nat.{ℕ, _+_, _-_}
+use Prim.Native.Nat.{ℕ, _+_, _-_, _*_}
+use native.Mathlib.Omega.{arith}
 use lib.Count.{ones}
-use lib.ListN.{getD, set, replicate}
+use lib.ListN.{length, getD, set, replicate}
 use Rattle.line.specs.Quoted.{chars}
 use Rattle.line.specs.Controls.{STX, ETX}
 use Rattle.line.specs.Characters.{seven, sent}
@@ -16,6 +17,7 @@ use Rattle.text.specs.Layout.{layoutText, pattern, agrees, fits}
 use Rattle.clock.specs.Dates.{leap, thirty, daysIn, realDate, realTime}
 use Rattle.clock.specs.Seconds.{realClock, dateOf}
 use Rattle.clock.specs.Weekday.{daysBefore, dayNumber, weekday}
+use Rattle.values.specs.Edition.{editionTables}
 use Rattle.values.specs.Registers.{energyNo, zoneEnergy}
 use Rattle.values.specs.Texts.{tableText, counterText}
 use Rattle.values.specs.Reading.{clockRead}
@@ -24,11 +26,15 @@ use Rattle.frames.specs.Commands.{B0, P0, P1, W1, bracketed, askClock, askSeria
 use Rattle.frames.specs.Session.{enterData}
 use Rattle.state.specs.declared.Counters.{Counters}
 use Rattle.state.specs.declared.Registers.{Registers}
+use Rattle.state.specs.WellFormed.{registersGood}
 use Rattle.state.specs.Setting.{counterOf}
 use Rattle.datasets.specs.Sets.{dataSet, linesOf, energySet}
 use Rattle.replies.specs.declared.Ask.the-variants.{Energy}
 use Rattle.replies.specs.Shown.{energy}
 use Rattle.replies.specs.Answers.{askedSets, askedData}
+use Rattle.replies.specs.Periods.{longData}
+use Rattle.replies.proofs.Good.{register-ground}
+use Rattle.replies.proofs.Periods.{long-block-long}
 use Rattle.deciding.specs.declared.Verdict.the-variants.{Refuse, Read, WriteClock}
 use Rattle.deciding.specs.Asking.{energyAsked, asked}
 use Rattle.deciding.specs.Telling.{enclosed, inner, clockTold, told}
@@ -51,6 +57,10 @@ counter-wraps : (c : Counters) → counterOf c 1 ≡ 999999999 → counterOf (co
 unfolding counted
 counter-wraps c h = first-wraps (c .zones) h
 
+-- so many characters, whatever the periods hold
+long-is : (g : Registers) → registersGood g ≡ true → length (blockOf (longData editionTables g)) ≡ 1063 + g .archive .count * 134
+long-is g h = long-block-long g (register-ground g h .lengths)
+
 pub facts : Facts
 unfolding ones bareFrame frameOf closed bccOf seven sent bracketed enterData setTable tableText layoutText decimal asked energyAsked askClock askSerial askAccount askEnergy sameText matching weekday dayNumber daysBefore tableFor leap told enclosed inner clockTold clockRead pattern fits agrees isDigit between numberAt valueOf valueFrom realClock realDate realTime daysIn thirty
 facts =
@@ -72,4 +82,7 @@ facts =
       empty-text = only-answer [] 20 0 empty-answer;
       only-last = only-answer (chars "!") 20 0 last-answer;
       past-24 = λ row good. only-answer (lineText 24 row ++ chars "1") 20 36 (past-answer row good);
+      long-block = long-is;
+      longest-block = λ g h. omega (arith, long-is g h, register-ground g h .lengths .kept);
+      twelve-periods = λ g h e. omega (arith, long-is g h, e);
     }

@@ -2,8 +2,8 @@
 use mathlib.Core.Path.{_≡_}
 use mathlib.Core.Bool.{true, false}
 use mathlib.Core.List.{List, [], _∷_, _++_}
-use Prim.Native.Nat.{ℕ}
-use lib.ListN.{getD, replicate}
+use Prim.Native.Nat.{ℕ, _+_, _*_, _≤_}
+use lib.ListN.{length, getD, replicate}
 use Rattle.line.specs.Quoted.{char, chars}
 use Rattle.line.specs.Controls.{SOH, STX, ETX}
 use Rattle.values.specs.Edition.{editionTables, rowLength}
@@ -15,9 +15,12 @@ use Rattle.frames.specs.Commands.{B0, P0, P1, W1, setTable}
 use Rattle.frames.specs.Session.{enterData}
 use Rattle.state.specs.declared.Counters.{Counters}
 use Rattle.state.specs.declared.Registers.{Registers}
+use Rattle.state.specs.Sizes.{periodPlaces}
+use Rattle.state.specs.WellFormed.{registersGood}
 use Rattle.state.specs.Setting.{counterOf}
 use Rattle.replies.specs.declared.Ask.the-variants.{Energy}
 use Rattle.replies.specs.Answers.{askedData}
+use Rattle.replies.specs.Periods.{longData}
 use Rattle.deciding.specs.declared.Verdict.the-variants.{Refuse, Read, WriteClock}
 use Rattle.deciding.specs.Asking.{asked}
 use Rattle.deciding.specs.Telling.{told}
@@ -64,3 +67,7 @@ pub record Facts : Type 0 where
   pub only-last : Answers (chars "!") 20 0
   -- table 24's line, then '1': 20 at place 36
   pub past-24 : (row : List ℕ) → goodRow row ≡ true → Answers (lineText 24 row ++ chars "1") 20 36
+  -- [12], beside document 01's: with its closed periods a block has 134 characters more for each; the longest, of twelve, has 2,671
+  pub long-block : (g : Registers) → registersGood g ≡ true → length (blockOf (longData editionTables g)) ≡ 1063 + g .archive .count * 134
+  pub longest-block : (g : Registers) → registersGood g ≡ true → length (blockOf (longData editionTables g)) ≤ 2671
+  pub twelve-periods : (g : Registers) → registersGood g ≡ true → g .archive .count ≡ periodPlaces → length (blockOf (longData editionTables g)) ≡ 2671

@@ -68,6 +68,6 @@ pointedAt s l =
 abbrev pub endOf : Lookup → ℕ
 endOf l = l .«value_start» + l .«value_length» + 3
 
--- what a set can have as its address: 1 to 16 letters, digits or '.'
+-- what a set can have as its address: 1 to 16 letters, digits, '.' or '*'
 unfoldable pub canBe : List ℕ → Bool
 canBe a = between 1 16 (length a) && every isAddress a

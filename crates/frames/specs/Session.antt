@@ -12,6 +12,10 @@ use Rattle.frames.specs.Commands.{bracketed}
 unfoldable pub signOn : List ℕ
 signOn = chars "/?!\r\n"
 
+-- /C! CR LF, which closes a period
+unfoldable pub closingSignOn : List ℕ
+closingSignOn = chars "/C!\r\n"
+
 -- /?nnn nnnnnnn! CR LF
 unfoldable pub signOnTo : List ℕ → List ℕ
 signOnTo serial = chars "/?" ++ (serialText serial ++ chars "!\r\n")

@@ -6,7 +6,7 @@ ghost use Rattle.values.specs.Edition.{editionTables};
 ghost use Rattle.values.specs.Registers.{goodSerial, goodPassword, goodAccount, goodRow, goodTable, goodZone};
 ghost use Rattle.frames.specs.Frames.{frameOf, bareFrame, onWire};
 ghost use Rattle.frames.specs.Commands.{B0, P1, R1, W1, askClock, askSerial, askAccount, askEnergy, askTable, setClock, setAccount, setTable};
-ghost use Rattle.frames.specs.Session.{signOn, signOnTo, confirmation, goodSpeed, enterData, passwordData};
+ghost use Rattle.frames.specs.Session.{signOn, closingSignOn, signOnTo, confirmation, goodSpeed, enterData, passwordData};
 ghost use Rattle.commands.specs.Building.{goodChoice, Builds};
 use clock::Clock;
 use clock::Date;
@@ -20,6 +20,16 @@ pub extern "C" fn dirgemist_head_sign_on(out: &mut [u8], size: &mut usize) -> u8
     ensures { λ r. ⌜ Builds (now (out .entry)) (true) (onWire signOn) (record { number = r; length = now (size .exit) }) (now (out .exit)) ⌝ }
 {
     let b = commands::sign_on(out);
+    *size = b.length;
+    b.number
+}
+
+// The sign-on that closes a period.
+#[no_mangle]
+pub extern "C" fn dirgemist_head_close(out: &mut [u8], size: &mut usize) -> u8
+    ensures { λ r. ⌜ Builds (now (out .entry)) (true) (onWire closingSignOn) (record { number = r; length = now (size .exit) }) (now (out .exit)) ⌝ }
+{
+    let b = commands::close(out);
     *size = b.length;
     b.number
 }

@@ -1,7 +1,8 @@
 // Values read back, for C: 1, or 25 with zeros; a buffer under a value's size is kept, with 26.
 ghost use mathlib.Core.Path.{_≡_};
 ghost use lib.ListN.{length};
-ghost use Rattle.values.specs.Reading.{dateRead, timeRead, counterRead};
+ghost use Rattle.clock.specs.Seconds.{dateOf};
+ghost use Rattle.values.specs.Reading.{dateRead, timeRead, stampRead, counterRead};
 ghost use Rattle.values.specs.Serials.{serialRead, accountRead, rowRead};
 ghost use Rattle.headlink.specs.Telling.{valueNumber, Tells};
 
@@ -93,6 +94,30 @@ pub extern "C" fn dirgemist_head_value_time(
     *hour = t.hour;
     *minute = t.minute;
     *second = t.second;
+    number(v.ok)
+}
+
+// A closed period's time.
+#[no_mangle]
+pub extern "C" fn dirgemist_head_value_period(
+    value: &[u8],
+    year: &mut u16,
+    month: &mut u8,
+    day: &mut u8,
+    hour: &mut u8,
+    minute: &mut u8,
+) -> u8
+    ensures number { λ r. ⌜ r ≡ valueNumber (stampRead (now (value .entry)) .ok) ⌝ }
+    ensures period { λ _. ⌜ record { date = dateOf (now (year .exit)) (now (month .exit)) (now (day .exit)); hour = now (hour .exit); minute = now (minute .exit) } ≡ stampRead (now (value .entry)) .stamp ⌝ }
+{
+    let v = values::reading::read_stamp(value);
+    let t = v.stamp;
+    let d = t.date;
+    *year = d.year;
+    *month = d.month;
+    *day = d.day;
+    *hour = t.hour;
+    *minute = t.minute;
     number(v.ok)
 }
 

@@ -15,16 +15,23 @@ use Rattle.clock.specs.Seconds.{realClock}
 use Rattle.clock.proofs.Real.{date-facts}
 use Rattle.state.specs.Sizes.{heldPlaces, tables}
 use Rattle.state.specs.declared.Meter.{Meter}
-use Rattle.state.specs.WellFormed.{countersGood, wellFormed}
+use Rattle.state.specs.WellFormed.{countersGood, archiveGood, wellFormed}
 use Rattle.state.proofs.Parts.{formed, formed-registers, Long, long}
+use Rattle.state.proofs.Archives.{formed-archive}
 use Rattle.replies.specs.Shown.{Lengths}
 
 -- a piece of what is held is as long as it is asked to be
 pub piece-long : (m : Meter) → wellFormed m ≡ true → (a n : ℕ) → a + n ≤ heldPlaces → length (take n (drop a (m .receiver .held))) ≡ n
 piece-long m h a n r = length-take-le n (drop a (m .receiver .held)) (omega (arith, length-drop a (m .receiver .held), long m h .held))
 
+pub archive-good : (m : Meter) → wellFormed m ≡ true → archiveGood (m .registers .archive) ≡ true
+archive-good m h = formed-registers (m .registers) (formed m h .registers) .archive
+
 pub lengths : (m : Meter) → wellFormed m ≡ true → Lengths tables (m .registers)
-lengths m h = let l = long m h in record { serial = l .serial; account = l .account; rows = l .tables }
+lengths m h =
+    let l = long m h in
+    let a = formed-archive (m .registers .archive) (archive-good m h) in
+    record { serial = l .serial; account = l .account; rows = l .tables; places = a .long; kept = a .count }
 
 pub table-low : (n : ℕ) → goodTable tables n ≡ true → 1 ≤ n
 unfolding goodTable between

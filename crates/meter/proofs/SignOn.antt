@@ -12,8 +12,8 @@ use Rattle.text.specs.Writing.{stored, holding}
 use Rattle.text.proofs.Matching.{same-snoc}
 use Rattle.text.proofs.Writing.{and-then, stored-holding}
 use Rattle.values.specs.Texts.{serialText}
-use Rattle.frames.specs.Session.{signOn, signOnTo, confirmation}
-use Rattle.meter.specs.SignOn.{ourLine, signsOnBy, confirms}
+use Rattle.frames.specs.Session.{signOn, closingSignOn, signOnTo, confirmation}
+use Rattle.meter.specs.SignOn.{ourLine, signsOnBy, closesBy, confirms}
 
 line-same : (line x : List ℕ) → sameText (line ++ (10 ∷ [])) (x ++ (10 ∷ [])) ≡ sameText line x
 line-same line x = same-snoc line x 10 10 ∙ and-true (sameText line x)
@@ -38,6 +38,10 @@ signs-by-held line serial =
     let b = sym (line-same line (ourLine serial)) ∙ ap (sameText (line ++ (10 ∷ []))) (our-line-ends serial) in
     let c = sym (line-same line zeros) ∙ ap (sameText (line ++ (10 ∷ []))) (our-line-ends (replicate 10 48)) in
     ap₂ _||_ (ap₂ _||_ a b) (zero-line line ∙ c)
+
+pub closes-by-held : (line : List ℕ) → sameText line (47 ∷ 67 ∷ 33 ∷ 13 ∷ []) ≡ closesBy line
+unfolding closesBy closingSignOn
+closes-by-held line = sym (line-same line (47 ∷ 67 ∷ 33 ∷ 13 ∷ []))
 
 pub confirms-by-held : (five : List ℕ) (c y : ℕ)
     → ((sameText five (6 ∷ 48 ∷ 53 ∷ y ∷ 13 ∷ []) && eqb c 10) || (sameText five (6 ∷ 48 ∷ 48 ∷ y ∷ 13 ∷ []) && eqb c 10)) ≡ confirms five c y

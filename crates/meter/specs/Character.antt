@@ -17,33 +17,49 @@ use Rattle.receiving.specs.Hearing.{hearing}
 use Rattle.receiving.specs.Receivers.{heldText, lastHeld, hurtPlace, keptReceiver, restartedReceiver}
 use Rattle.deciding.specs.Verdict.{verdict}
 use Rattle.replies.specs.Block.{blockData}
+use Rattle.replies.specs.Periods.{longData}
 use Rattle.replies.specs.Fixed.{identification, passwordAsk}
-use Rattle.state.specs.Setting.{withReceiver, inMode, withSpeed}
-use Rattle.meter.specs.Outcomes.{Outcome, silent, unheard, saying, atPlace, nak}
-use Rattle.meter.specs.SignOn.{signsOnBy, wantsBlock, wantsProgram}
+use Rattle.state.specs.Setting.{withReceiver, inMode, withSpeed, withRegisters}
+use Rattle.state.specs.Closing.{closing}
+use Rattle.meter.specs.Outcomes.{Outcome, silent, unheard, saying, nak, atPlace}
+use Rattle.meter.specs.SignOn.{signsOnBy, closesBy, wantsBlock, wantsPeriods, wantsProgram}
 use Rattle.meter.specs.Acting.{acted}
 
 -- a damaged character is held as 0
 unfoldable pub symbol : ℕ → ℕ
 symbol b = cond (damagedAt b) 0 (seven b)
 
--- an unmarked line that signs on is answered at speed 0, then mode 1; any other line: empty, answer 0
+-- answered at speed 0, then mode 1
+abbrev pub signedOn : Meter → Outcome
+signedOn m = saying 1 0 identification (inMode m 1)
+
+-- the meter with a period closed
+abbrev pub periodClosed : Meter → Meter
+periodClosed m = withRegisters m (closing (m .registers))
+
+-- an unmarked line signs on, `/C!` after a period is closed; any other line: empty, answer 0
 unfoldable pub lineEnded : Meter → Outcome
 lineEnded m =
     cond (marked (m .receiver)) (silent 0 (inMode m 0))
-    (cond (signsOnBy (heldText (m .receiver)) (m .registers .facts .serial)) (saying 1 0 identification (inMode m 1))
-    (silent 0 (inMode m 0)))
+    (cond (signsOnBy (heldText (m .receiver)) (m .registers .facts .serial)) (signedOn m)
+    (cond (closesBy (heldText (m .receiver))) (signedOn (periodClosed m))
+    (silent 0 (inMode m 0))))
 
 -- six characters, the last of them c: unmarked ACK 0 V Y CR LF; the reply goes at V's speed, and a session that starts keeps it
 abbrev pub confirmedSpeed : Meter → ℕ
 confirmedSpeed m = speedSaid (getD (m .receiver .held) 2 0)
 
+-- a block at a speed, then mode 0
+abbrev pub readOut : Meter → ℕ → List ℕ → Outcome
+readOut m speed content = saying 1 speed (blockOf content) (inMode m 0)
+
 unfoldable pub confirmed : Meter → ℕ → Bool → Outcome
 confirmed m c damaged =
     cond (marked (m .receiver) || damaged) (silent 2 (inMode m 0))
-    (cond (wantsBlock (heldText (m .receiver)) c) (saying 1 (confirmedSpeed m) (blockOf (blockData tables (m .registers))) (inMode m 0))
+    (cond (wantsBlock (heldText (m .receiver)) c) (readOut m (confirmedSpeed m) (blockData tables (m .registers)))
+    (cond (wantsPeriods (heldText (m .receiver)) c) (readOut m (confirmedSpeed m) (longData tables (m .registers)))
     (cond (wantsProgram (heldText (m .receiver)) c) (saying 1 (confirmedSpeed m) passwordAsk (withSpeed (inMode m 2) (confirmedSpeed m)))
-    (silent 2 (inMode m 0))))
+    (silent 2 (inMode m 0)))))
 
 -- a whole frame, c being its BCC; [2]: where one of its characters was damaged, the answer has the place of the first, else 0
 abbrev pub frameEnded : Meter → ℕ → Bool → Outcome
@@ -63,6 +79,6 @@ heard m c damaged TooLong = nak 5 m
 unfoldable pub taken : Meter → ℕ → Outcome
 taken m b = heard m (symbol b) (damagedAt b) (hearing (m .mode) (m .receiver .count) (lastHeld (m .receiver)) (symbol b))
 
--- a reply buffer under 2,048 gives 12, then a malformed state 14
+-- a reply buffer under 4,096 gives 12, then a malformed state 14
 unfoldable pub character : Meter → ℕ → ℕ → Outcome
 character m room b = cond (ltb room replyRoom) (unheard 12 m) (cond (wellFormed m) (taken m b) (unheard 14 m))

@@ -3,12 +3,12 @@ use mathlib.Core.Bool.{cond}
 use mathlib.Core.List.{[]}
 use Prim.Native.Nat.{ℕ}
 use lib.Dec.{eqb, ltb}
-use Rattle.clock.specs.Seconds.{nextSecond}
 use Rattle.state.specs.Sizes.{replyRoom}
 use Rattle.state.specs.declared.Meter.{Meter}
 use Rattle.state.specs.WellFormed.{wellFormed}
-use Rattle.state.specs.Setting.{inMode, withAttempts, withRegisters, withClock, withCounters}
+use Rattle.state.specs.Setting.{inMode, withAttempts, withRegisters, withCounters}
 use Rattle.tariff.specs.Zones.{zoneIn, counted}
+use Rattle.tariff.specs.Months.{secondLater}
 use Rattle.replies.specs.Fixed.{refused}
 use Rattle.meter.specs.Outcomes.{Outcome, silent, unheard, saying}
 
@@ -19,9 +19,9 @@ afterSilence m = cond (eqb (m .mode) 0) (silent 0 (inMode m 0)) (cond (eqb (m .m
 unfoldable pub silence : Meter → ℕ → Outcome
 silence m room = cond (ltb room replyRoom) (unheard 12 m) (cond (wellFormed m) (afterSilence m) (unheard 14 m))
 
--- one second
+-- one second; the one that reaches 00:00:00 on the first of a month closes a period
 abbrev pub afterTick : Meter → Outcome
-afterTick m = silent 1 (withRegisters m (withClock (m .registers) (nextSecond (m .registers .clock))))
+afterTick m = silent 1 (withRegisters m (secondLater (m .registers)))
 
 unfoldable pub tick : Meter → Outcome
 tick m = cond (wellFormed m) (afterTick m) (unheard 14 m)

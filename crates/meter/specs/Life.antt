@@ -29,7 +29,7 @@ met m room (Pulse wh) = pulse m wh
 met m room PowerUp = powerUp m
 met m room Unknown = unheard 99 m
 
--- the number that refuses an event whatever the state, or 0: 99; 13 for a pulse over 1,000,000; 12 for a reply buffer under 2,048
+-- the number that refuses an event whatever the state, or 0: 99; 13 for a pulse over 1,000,000; 12 for a reply buffer under 4,096
 unfoldable pub refusal : ℕ → Event → ℕ
 refusal room (Character b) = cond (ltb room replyRoom) 12 0
 refusal room Silence = cond (ltb room replyRoom) 12 0

@@ -14,7 +14,6 @@ use crate::answers;
 use state::Meter;
 use state::setting::in_mode;
 use state::setting::with_attempts;
-use state::setting::with_clock;
 use state::setting::with_counters;
 use state::setting::with_registers;
 
@@ -40,13 +39,13 @@ pub fn silence(m: Meter, reply: &mut [u8]) -> Answer
     answers::quiet(1, in_mode(m, 0))
 }
 
-// The clock one second on.
+// The clock one second on, and a period closed where a month starts.
 pub fn tick(m: Meter) -> Answer
+    requires { ⌜ wellFormed m ≡ true ⌝ }
     ensures { λ r. ⌜ r ≡ answerOf (afterTick m) ⌝ }
 {
     let g = m.registers;
-    let c = g.clock;
-    answers::quiet(1, with_registers(m, with_clock(g, clock::next_second(c))))
+    answers::quiet(1, with_registers(m, tariff::second_later(g)))
 }
 
 // The Wh of a pulse, counted in the zone of the hour.

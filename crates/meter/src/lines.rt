@@ -4,17 +4,21 @@ ghost use mathlib.Core.Bool.{true};
 ghost use Prim.Native.Nat.{_≤_};
 ghost use lib.ListN.{length};
 ghost use Rattle.text.specs.Writing.{holding};
-ghost use Rattle.frames.specs.Frames.{onWire};
+ghost use Rattle.frames.specs.Frames.{blockOf, onWire};
 ghost use Rattle.frames.specs.Session.{speedSaid};
-ghost use Rattle.state.specs.Sizes.{replyRoom};
+ghost use Rattle.replies.specs.Block.{blockData};
+ghost use Rattle.replies.specs.Periods.{longData};
+ghost use Rattle.replies.specs.Fixed.{identification};
+ghost use Rattle.state.specs.Sizes.{tables, replyRoom};
 ghost use Rattle.state.specs.WellFormed.{wellFormed};
 ghost use Rattle.meter.specs.Outcomes.{answerOf};
-ghost use Rattle.meter.specs.Character.{lineEnded, confirmed};
-ghost use Rattle.meter.specs.SignOn.{ourLine, signsOnBy, confirms, wantsBlock, wantsProgram};
+ghost use Rattle.meter.specs.Character.{signedOn, periodClosed, lineEnded, readOut, confirmed};
+ghost use Rattle.meter.specs.SignOn.{ourLine, signsOnBy, closesBy, confirms, wantsBlock, wantsPeriods, wantsProgram};
 use crate::Answer;
 use crate::answers;
 use state::Meter;
 use state::setting::in_mode;
+use state::setting::with_registers;
 use state::setting::with_speed;
 
 // The sign-on that names a serial, but for its LF.
@@ -38,6 +42,38 @@ fn signs_on(line: &[u8], serial: &[u8]) -> bool
     (text::same(line, b"/?!\r") | text::same(line, &ours)) | text::same(line, b"/?000 0000000!\r")
 }
 
+// Whether it closes a period.
+fn closes(line: &[u8]) -> bool
+    ensures { λ r. ⌜ r ≡ closesBy (now (line .entry)) ⌝ }
+{
+    text::same(line, b"/C!\r")
+}
+
+// The identification, then mode 1.
+fn sign_on(m: Meter, reply: &mut [u8]) -> Answer
+    requires { ⌜ replyRoom ≤ length (now reply) ⌝ }
+    ensures result { λ r. ⌜ r ≡ answerOf (signedOn m) ⌝ }
+    ensures held { λ _. ⌜ now (reply .exit) ≡ holding (now (reply .entry)) (onWire identification) ⌝ }
+{
+    let length = replies::identify(reply);
+    Answer {
+        number: 1,
+        length,
+        speed: 0,
+        place: 0,
+        next: in_mode(m, 1),
+    }
+}
+
+// The state with a period closed.
+fn close_period(m: Meter) -> Meter
+    requires { ⌜ wellFormed m ≡ true ⌝ }
+    ensures { λ r. ⌜ r ≡ periodClosed m ⌝ }
+{
+    let g = m.registers;
+    with_registers(m, state::closing::close(g))
+}
+
 // A line has ended.
 pub fn end_line(m: Meter, reply: &mut [u8]) -> Answer
     requires { ⌜ (wellFormed m ≡ true) × (replyRoom ≤ length (now reply)) ⌝ }
@@ -52,15 +88,12 @@ pub fn end_line(m: Meter, reply: &mut [u8]) -> Answer
     if r.mark == 1 {
         return answers::quiet(0, in_mode(m, 0));
     }
-    if signs_on(text::first(&held, r.count as usize), &serial) {
-        let length = replies::identify(reply);
-        return Answer {
-            number: 1,
-            length,
-            speed: 0,
-            place: 0,
-            next: in_mode(m, 1),
-        };
+    let line = text::first(&held, r.count as usize);
+    if signs_on(line, &serial) {
+        return sign_on(m, reply);
+    }
+    if closes(line) {
+        return sign_on(close_period(m), reply);
     }
     answers::quiet(0, in_mode(m, 0))
 }
@@ -82,6 +115,13 @@ fn wants_block(five: &[u8], c: u8) -> bool
     confirms(five, c, b'0') | confirms(five, c, b'7')
 }
 
+// Whether they confirm a reading with the closed periods.
+fn wants_periods(five: &[u8], c: u8) -> bool
+    ensures { λ r. ⌜ r ≡ wantsPeriods (now (five .entry)) c ⌝ }
+{
+    confirms(five, c, b'6')
+}
+
 // Whether they confirm programming.
 fn wants_program(five: &[u8], c: u8) -> bool
     ensures { λ r. ⌜ r ≡ wantsProgram (now (five .entry)) c ⌝ }
@@ -94,6 +134,40 @@ fn speed_said(v: u8) -> u8
     ensures { λ r. ⌜ r ≡ speedSaid v ⌝ }
 {
     if v == b'5' { 5 } else { 0 }
+}
+
+// The data block, then mode 0.
+fn read_out(m: Meter, speed: u8, reply: &mut [u8]) -> Answer
+    requires { ⌜ (wellFormed m ≡ true) × (replyRoom ≤ length (now reply)) ⌝ }
+    ensures result { λ r. ⌜ r ≡ answerOf (readOut m speed (blockData tables (m .registers))) ⌝ }
+    ensures held { λ _. ⌜ now (reply .exit) ≡ holding (now (reply .entry)) (onWire (blockOf (blockData tables (m .registers)))) ⌝ }
+{
+    let g = m.registers;
+    let length = replies::data_block(reply, g);
+    Answer {
+        number: 1,
+        length,
+        speed,
+        place: 0,
+        next: in_mode(m, 0),
+    }
+}
+
+// The same with the closed periods.
+fn read_out_long(m: Meter, speed: u8, reply: &mut [u8]) -> Answer
+    requires { ⌜ (wellFormed m ≡ true) × (replyRoom ≤ length (now reply)) ⌝ }
+    ensures result { λ r. ⌜ r ≡ answerOf (readOut m speed (longData tables (m .registers))) ⌝ }
+    ensures held { λ _. ⌜ now (reply .exit) ≡ holding (now (reply .entry)) (onWire (blockOf (longData tables (m .registers)))) ⌝ }
+{
+    let g = m.registers;
+    let length = replies::long_block(reply, g);
+    Answer {
+        number: 1,
+        length,
+        speed,
+        place: 0,
+        next: in_mode(m, 0),
+    }
 }
 
 // Six characters of confirmation, the last of them c.
@@ -111,15 +185,10 @@ pub fn confirm(m: Meter, c: u8, damaged: bool, reply: &mut [u8]) -> Answer
     let speed = speed_said(held[2]);
     let five = text::first(&held, r.count as usize);
     if wants_block(five, c) {
-        let g = m.registers;
-        let length = replies::data_block(reply, g);
-        return Answer {
-            number: 1,
-            length,
-            speed,
-            place: 0,
-            next: in_mode(m, 0),
-        };
+        return read_out(m, speed, reply);
+    }
+    if wants_periods(five, c) {
+        return read_out_long(m, speed, reply);
     }
     if wants_program(five, c) {
         let length = replies::ask_password(reply);

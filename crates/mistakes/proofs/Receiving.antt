@@ -1,5 +1,6 @@
 -- The wrong answers for `state::setting`, `receiving`, `deciding` and `tariff` are ruled out, by computing. Assumes nothing.
 use mathlib.Core.Path.{refl}
+use lib.ListN.{getD}
 use Prim.Native.Nat.{ℕ}
 use Rattle.line.specs.Characters.{seven}
 use Rattle.line.specs.Checksum.{bccOf}
@@ -8,7 +9,8 @@ use Rattle.text.specs.Writing.{stored}
 use Rattle.text.specs.Classes.{between, isDigit, isPrintable, matching, sameText}
 use Rattle.text.specs.Decimal.{decimal}
 use Rattle.text.specs.Layout.{layoutText, agrees, fits}
-use Rattle.clock.specs.Dates.{leap}
+use Rattle.clock.specs.Dates.{leap, thirty, daysIn, realDate, realTime}
+use Rattle.clock.specs.Seconds.{realStamp, nextMonth, nextDay, nextSecond}
 use Rattle.clock.specs.Weekday.{daysBefore, dayNumber, weekday}
 use Rattle.values.specs.Texts.{tableText}
 use Rattle.frames.specs.Frames.{closed, frameOf}
@@ -16,6 +18,11 @@ use Rattle.frames.specs.Commands.{bracketed, setTable}
 use Rattle.state.specs.declared.Receiver.{Receiver}
 use Rattle.state.specs.declared.Meter.{Meter}
 use Rattle.state.specs.declared.Counters.{Counters}
+use Rattle.state.specs.declared.Period.{Period}
+use Rattle.state.specs.declared.Registers.{Registers}
+use Rattle.state.specs.WellFormed.{below, zonesGood, noTime, unused, periodGood, everyPeriod, archiveGood}
+use Rattle.state.specs.Making.{noPeriod}
+use Rattle.state.specs.Closing.{periodsOf, closedWith}
 use Rattle.state.specs.Setting.{counterOf}
 use Rattle.receiving.specs.declared.Hearing.{Hearing}
 use Rattle.receiving.specs.declared.Hearing.the-variants.{Drop, Hold, Restart, Empty, Line, Confirm, Frame, TooLong}
@@ -25,9 +32,10 @@ use Rattle.deciding.specs.declared.Verdict.the-variants.{Refuse, Leave, Enter, 
 use Rattle.deciding.specs.Shape.{startGood, bareShape, content, framedShape}
 use Rattle.deciding.specs.Verdict.{entry, bareVerdict, framedVerdict, shapeVerdict, verdict}
 use Rattle.tariff.specs.Zones.{tableFor, zoneIn, counted}
-use Rattle.mistakes.specs.Samples.{serial, account, twos, newMeter, used, heldIn}
-use Rattle.mistakes.specs.Receiving.{Setting, Hearings, Decisions, Tariff}
-use Rattle.mistakes.proofs.Differing.{seen, number, byte}
+use Rattle.tariff.specs.Months.{monthStarts, monthClosed}
+use Rattle.mistakes.specs.Samples.{serial, account, twos, newMeter, used, heldIn, closedTwice, oldestFirst}
+use Rattle.mistakes.specs.Receiving.{Setting, Hearings, Decisions, Closing, Tariff}
+use Rattle.mistakes.proofs.Differing.{seen, number, flag, byte}
 
 -- each case as a number
 unfoldable hearingCase : Hearing → ℕ
@@ -85,12 +93,24 @@ setting =
       «counter_of» = (number refl, number refl);
     }
 
+pub closings : Closing
+unfolding stored decimal leap thirty daysIn realDate realTime realStamp every below zonesGood noTime unused periodGood everyPeriod archiveGood periodsOf closedWith serial account twos newMeter used closedTwice oldestFirst
+closings =
+    record {
+      «archive_good» = (flag refl, flag refl);
+      close = (seen (λ (g : Registers). g .archive .count) refl, seen (λ (g : Registers). counterOf (g .counters) 1) refl);
+      close-first = seen (λ (g : Registers). getD (g .archive .periods) 0 noPeriod .closed .date .year) refl;
+    }
+
 pub tariff : Tariff
-unfolding stored decimal leap daysBefore dayNumber weekday tableFor zoneIn counted serial account twos newMeter used heldIn
+unfolding stored decimal leap thirty daysIn nextMonth nextDay nextSecond monthStarts monthClosed periodsOf closedWith daysBefore dayNumber weekday tableFor zoneIn counted serial account twos newMeter used heldIn
 tariff =
     record {
       «table_for» = (number refl, number refl);
       «zone_in» = (number refl, number refl);
       count = (seen (λ (c : Counters). counterOf c 2) refl, seen (λ (c : Counters). counterOf c 1) refl);
       count-total = (seen (λ (c : Counters). c .total) refl, seen (λ (c : Counters). c .total) refl);
+      «second_later» = (seen (λ (g : Registers). g .archive .count) refl, seen (λ (g : Registers). g .archive .count) refl);
+      second-later-month =
+          (seen (λ (g : Registers). g .archive .count) refl, seen (λ (g : Registers). getD (g .archive .periods) 0 noPeriod .closed .date .day) refl);
     }

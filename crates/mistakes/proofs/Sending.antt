@@ -11,22 +11,24 @@ use Rattle.text.specs.Classes.{between, isDigit, isLetter}
 use Rattle.text.specs.Decimal.{decimal}
 use Rattle.text.specs.Layout.{layoutText}
 use Rattle.clock.specs.Dates.{leap, thirty, daysIn, realDate, realTime}
-use Rattle.clock.specs.Seconds.{realClock}
+use Rattle.clock.specs.Seconds.{realClock, realStamp}
 use Rattle.values.specs.Registers.{goodDigits, isAccountCharacter, goodAccount, energyNo}
-use Rattle.values.specs.Texts.{serialText, tableText, dateText, timeText, counterText}
+use Rattle.values.specs.Texts.{serialText, tableText, dateText, timeText, stampText, counterText}
 use Rattle.frames.specs.Frames.{closed, sealed, frameOf, bareFrame, blockOf}
 use Rattle.frames.specs.Commands.{bracketed}
 use Rattle.state.specs.declared.Meter.{Meter}
 use Rattle.state.specs.declared.Made.{Made}
-use Rattle.state.specs.WellFormed.{limit, firstGood, heldGood, markGood, hurtGood, receiverGood, below, zonesGood, sumOf, total, tablesGood, factsGood, factoryGood, registersGood, wellFormed, speedGood}
+use Rattle.state.specs.WellFormed.{limit, firstGood, heldGood, markGood, receiverGood, below, zonesGood, sumOf, total, tablesGood, noTime, unused, periodGood, everyPeriod, archiveGood, factsGood, factoryGood, registersGood, wellFormed, speedGood, hurtGood}
 use Rattle.state.specs.Making.{madeOf}
+use Rattle.state.specs.Closing.{periodsOf, closedWith}
 use Rattle.datasets.specs.Sets.{dataSet, linesOf}
 use Rattle.replies.specs.Shown.{energy, rowOf}
 use Rattle.replies.specs.Answers.{askedSets, askedData}
 use Rattle.replies.specs.Block.{factSets, energySets, tableSets, blockSets, blockData}
+use Rattle.replies.specs.Periods.{periodSets, archiveSets, longSets, longData}
 use Rattle.replies.specs.Fixed.{passwordAsk}
 use Rattle.state.specs.Setting.{inMode}
-use Rattle.mistakes.specs.Samples.{serial, account, password, twos, newMeter, used, heldIn}
+use Rattle.mistakes.specs.Samples.{serial, account, password, twos, newMeter, used, closedTwice, oldestFirst, heldIn}
 use Rattle.mistakes.specs.Sending.{Frames, States, Sets, Replies}
 use Rattle.mistakes.proofs.Differing.{seen, number, flag, byte}
 
@@ -36,13 +38,14 @@ frames = record { seal = (byte 4 refl, byte 5 refl); send = (byte 1 refl, byte 0
 
 -- the states, and that a new meter in programming mode is well-formed
 computed : States × (wellFormed (inMode newMeter 4) ≡ true)
-unfolding every between isDigit isLetter decimal leap thirty daysIn realDate realTime realClock goodDigits isAccountCharacter goodAccount limit firstGood heldGood markGood hurtGood receiverGood below zonesGood sumOf total tablesGood factsGood factoryGood registersGood wellFormed madeOf serial account password newMeter heldIn stored speedGood
+unfolding every between isDigit isLetter decimal leap thirty daysIn realDate realTime realClock goodDigits isAccountCharacter goodAccount limit firstGood heldGood markGood hurtGood receiverGood below zonesGood sumOf total tablesGood factsGood factoryGood registersGood wellFormed madeOf serial account password newMeter heldIn stored speedGood realStamp noTime unused periodGood everyPeriod archiveGood
 computed = (
   record {
     «limit_of» = (number refl, number refl);
     «is_well_formed» = (flag refl, flag refl);
     is-well-formed-place = (flag refl, flag refl);
     is-well-formed-total = (flag refl, flag refl);
+    is-well-formed-archive = (flag refl, flag refl);
     blank = (seen (λ (m : Meter). m .attempts) refl, seen (λ (m : Meter). getD (m .registers .account) 0 0) refl);
     make = (seen (λ (r : Made). r .number) refl, seen (λ (r : Made). getD (r .meter .registers .facts .serial) 0 0) refl);
   },
@@ -56,7 +59,7 @@ pub ready-formed : wellFormed (inMode newMeter 4) ≡ true
 ready-formed = computed .1
 
 pub sets : Sets
-unfolding stored decimal layoutText serialText tableText dateText timeText counterText dataSet energyNo serial account twos
+unfolding stored decimal layoutText serialText tableText dateText timeText stampText counterText dataSet energyNo serial account twos
 sets =
     record {
       «put_time_set» = (byte 4 refl, byte 15 refl);
@@ -65,10 +68,12 @@ sets =
       «put_account_set» = (byte 0 refl, byte 6 refl);
       «put_energy_set» = (byte 5 refl, byte 12 refl);
       «put_table_set» = (byte 7 refl, byte 32 refl);
+      «put_closed_set» = (byte 7 refl, byte 19 refl);
+      «put_kept_set» = (byte 5 refl, byte 13 refl);
     }
 
 pub replies : Replies
-unfolding ones seven sent bccOf holding closed frameOf bareFrame blockOf bracketed stored decimal layoutText serialText tableText dateText timeText counterText dataSet linesOf energy energyNo rowOf askedSets askedData factSets energySets tableSets blockSets blockData passwordAsk serial account twos newMeter used
+unfolding ones seven sent bccOf holding closed frameOf bareFrame blockOf bracketed stored decimal layoutText serialText tableText dateText timeText stampText counterText dataSet linesOf periodsOf closedWith periodSets archiveSets longSets longData closedTwice oldestFirst energy energyNo rowOf askedSets askedData factSets energySets tableSets blockSets blockData passwordAsk serial account twos newMeter used
 replies =
     record {
       identify = (byte 0 refl, byte 17 refl);
@@ -77,4 +82,5 @@ replies =
       «ask_password» = (byte 2 refl, byte 3 refl);
       answer = (byte 17 refl, byte 10 refl);
       «data_block» = (byte 1030 refl, byte 1058 refl);
+      «long_block» = (byte 1058 refl, byte 1068 refl);
     }

@@ -8,27 +8,29 @@ use Rattle.text.specs.Classes.{between, isDigit, isLetter, matching}
 use Rattle.text.specs.Decimal.{decimal, valueFrom, valueOf, numberAt}
 use Rattle.text.specs.Layout.{layoutText, pattern, agrees, fits}
 use Rattle.clock.specs.declared.Clock.{Clock as Moment}
+use Rattle.clock.specs.declared.Stamp.{Stamp}
 use Rattle.clock.specs.Dates.{leap, thirty, daysIn, realDate, realTime}
-use Rattle.clock.specs.Seconds.{realClock, nextMonth, nextDay, nextSecond}
+use Rattle.clock.specs.Seconds.{realClock, realStamp, nextMonth, nextDay, nextSecond}
 use Rattle.clock.specs.Weekday.{daysBefore, dayNumber, weekday}
 use Rattle.values.specs.declared.reading.DateRead.{DateRead}
 use Rattle.values.specs.declared.reading.TimeRead.{TimeRead}
 use Rattle.values.specs.declared.reading.ClockRead.{ClockRead}
+use Rattle.values.specs.declared.reading.StampRead.{StampRead}
 use Rattle.values.specs.declared.reading.CounterRead.{CounterRead}
 use Rattle.values.specs.declared.reading.TableRead.{TableRead}
 use Rattle.values.specs.declared.characters.SerialRead.{SerialRead}
 use Rattle.values.specs.declared.characters.AccountRead.{AccountRead}
 use Rattle.values.specs.declared.characters.RowRead.{RowRead}
 use Rattle.values.specs.Registers.{goodDigits, isAccountCharacter, goodAccount, goodRow, goodTable, goodZone, energyNo}
-use Rattle.values.specs.Texts.{serialText, tableText, dateText, timeText, clockText, counterText}
-use Rattle.values.specs.Reading.{dateRead, timeRead, clockRead, counterRead, tableRead}
+use Rattle.values.specs.Texts.{serialText, tableText, dateText, timeText, clockText, stampText, counterText}
+use Rattle.values.specs.Reading.{dateRead, timeRead, clockRead, stampRead, counterRead, tableRead}
 use Rattle.values.specs.Serials.{serialRead, accountRead, rowRead}
 use Rattle.mistakes.specs.Samples.{serial}
 use Rattle.mistakes.specs.Values.{Clock, Rules, Reading, Characters, Writing}
 use Rattle.mistakes.proofs.Differing.{seen, number, flag, byte}
 
 pub clock : Clock
-unfolding leap thirty daysIn realDate realTime realClock nextMonth nextDay nextSecond daysBefore dayNumber weekday
+unfolding leap thirty daysIn realDate realTime realClock realStamp nextMonth nextDay nextSecond daysBefore dayNumber weekday
 clock =
     record {
       «is_leap» = (flag refl, flag refl);
@@ -36,6 +38,8 @@ clock =
       «is_date» = (flag refl, flag refl);
       «is_time» = (flag refl, flag refl);
       «is_clock» = (flag refl, flag refl);
+      «is_stamp» = (flag refl, flag refl);
+      «stamp_of» = (seen (λ (s : Stamp). s .hour) refl, seen (λ (s : Stamp). s .minute) refl);
       «next_second» = (seen (λ (c : Moment). c .date .year) refl, seen (λ (c : Moment). c .date .month) refl);
       «day_of_week» = (number refl, number refl);
     }
@@ -54,12 +58,13 @@ rules =
     }
 
 pub reading : Reading × Characters
-unfolding every between isDigit isLetter matching decimal valueFrom valueOf numberAt layoutText pattern agrees fits leap thirty daysIn realDate realTime realClock isAccountCharacter goodAccount goodRow goodTable serialText clockText counterText dateRead timeRead clockRead counterRead tableRead serialRead accountRead rowRead serial
+unfolding every between isDigit isLetter matching decimal valueFrom valueOf numberAt layoutText pattern agrees fits leap thirty daysIn realDate realTime realClock realStamp isAccountCharacter goodAccount goodRow goodTable serialText clockText stampText counterText dateRead timeRead clockRead stampRead counterRead tableRead serialRead accountRead rowRead serial
 reading = (
   record {
     «read_date» = (seen (λ (r : DateRead). cond (r .ok) 1 0) refl, seen (λ (r : DateRead). r .date .year) refl);
     «read_time» = (seen (λ (r : TimeRead). cond (r .ok) 1 0) refl, seen (λ (r : TimeRead). r .time .second) refl);
     «read_clock» = (seen (λ (r : ClockRead). cond (r .ok) 1 0) refl, seen (λ (r : ClockRead). r .clock .date .month) refl);
+    «read_stamp» = (seen (λ (r : StampRead). cond (r .ok) 1 0) refl, seen (λ (r : StampRead). r .stamp .hour) refl);
     «read_counter» = (seen (λ (r : CounterRead). r .wh) refl, seen (λ (r : CounterRead). cond (r .ok) 1 0) refl);
     «read_table» = (seen (λ (r : TableRead). cond (r .ok) 1 0) refl, seen (λ (r : TableRead). cond (r .ok) 1 0) refl);
   },
@@ -71,7 +76,7 @@ reading = (
 )
 
 pub writing : Writing
-unfolding stored decimal layoutText serialText tableText dateText timeText clockText counterText serial
+unfolding stored decimal layoutText serialText tableText dateText timeText clockText stampText counterText serial
 writing =
     record {
       «put_serial» = (byte 3 refl, byte 3 refl);
@@ -79,5 +84,6 @@ writing =
       «put_date» = (byte 1 refl, byte 2 refl);
       «put_time» = (byte 1 refl, byte 2 refl);
       «put_clock» = (byte 1 refl, byte 1 refl);
+      «put_stamp» = (byte 10 refl, byte 8 refl);
       «put_counter» = (byte 5 refl, byte 6 refl);
     }

@@ -8,7 +8,7 @@ use Rattle.clock.specs.Seconds.{realClock}
 use Rattle.values.specs.Registers.{goodSerial, goodPassword, goodAccount, goodRow, goodTable, goodZone}
 use Rattle.frames.specs.Frames.{frameOf, bareFrame, onWire}
 use Rattle.frames.specs.Commands.{B0, P0, P1, R1, W1, bracketed, askClock, askSerial, askAccount, askEnergy, askTable, setClock, setAccount, setTable}
-use Rattle.frames.specs.Session.{signOn, signOnTo, confirmation, goodSpeed, enterData, passwordData}
+use Rattle.frames.specs.Session.{signOn, closingSignOn, signOnTo, confirmation, goodSpeed, enterData, passwordData}
 use Rattle.commands.specs.declared.Built.{Built}
 use Rattle.commands.specs.Building.{goodChoice, Builds}
 use Rattle.mistakes.specs.Samples.{clockAt, serial, password}
@@ -32,12 +32,15 @@ broken = replicate 23 49 ++ (41 ∷ [])
 pub record Commands : Type 0 where
   -- no parity; the CR LF not counted
   pub «sign_on» : NotLeft room true (onWire signOn) (holding room signOn) × NotAnswered room true (onWire signOn) 1 3
+  -- the plain sign-on; `/c!`
+  pub close : NotLeft room true (onWire closingSignOn) (holding room (onWire signOn))
+      × NotLeft room true (onWire closingSignOn) (holding room (onWire (47 ∷ 99 ∷ 33 ∷ 13 ∷ 10 ∷ [])))
   -- nine digits; no space after three of them
   pub «sign_on_to» : NotAnswered room (goodSerial (replicate 9 49)) (onWire (signOnTo (replicate 9 49))) 1 15
       × NotLeft room (goodSerial serial) (onWire (signOnTo serial)) (holding room (onWire (47 ∷ 63 ∷ (serial ++ (33 ∷ 13 ∷ 10 ∷ [])))))
-  -- '6' confirmed; '7' refused
-  pub confirm : NotAnswered room (goodSpeed 53 && goodChoice 54) (onWire (confirmation 53 54)) 1 6
-      × NotAnswered room (goodSpeed 53 && goodChoice 55) (onWire (confirmation 53 55)) 9 0
+  -- '8' confirmed; '6' refused
+  pub confirm : NotAnswered room (goodSpeed 53 && goodChoice 56) (onWire (confirmation 53 56)) 1 6
+      × NotAnswered room (goodSpeed 53 && goodChoice 54) (onWire (confirmation 53 54)) 9 0
   -- the digit 1 taken as a speed; '0' refused
   pub confirm-speed : NotAnswered room (goodSpeed 49 && goodChoice 48) (onWire (confirmation 49 48)) 1 6
       × NotAnswered room (goodSpeed 48 && goodChoice 48) (onWire (confirmation 48 48)) 9 0

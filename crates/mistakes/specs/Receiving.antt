@@ -1,4 +1,4 @@
--- Two wrong answers for each call of `state::setting`, `receiving`, `deciding` and `tariff`; but none where the promise is one record literal.
+-- Two wrong answers for each call of `state::setting`, `state::closing`, `receiving`, `deciding` and `tariff`; but none where the promise is one record literal.
 use mathlib.Core.Bool.{true, false}
 use mathlib.Core.List.{[], _∷_, _++_}
 use Prim.Native.Nat.{_*_}
@@ -7,8 +7,10 @@ use Rattle.text.specs.Writing.{stored}
 use Rattle.clock.specs.Seconds.{dateOf}
 use Rattle.frames.specs.Frames.{frameOf}
 use Rattle.frames.specs.Commands.{P1, W1, bracketed, setTable}
-use Rattle.state.specs.Sizes.{rowLength, tables}
-use Rattle.state.specs.Making.{emptyReceiver, noCounters}
+use Rattle.state.specs.Sizes.{rowLength, tables, periodPlaces}
+use Rattle.state.specs.Making.{emptyReceiver, noCounters, noPeriod}
+use Rattle.state.specs.WellFormed.{archiveGood}
+use Rattle.state.specs.Closing.{closing}
 use Rattle.receiving.specs.declared.Hearing.the-variants.{Hold, Restart}
 use Rattle.receiving.specs.Hearing.{hearing}
 use Rattle.receiving.specs.Receivers.{lastHeld, hurtPlace, keptReceiver, restartedReceiver}
@@ -16,8 +18,9 @@ use Rattle.deciding.specs.declared.Verdict.the-variants.{Password, WriteTable}
 use Rattle.deciding.specs.Verdict.{verdict}
 use Rattle.state.specs.Setting.{withHeld, withMark, withReceiver, inMode, withAttempts, withRegisters, withClock, withAccount, withTables, withCounters, withZones, withTotal, zonePlace, counterOf, rowStart, withRow, withSpeed}
 use Rattle.tariff.specs.Zones.{tableFor, zoneIn, counted}
+use Rattle.tariff.specs.Months.{secondLater}
 use Rattle.mistakes.specs.RuledOut.{RuledOut}
-use Rattle.mistakes.specs.Samples.{serial, twos, newMeter, used, heldIn}
+use Rattle.mistakes.specs.Samples.{clockAt, serial, twos, newMeter, used, usedAt, heldIn, closedTwice, oldestFirst}
 
 -- of `receiving`
 pub record Hearings : Type 0 where
@@ -76,6 +79,16 @@ pub record Setting : Type 0 where
   -- the counter of the zone before; of the zone behind
   pub «counter_of» : RuledOut (counterOf (used .counters) 2) 1 × RuledOut (counterOf (used .counters) 2) 4
 
+-- of `state::closing`
+pub record Closing : Type 0 where
+  -- a period without a time; a thirteenth
+  pub «archive_good» : RuledOut (archiveGood (record { periods = replicate periodPlaces noPeriod; count = 1 })) true
+      × RuledOut (archiveGood (record { periods = replicate periodPlaces noPeriod; count = 13 })) true
+  -- nothing closed; the counters set back
+  pub close : RuledOut (closing used) used × RuledOut (closing used) (withCounters (closing used) noCounters)
+  -- the oldest first
+  pub close-first : RuledOut closedTwice oldestFirst
+
 -- of `tariff`
 pub record Tariff : Type 0 where
   -- a working day's table on a Saturday; a Saturday's on a Monday
@@ -89,3 +102,9 @@ pub record Tariff : Type 0 where
   -- the total of before the pulse; a total that does not roll over
   pub count-total : RuledOut (counted noCounters 2 5) (withZones noCounters (0 ∷ 5 ∷ 0 ∷ 0 ∷ []))
       × RuledOut (counted (withTotal (withZones noCounters (999999999 ∷ 0 ∷ 0 ∷ 0 ∷ [])) 999999999) 1 1) (withTotal noCounters 1000000000)
+  -- closed a second late; on every midnight
+  pub «second_later» : RuledOut (secondLater (usedAt (clockAt 2000 2 1 0 0 0))) (closing (usedAt (clockAt 2000 2 1 0 0 1)))
+      × RuledOut (secondLater (usedAt (clockAt 2000 2 1 23 59 59))) (closing (usedAt (clockAt 2000 2 2 0 0 0)))
+  -- not closed where a month starts; closed with the time before it
+  pub second-later-month : RuledOut (secondLater (usedAt (clockAt 2000 1 31 23 59 59))) (usedAt (clockAt 2000 2 1 0 0 0))
+      × RuledOut (secondLater (usedAt (clockAt 2000 1 31 23 59 59))) (withClock (closing (usedAt (clockAt 2000 1 31 23 59 59))) (clockAt 2000 2 1 0 0 0))

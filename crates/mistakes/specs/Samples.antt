@@ -6,14 +6,19 @@ use Rattle.text.specs.Decimal.{decimal}
 use Rattle.text.specs.Writing.{stored}
 use Rattle.values.specs.Edition.{rowLength}
 use Rattle.clock.specs.declared.Clock.{Clock}
+use Rattle.clock.specs.declared.Stamp.{Stamp}
 use Rattle.clock.specs.Seconds.{dateOf, timeOf}
 use Rattle.state.specs.declared.Registers.{Registers}
 use Rattle.state.specs.declared.Meter.{Meter}
 use Rattle.state.specs.Making.{emptyReceiver, noCounters, factsOf, meterOf}
-use Rattle.state.specs.Setting.{withHeld, withReceiver, withCounters, withTables, withZones, withTotal, withRow, inMode}
+use Rattle.state.specs.Closing.{periodOf, closedWith, closing}
+use Rattle.state.specs.Setting.{withHeld, withReceiver, withClock, withArchive, withCounters, withTables, withZones, withTotal, withRow, inMode}
 
 abbrev pub clockAt : ℕ → ℕ → ℕ → ℕ → ℕ → ℕ → Clock
 clockAt y m d h n s = record { date = dateOf y m d; time = timeOf h n s }
+
+abbrev pub stampAt : ℕ → ℕ → ℕ → ℕ → ℕ → Stamp
+stampAt y m d h n = record { date = dateOf y m d; hour = h; minute = n }
 
 -- 2000-01-01 12:00:00, a Saturday
 abbrev pub noon : Clock
@@ -46,3 +51,14 @@ used = withTables (withCounters (newMeter .registers) (withTotal (withZones noCo
 -- in a mode, holding some characters
 unfoldable pub heldIn : ℕ → List ℕ → Meter
 heldIn mode s = withReceiver (inMode newMeter mode) (withHeld emptyReceiver (stored (emptyReceiver .held) 0 s) (length s))
+
+-- [12]: these registers at another time, and with two periods closed at noon and 2001-02-03 04:05
+abbrev pub usedAt : Clock → Registers
+usedAt c = withClock used c
+
+unfoldable pub closedTwice : Registers
+closedTwice = closing (withClock (closing used) (clockAt 2001 2 3 4 5 6))
+
+-- the same, the oldest first
+unfoldable pub oldestFirst : Registers
+oldestFirst = withArchive closedTwice (closedWith (periodOf noon (used .counters)) (closedWith (periodOf (clockAt 2001 2 3 4 5 6) (used .counters)) (used .archive)))

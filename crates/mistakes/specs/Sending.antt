@@ -10,17 +10,18 @@ use Rattle.values.specs.Registers.{energyNo, zoneEnergy}
 use Rattle.values.specs.Texts.{serialText, timeText, dateText}
 use Rattle.frames.specs.Frames.{sealed, frameOf, bareFrame, blockOf, onWire}
 use Rattle.frames.specs.Commands.{P0, P1, bracketed}
-use Rattle.state.specs.Sizes.{rowLength, tables, replyRoom}
+use Rattle.state.specs.Sizes.{rowLength, tables, replyRoom, periodPlaces}
 use Rattle.state.specs.WellFormed.{limit, wellFormed}
-use Rattle.state.specs.Making.{emptyReceiver, noCounters, factsOf, meterOf, blankMeter, madeOf}
-use Rattle.datasets.specs.Sets.{dataSet, linesOf, lineOf, timeSet, dateSet, serialSet, accountSet, energySet, tableSet}
+use Rattle.state.specs.Making.{emptyReceiver, noCounters, noPeriod, factsOf, meterOf, blankMeter, madeOf}
+use Rattle.datasets.specs.Sets.{dataSet, linesOf, lineOf, timeSet, dateSet, serialSet, accountSet, energySet, tableSet, closedSet, keptSet}
 use Rattle.replies.specs.declared.Ask.the-variants.{Energy, Table}
 use Rattle.replies.specs.Answers.{askedData}
 use Rattle.replies.specs.Block.{blockSets, blockData}
+use Rattle.replies.specs.Periods.{longData}
 use Rattle.replies.specs.Fixed.{identification, passwordAsk, accepted, refused}
-use Rattle.state.specs.Setting.{withMark, withReceiver, withAttempts, withRegisters, withAccount, withTables, withCounters, withZones, withTotal}
+use Rattle.state.specs.Setting.{withMark, withReceiver, withAttempts, withRegisters, withAccount, withTables, withArchive, withCounters, withZones, withTotal}
 use Rattle.mistakes.specs.RuledOut.{RuledOut}
-use Rattle.mistakes.specs.Samples.{noon, serial, account, password, twos, newMeter, used, heldIn}
+use Rattle.mistakes.specs.Samples.{noon, stampAt, serial, account, password, twos, newMeter, used, closedTwice, oldestFirst, heldIn}
 
 -- of `frames`
 pub record Frames : Type 0 where
@@ -44,6 +45,9 @@ pub record States : Type 0 where
   -- a total that is off by one; a sum that is not rolled over
   pub is-well-formed-total : RuledOut (wellFormed (withRegisters newMeter (withCounters (newMeter .registers) (withTotal noCounters 1)))) true
       × RuledOut (wellFormed (withRegisters newMeter (withCounters (newMeter .registers) (withTotal (withZones noCounters (999999999 ∷ 1 ∷ 0 ∷ 0 ∷ [])) 1000000000)))) true
+  -- [12]: a period without a time; a thirteenth
+  pub is-well-formed-archive : RuledOut (wellFormed (withRegisters newMeter (withArchive (newMeter .registers) (record { periods = replicate periodPlaces noPeriod; count = 1 })))) true
+      × RuledOut (wellFormed (withRegisters newMeter (withArchive (newMeter .registers) (record { periods = replicate periodPlaces noPeriod; count = 13 })))) true
   -- one failed attempt at the start; an account of zeros
   pub blank : RuledOut blankMeter (withAttempts blankMeter 1)
       × RuledOut blankMeter (withRegisters blankMeter (withAccount (blankMeter .registers) (replicate 10 48)))
@@ -71,6 +75,12 @@ pub record Sets : Type 0 where
   -- the number of the next table; the row without its last character
   pub «put_table_set» : RuledOut (stored (replicate 36 0) 0 (lineOf (tableSet 7 twos))) (lineOf (tableSet 8 twos))
       × RuledOut (stored (replicate 36 0) 0 (lineOf (tableSet 7 twos))) (lineOf (tableSet 7 (take 23 twos)) ++ (0 ∷ []))
+  -- the number of the next period; an hour late
+  pub «put_closed_set» : RuledOut (stored (replicate 26 0) 0 (lineOf (closedSet 7 (stampAt 2001 2 3 4 5)))) (lineOf (closedSet 8 (stampAt 2001 2 3 4 5)))
+      × RuledOut (stored (replicate 26 0) 0 (lineOf (closedSet 7 (stampAt 2001 2 3 4 5)))) (lineOf (closedSet 7 (stampAt 2001 2 3 5 5)))
+  -- zone and period changed about; kWh for Wh
+  pub «put_kept_set» : RuledOut (stored (replicate 27 0) 0 (lineOf (keptSet 2 1 1500))) (lineOf (keptSet 1 2 1500))
+      × RuledOut (stored (replicate 27 0) 0 (lineOf (keptSet 2 1 1500))) (lineOf (keptSet 2 1 1500000))
 
 -- of `replies`
 pub record Replies : Type 0 where
@@ -91,3 +101,6 @@ pub record Replies : Type 0 where
   -- one table too few; no last line
   pub «data_block» : RuledOut (holding (replicate replyRoom 0) (onWire (blockOf (blockData tables used)))) (holding (replicate replyRoom 0) (onWire (blockOf (blockData 23 used))))
       × RuledOut (holding (replicate replyRoom 0) (onWire (blockOf (blockData tables used)))) (holding (replicate replyRoom 0) (onWire (blockOf (linesOf (blockSets tables used)))))
+  -- no periods; the oldest first
+  pub «long_block» : RuledOut (holding (replicate replyRoom 0) (onWire (blockOf (longData tables closedTwice)))) (holding (replicate replyRoom 0) (onWire (blockOf (blockData tables closedTwice))))
+      × RuledOut (holding (replicate replyRoom 0) (onWire (blockOf (longData tables closedTwice)))) (holding (replicate replyRoom 0) (onWire (blockOf (longData tables oldestFirst))))

@@ -5,15 +5,15 @@ use lib.ListN.{replicate}
 use Rattle.text.specs.Writing.{stored}
 use Rattle.text.specs.Decimal.{decimal}
 use Rattle.clock.specs.Dates.{leap, daysIn, realDate, realTime}
-use Rattle.clock.specs.Seconds.{realClock, dateOf, timeOf, nextSecond}
+use Rattle.clock.specs.Seconds.{realClock, realStamp, stampOf, dateOf, timeOf, nextSecond}
 use Rattle.clock.specs.Weekday.{weekday}
 use Rattle.values.specs.Registers.{goodDigits, isAccountCharacter, goodAccount, goodRow, goodTable, goodZone, energyNo, zoneEnergy}
 use Rattle.values.specs.declared.Energy.the-variants.{Total}
-use Rattle.values.specs.Texts.{serialText, tableText, dateText, timeText, clockText, counterText}
-use Rattle.values.specs.Reading.{dateRead, timeRead, clockRead, counterRead, tableRead}
+use Rattle.values.specs.Texts.{serialText, tableText, dateText, timeText, clockText, stampText, counterText}
+use Rattle.values.specs.Reading.{dateRead, timeRead, clockRead, stampRead, counterRead, tableRead}
 use Rattle.values.specs.Serials.{serialRead, accountRead, rowRead}
 use Rattle.mistakes.specs.RuledOut.{RuledOut}
-use Rattle.mistakes.specs.Samples.{clockAt, serial, account}
+use Rattle.mistakes.specs.Samples.{clockAt, stampAt, serial, account}
 
 -- of `clock`
 pub record Clock : Type 0 where
@@ -27,6 +27,10 @@ pub record Clock : Type 0 where
   pub «is_time» : RuledOut (realTime 24 0 0) true × RuledOut (realTime 23 59 60) true
   -- the time looked at alone; the date looked at alone
   pub «is_clock» : RuledOut (realClock (clockAt 2001 2 29 0 0 0)) true × RuledOut (realClock (clockAt 2001 2 28 24 0 0)) true
+  -- 29-02-2001 as a date; minute 60
+  pub «is_stamp» : RuledOut (realStamp (stampAt 2001 2 29 0 0)) true × RuledOut (realStamp (stampAt 2001 2 28 23 60)) true
+  -- hour and minute changed about; the second for the minute
+  pub «stamp_of» : RuledOut (stampOf (clockAt 2001 2 3 4 5 6)) (stampAt 2001 2 3 5 4) × RuledOut (stampOf (clockAt 2001 2 3 4 5 6)) (stampAt 2001 2 3 4 6)
   -- 2100 after 2099; no 29 February in 2000
   pub «next_second» : RuledOut (nextSecond (clockAt 2099 12 31 23 59 59)) (clockAt 2100 1 1 0 0 0)
       × RuledOut (nextSecond (clockAt 2000 2 28 23 59 59)) (clockAt 2000 3 1 0 0 0)
@@ -61,6 +65,9 @@ pub record Reading : Type 0 where
   -- 29-02-2001 as a date; 03-02-2001 with day and month changed about
   pub «read_clock» : RuledOut (clockRead (clockText (clockAt 2001 2 29 0 0 0))) (record { ok = true; clock = clockAt 2001 2 29 0 0 0 })
       × RuledOut (clockRead (clockText (clockAt 2001 2 3 0 0 0))) (record { ok = true; clock = clockAt 2001 3 2 0 0 0 })
+  -- 24:00 as a time; 23:05 with hour and minute changed about
+  pub «read_stamp» : RuledOut (stampRead (stampText (stampAt 2001 2 3 24 0))) (record { ok = true; stamp = stampAt 2001 2 3 24 0 })
+      × RuledOut (stampRead (stampText (stampAt 2001 2 3 23 5))) (record { ok = true; stamp = stampAt 2001 2 3 5 23 })
   -- the decimals left out; four decimals
   pub «read_counter» : RuledOut (counterRead 9 3 (counterText 9 3 1500)) (record { ok = true; wh = 1 })
       × RuledOut (counterRead 9 3 (counterText 10 4 15000)) (record { ok = true; wh = 15000 })
@@ -98,6 +105,9 @@ pub record Writing : Type 0 where
   pub «put_clock» : RuledOut (stored (replicate 19 0) 0 (clockText (clockAt 2001 2 3 4 5 6))) (clockText (clockAt 2001 3 2 4 5 6))
       × RuledOut (stored (replicate 19 0) 0 (clockText (clockAt 2001 2 3 4 5 6)))
       (dateText (dateOf 2001 2 3) ++ (59 ∷ (timeText (timeOf 4 5 6) ++ (0 ∷ 0 ∷ []))))
+  -- hour and minute changed about; a semicolon for the space, as a write of the clock has it
+  pub «put_stamp» : RuledOut (stored (replicate 14 0) 0 (stampText (stampAt 2001 2 3 4 5))) (stampText (stampAt 2001 2 3 5 4))
+      × RuledOut (stored (replicate 14 0) 0 (stampText (stampAt 2001 2 3 4 5))) (dateText (dateOf 2001 2 3) ++ (59 ∷ (decimal 2 4 ++ (58 ∷ decimal 2 5))))
   -- Wh shown as kWh; two decimals
   pub «put_counter» : RuledOut (stored (replicate 14 0) 0 (counterText 9 3 1500)) (counterText 9 3 1500000)
       × RuledOut (stored (replicate 14 0) 0 (counterText 9 3 1500)) (counterText 9 2 150)

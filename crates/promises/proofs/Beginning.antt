@@ -14,7 +14,7 @@ use Rattle.values.specs.Registers.{goodDigits, isAccountCharacter, goodAccount}
 use Rattle.state.specs.declared.Facts.{Facts}
 use Rattle.state.specs.declared.Meter.{Meter}
 use Rattle.state.specs.declared.Made.{Made}
-use Rattle.state.specs.WellFormed.{below, zonesGood, sumOf, total, tablesGood, factsGood, factoryGood, registersGood, wellFormed, speedGood}
+use Rattle.state.specs.WellFormed.{below, zonesGood, sumOf, total, tablesGood, noTime, unused, everyPeriod, archiveGood, factsGood, factoryGood, registersGood, wellFormed, speedGood}
 use Rattle.state.specs.Making.{factsOf, meterOf, blankMeter, madeOf}
 use Rattle.state.proofs.Parts.{well-formed}
 use Rattle.promises.proofs.Choices as choice
@@ -22,7 +22,7 @@ use Rattle.promises.proofs.Formed.{empty-good}
 
 new-registers : (facts : Facts) (account : List ℕ) (clock : Clock) → factoryGood facts account clock ≡ true
     → registersGood (meterOf facts account clock .registers) ≡ true
-unfolding registersGood zonesGood below sumOf total tablesGood every between
+unfolding registersGood zonesGood below sumOf total tablesGood noTime unused everyPeriod archiveGood every between
 new-registers facts account clock h = rw h
 
 new-well-formed : (facts : Facts) (account : List ℕ) (clock : Clock) → factoryGood facts account clock ≡ true

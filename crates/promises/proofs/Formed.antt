@@ -24,15 +24,18 @@ use Rattle.values.specs.Registers.{goodAccount, goodRow, goodTable}
 use Rattle.state.specs.Sizes.{replyRoom, tables, rowLength, counterEnd, heldPlaces}
 use Rattle.state.specs.declared.Receiver.{Receiver}
 use Rattle.state.specs.declared.Counters.{Counters}
+use Rattle.state.specs.declared.Archive.{Archive}
 use Rattle.state.specs.declared.Registers.{Registers}
 use Rattle.frames.specs.Session.{speedSaid}
 use Rattle.state.specs.declared.Meter.{Meter}
-use Rattle.state.specs.WellFormed.{limit, firstGood, markGood, hurtGood, heldGood, receiverGood, below, zonesGood, sumOf, total, countersGood, tablesGood, registersGood, wellFormed, marked, speedGood}
+use Rattle.state.specs.WellFormed.{limit, firstGood, markGood, heldGood, receiverGood, below, zonesGood, sumOf, total, countersGood, tablesGood, archiveGood, registersGood, wellFormed, marked, speedGood, hurtGood}
 use Rattle.state.specs.Making.{emptyReceiver}
+use Rattle.state.specs.Closing.{periodOf, closing}
 use Rattle.state.proofs.Parts.{Formed, formed, well-formed, FormedRegisters, formed-registers, registers-good, FormedReceiver, formed-receiver, receiver-good, total-is-sum, speed-kept}
 use Rattle.state.proofs.Totals.{grows-alike}
-use Rattle.state.specs.Setting.{withReceiver, inMode, withAttempts, withRegisters, withClock, withAccount, withTables, withCounters, withZones, withTotal, withRow, rowStart, zonePlace, counterOf, withSpeed}
+use Rattle.state.specs.Setting.{withReceiver, inMode, withAttempts, withRegisters, withClock, withAccount, withTables, withArchive, withCounters, withZones, withTotal, withRow, rowStart, zonePlace, counterOf, withSpeed}
 use Rattle.tariff.specs.Zones.{zoneIn, grown, counted}
+use Rattle.tariff.specs.Months.{monthStarts, monthClosed, secondLater}
 use Rattle.receiving.specs.declared.Hearing.{Hearing}
 use Rattle.receiving.specs.declared.Hearing.the-variants.{Drop, Hold, Restart, Empty, Line, Confirm, Frame, TooLong}
 use Rattle.receiving.specs.Hearing.{hearing}
@@ -41,11 +44,12 @@ use Rattle.receiving.proofs.Laws.{Room, hold-room, restart-first}
 use Rattle.deciding.specs.declared.Verdict.{Verdict}
 use Rattle.deciding.specs.Verdict.{verdict}
 use Rattle.meter.specs.Outcomes.{Outcome, fallen}
-use Rattle.meter.specs.SignOn.{signsOnBy, wantsBlock, wantsProgram}
+use Rattle.meter.specs.SignOn.{signsOnBy, closesBy, wantsBlock, wantsPeriods, wantsProgram}
 use Rattle.meter.specs.Acting.{passwordGiven, accountGiven, rowGiven, tried, acted}
-use Rattle.meter.specs.Character.{symbol, lineEnded, confirmedSpeed, confirmed, heard, taken, character}
+use Rattle.meter.specs.Character.{symbol, periodClosed, lineEnded, confirmedSpeed, confirmed, heard, taken, character}
 use Rattle.meter.specs.Events.{afterSilence, silence, tick, pulse, powerUp}
 use Rattle.promises.proofs.Choices as choice
+use Rattle.promises.proofs.Months.{closed-archive, period-good}
 use Rattle.promises.proofs.Pieces.{account-is, row-is}
 use Rattle.promises.proofs.Verdicts.{Told, Known, verdict-all}
 
@@ -178,16 +182,16 @@ own m h = formed-registers (m .registers) (formed m h .registers)
 
 clock-good : (g : Registers) (c : Clock) → FormedRegisters g → realClock c ≡ true → registersGood (withClock g c) ≡ true
 clock-good g c f k =
-    registers-good (withClock g c) (record { facts = f .facts; account = f .account; clock = k; counters = f .counters; tables = f .tables })
+    registers-good (withClock g c) (record { facts = f .facts; account = f .account; clock = k; counters = f .counters; tables = f .tables; archive = f .archive })
 
 account-good : (g : Registers) (a : List ℕ) → FormedRegisters g → goodAccount a ≡ true → registersGood (withAccount g a) ≡ true
 account-good g a f k =
-    registers-good (withAccount g a) (record { facts = f .facts; account = k; clock = f .clock; counters = f .counters; tables = f .tables })
+    registers-good (withAccount g a) (record { facts = f .facts; account = k; clock = f .clock; counters = f .counters; tables = f .tables; archive = f .archive })
 
 tables-good : (g : Registers) (n : ℕ) (row : List ℕ) → FormedRegisters g → goodRow row ≡ true → registersGood (withTables g (withRow (g .tables) n row)) ≡ true
 tables-good g n row f k =
     registers-good (withTables g (withRow (g .tables) n row))
-    (record { facts = f .facts; account = f .account; clock = f .clock; counters = f .counters; tables = rows-good (g .tables) (rowStart n) row (f .tables) k })
+    (record { facts = f .facts; account = f .account; clock = f .clock; counters = f .counters; tables = rows-good (g .tables) (rowStart n) row (f .tables) k; archive = f .archive })
   where
     rows-good : (t : List ℕ) (i : ℕ) (r : List ℕ) → tablesGood tables t ≡ true → goodRow r ≡ true → tablesGood tables (stored t i r) ≡ true
     rows-good t i r h j = unfold tablesGood goodRow in (
@@ -196,7 +200,17 @@ tables-good g n row f k =
 
 counters-good : (g : Registers) (c : Counters) → FormedRegisters g → countersGood c ≡ true → registersGood (withCounters g c) ≡ true
 counters-good g c f k =
-    registers-good (withCounters g c) (record { facts = f .facts; account = f .account; clock = f .clock; counters = k; tables = f .tables })
+    registers-good (withCounters g c) (record { facts = f .facts; account = f .account; clock = f .clock; counters = k; tables = f .tables; archive = f .archive })
+
+-- [12]: a period closed
+archive-good : (g : Registers) (a : Archive) → FormedRegisters g → archiveGood a ≡ true → registersGood (withArchive g a) ≡ true
+archive-good g a f k =
+    registers-good (withArchive g a) (record { facts = f .facts; account = f .account; clock = f .clock; counters = f .counters; tables = f .tables; archive = k })
+
+closing-good : (g : Registers) → registersGood g ≡ true → registersGood (closing g) ≡ true
+closing-good g h =
+    let f = formed-registers g h in
+    archive-good g _ f (closed-archive (periodOf (g .clock) (g .counters)) (g .archive) (f .archive) (period-good (g .clock) (g .counters) (f .clock) (f .counters)))
 
 -- a pulse leaves every counter below 1,000,000,000, and the total their sum
 grown-good : (c : Counters) (zone wh : ℕ) → countersGood c ≡ true → zonePlace zone < 4
@@ -279,11 +293,14 @@ module _ (m : Meter) (h : wellFormed m ≡ true) where
   heard-stays c d Empty e s = with-receiver m _ h (empty-good (m .mode))
   heard-stays c d Line e s =
       choice.either Stays (marked (m .receiver)) (in-mode m 0 h (omega arith))
-      (choice.either Stays (signsOnBy (heldText (m .receiver)) (m .registers .facts .serial)) (in-mode m 1 h (omega arith)) (in-mode m 0 h (omega arith)))
+      (choice.either Stays (signsOnBy (heldText (m .receiver)) (m .registers .facts .serial)) (in-mode m 1 h (omega arith))
+      (choice.either Stays (closesBy (heldText (m .receiver)))
+      (in-mode (periodClosed m) 1 (with-registers m _ h (closing-good (m .registers) (formed m h .registers))) (omega arith)) (in-mode m 0 h (omega arith))))
   heard-stays c d Confirm e s =
       choice.either Stays (marked (m .receiver) || d) (in-mode m 0 h (omega arith))
       (choice.either Stays (wantsBlock (heldText (m .receiver)) c) (in-mode m 0 h (omega arith))
-      (choice.either Stays (wantsProgram (heldText (m .receiver)) c) (with-speed (inMode m 2) (confirmedSpeed m) (in-mode m 2 h (omega arith)) (said-good (getD (m .receiver .held) 2 0))) (in-mode m 0 h (omega arith))))
+      (choice.either Stays (wantsPeriods (heldText (m .receiver)) c) (in-mode m 0 h (omega arith))
+      (choice.either Stays (wantsProgram (heldText (m .receiver)) c) (with-speed (inMode m 2) (confirmedSpeed m) (in-mode m 2 h (omega arith)) (said-good (getD (m .receiver .held) 2 0))) (in-mode m 0 h (omega arith)))))
   heard-stays c d Frame e s = frame-stays (marked (m .receiver) || d) c
   heard-stays c d TooLong e s = falls
 
@@ -303,11 +320,16 @@ module _ (m : Meter) (h : wellFormed m ≡ true) where
       choice.either Stays (ltb room replyRoom) h
       (choice.either Stays (wellFormed m) (choice.either Stays (eqb (m .mode) 0) off (choice.either Stays (eqb (m .mode) 1) off off)) h)
 
+  second-good : registersGood (secondLater (m .registers)) ≡ true
+  unfolding monthClosed
+  second-good =
+      let g = m .registers in
+      let next = clock-good g (nextSecond (g .clock)) (own m h) (next-second-real (g .clock) (own m h .clock)) in
+      choice.either (λ (x : Registers). registersGood x ≡ true) (monthStarts (nextSecond (g .clock))) (closing-good (withClock g (nextSecond (g .clock))) next) next
+
   pub tick-stays : wellFormed (tick m .next) ≡ true
   unfolding tick Stays
-  tick-stays =
-      choice.either Stays (wellFormed m)
-      (with-registers m _ h (clock-good (m .registers) (nextSecond (m .registers .clock)) (own m h) (next-second-real (m .registers .clock) (own m h .clock)))) h
+  tick-stays = choice.either Stays (wellFormed m) (with-registers m (secondLater (m .registers)) h second-good) h
 
   pub pulse-stays : (wh : ℕ) → wellFormed (pulse m wh .next) ≡ true
   unfolding pulse Stays

@@ -23,7 +23,7 @@ use Rattle.deciding.specs.declared.Verdict.the-variants.{Refuse, Leave, Enter, 
 use Rattle.deciding.specs.Verdict.{verdict}
 use Rattle.meter.specs.Outcomes.{Outcome, unheard}
 use Rattle.meter.specs.Acting.{tried, acted}
-use Rattle.meter.specs.SignOn.{signsOnBy, wantsBlock, wantsProgram}
+use Rattle.meter.specs.SignOn.{signsOnBy, closesBy, wantsBlock, wantsPeriods, wantsProgram}
 use Rattle.meter.specs.Character.{symbol, lineEnded, confirmed, heard, taken, character}
 use Rattle.meter.specs.Events.{afterSilence, silence, tick, pulse, powerUp}
 use Rattle.meter.specs.declared.Event.{Event}
@@ -156,10 +156,11 @@ module _ (m : Meter) where
   heard-nowhere c d Restart n = refl
   heard-nowhere c d Empty n = refl
   heard-nowhere c d Line n =
-      either-nowhere (marked (m .receiver)) _ _ refl (either-nowhere (signsOnBy (heldText (m .receiver)) (m .registers .facts .serial)) _ _ refl refl)
+      either-nowhere (marked (m .receiver)) _ _ refl (either-nowhere (signsOnBy (heldText (m .receiver)) (m .registers .facts .serial)) _ _ refl (either-nowhere (closesBy (heldText (m .receiver))) _ _ refl refl))
   heard-nowhere c d Confirm n =
       either-nowhere (marked (m .receiver) || d) _ _ refl
-      (either-nowhere (wantsBlock (heldText (m .receiver)) c) _ _ refl (either-nowhere (wantsProgram (heldText (m .receiver)) c) _ _ refl refl))
+      (either-nowhere (wantsBlock (heldText (m .receiver)) c) _ _ refl
+      (either-nowhere (wantsPeriods (heldText (m .receiver)) c) _ _ refl (either-nowhere (wantsProgram (heldText (m .receiver)) c) _ _ refl refl)))
   heard-nowhere c d Frame n = go (marked (m .receiver)) d n
     where
       go : (k d : Bool) → (acted m (verdict (m .mode) (heldText (m .receiver)) (k || d) c) .number ≡ 3 → ⊥)

@@ -1,13 +1,15 @@
 -- What a character can change. Only an accepted W1 changes the clock, the account or the tables, in programming mode, and then only that
--- register, to what the frame tells; any other answer changes no register. One walk over the verdicts (`verdict-all`). Assumes nothing.
+-- register, to what the frame tells; `/C!` closes a period; any other answer changes no register. One walk over the verdicts (`verdict-all`). Assumes nothing.
 use mathlib.Core.Path.{_≡_, refl, sym, ap}
-use mathlib.Core.Bool.{Bool, _||_}
+use mathlib.Core.Bool.{Bool, true, false, _||_}
 use mathlib.Core.List.{List}
 use Prim.Native.Nat.{ℕ, _-_, _*_}
 use lib.Dec.{eqb, ltb}
+use borrow.Author.Tests.{eqb-true}
 use Rattle.line.specs.Characters.{damagedAt}
 use Rattle.text.specs.Classes.{sameText}
 use Rattle.text.specs.Writing.{stored}
+use Rattle.text.proofs.Matching.{same-is}
 use Rattle.values.specs.declared.TableNo.{TableNo}
 use Rattle.values.specs.Registers.{goodTable}
 use Rattle.state.specs.Sizes.{replyRoom, tables}
@@ -22,11 +24,12 @@ use Rattle.receiving.specs.Receivers.{heldText, lastHeld, hurtPlace}
 use Rattle.deciding.specs.declared.Verdict.{Verdict}
 use Rattle.deciding.specs.Verdict.{verdict}
 use Rattle.meter.specs.Outcomes.{Outcome, atPlace}
-use Rattle.meter.specs.SignOn.{signsOnBy, wantsBlock, wantsProgram}
+use Rattle.meter.specs.SignOn.{signsOnBy, closesBy, wantsBlock, wantsPeriods, wantsProgram}
 use Rattle.meter.specs.Acting.{passwordGiven, tried, acted}
 use Rattle.meter.specs.Character.{symbol, lineEnded, confirmed, heard, taken, character}
-use Rattle.promises.specs.Writes.{Written, Kept, same, clock, account, table}
+use Rattle.promises.specs.Writes.{Written, Called, Kept, same, clock, account, table, closed}
 use Rattle.promises.proofs.Choices as choice
+use Rattle.promises.proofs.Lines.{line-is}
 use Rattle.promises.proofs.Pieces.{account-told, row-told}
 use Rattle.promises.proofs.Verdicts.{Told, Known, verdict-all}
 
@@ -43,6 +46,7 @@ module _ (m : Meter) (b : ℕ) where
   placed o place (clock c w i r n e) = clock c w i r n e
   placed o place (account w r n e) = account w r n e
   placed o place (table t w i g r n e) = table t w i g r n e
+  placed o place (closed w n e) = closed w n e
 
   -- the verdict on the frame that this byte completes
   abbrev decision : Verdict
@@ -74,18 +78,29 @@ module _ (m : Meter) (b : ℕ) where
       })
       refl
 
-  line-kept : Kept m b (lineEnded m)
-  unfolding lineEnded
-  line-kept =
-      choice.either (Kept m b) (marked (m .receiver)) (same refl)
-      (choice.either (Kept m b) (signsOnBy (heldText (m .receiver)) (m .registers .facts .serial)) (same refl) (same refl))
+  line-kept : hearing (m .mode) (m .receiver .count) (lastHeld (m .receiver)) (symbol b) ≡ Line → Kept m b (lineEnded m)
+  unfolding lineEnded closesBy
+  line-kept f =
+      choice.told (Kept m b) (marked (m .receiver)) (λ e. same refl)
+      (λ u.
+      choice.either (Kept m b) (signsOnBy (heldText (m .receiver)) (m .registers .facts .serial)) (same refl)
+      (choice.given (Kept m b) (closesBy (heldText (m .receiver)))
+      (λ e.
+      closed (record {
+        listening = eqb-true (m .mode) 0 (line-is (m .mode) (m .receiver .count) (lastHeld (m .receiver)) (symbol b) f .0);
+        completed = f;
+        unmarked = u;
+        said = same-is _ _ e;
+      }) refl refl)
+      (same refl)))
 
   confirmed-kept : (c : ℕ) (d : Bool) → Kept m b (confirmed m c d)
   unfolding confirmed
   confirmed-kept c d =
       choice.either (Kept m b) (marked (m .receiver) || d) (same refl)
       (choice.either (Kept m b) (wantsBlock (heldText (m .receiver)) c) (same refl)
-      (choice.either (Kept m b) (wantsProgram (heldText (m .receiver)) c) (same refl) (same refl)))
+      (choice.either (Kept m b) (wantsPeriods (heldText (m .receiver)) c) (same refl)
+      (choice.either (Kept m b) (wantsProgram (heldText (m .receiver)) c) (same refl) (same refl))))
 
   heard-kept : (h : Hearing) → hearing (m .mode) (m .receiver .count) (lastHeld (m .receiver)) (symbol b) ≡ h → Kept m b (heard m (symbol b) (damagedAt b) h)
   unfolding heard
@@ -93,12 +108,12 @@ module _ (m : Meter) (b : ℕ) where
   heard-kept Hold e = same refl
   heard-kept Restart e = same refl
   heard-kept Empty e = same refl
-  heard-kept Line e = line-kept
+  heard-kept Line e = line-kept e
   heard-kept Confirm e = confirmed-kept (symbol b) (damagedAt b)
   heard-kept Frame e = placed (acted m decision) (hurtPlace (m .receiver) (damagedAt b)) (frame-kept e)
   heard-kept TooLong e = same refl
 
-  -- only an accepted W1 changes the clock, the account or the tables by a character, and then only that register
+  -- only an accepted W1 changes the clock, the account or the tables by a character, and then only that register; only `/C!` closes a period
   pub only-writes : (room : ℕ) → Kept m b (character m room b)
   unfolding character taken
   only-writes room =
@@ -114,3 +129,4 @@ module _ (m : Meter) (b : ℕ) where
       take-out (clock c w i r n e) = absurd (other n)
       take-out (account w r n e) = absurd (other n)
       take-out (table t w i g r n e) = absurd (other n)
+      take-out (closed w n e) = absurd (other n)

@@ -2,8 +2,10 @@ pub mod Choices
 pub mod Verdicts
 pub mod Pieces
 pub mod Password
+pub mod Lines
 pub mod Kept
 pub mod Answering
+pub mod Months
 pub mod Malformed
 pub mod Formed
 pub mod Beginning

@@ -18,7 +18,7 @@ use Rattle.receiving.specs.Hearing.{hearing}
 use Rattle.receiving.specs.Receivers.{heldText, lastHeld}
 use Rattle.deciding.specs.Verdict.{verdict}
 use Rattle.meter.specs.Outcomes.{Outcome, unheard}
-use Rattle.meter.specs.SignOn.{signsOnBy, wantsBlock, wantsProgram}
+use Rattle.meter.specs.SignOn.{signsOnBy, closesBy, wantsBlock, wantsPeriods, wantsProgram}
 use Rattle.meter.specs.Acting.{acted}
 use Rattle.meter.specs.Character.{symbol, lineEnded, confirmed, heard, taken, character}
 use Rattle.meter.specs.Events.{afterSilence, silence, tick, pulse, powerUp}
@@ -96,11 +96,13 @@ heard-never m c d Restart = λ e. omega arith
 heard-never m c d Empty = λ e. omega arith
 heard-never m c d Line =
     choice.either Never (marked (m .receiver)) (λ e. omega arith)
-    (choice.either Never (signsOnBy (heldText (m .receiver)) (m .registers .facts .serial)) (λ e. omega arith) (λ e. omega arith))
+    (choice.either Never (signsOnBy (heldText (m .receiver)) (m .registers .facts .serial)) (λ e. omega arith)
+    (choice.either Never (closesBy (heldText (m .receiver))) (λ e. omega arith) (λ e. omega arith)))
 heard-never m c d Confirm =
     choice.either Never (marked (m .receiver) || d) (λ e. omega arith)
     (choice.either Never (wantsBlock (heldText (m .receiver)) c) (λ e. omega arith)
-    (choice.either Never (wantsProgram (heldText (m .receiver)) c) (λ e. omega arith) (λ e. omega arith)))
+    (choice.either Never (wantsPeriods (heldText (m .receiver)) c) (λ e. omega arith)
+    (choice.either Never (wantsProgram (heldText (m .receiver)) c) (λ e. omega arith) (λ e. omega arith))))
 heard-never m c d Frame = frame-never m (marked (m .receiver) || d) c
 heard-never m c d TooLong = λ e. omega arith
 

@@ -11,9 +11,10 @@ use Rattle.state.specs.Sizes.{tables, counterEnd}
 use Rattle.state.specs.declared.Receiver.{Receiver}
 use Rattle.state.specs.declared.Facts.{Facts}
 use Rattle.state.specs.declared.Counters.{Counters}
+use Rattle.state.specs.declared.Archive.{Archive}
 use Rattle.state.specs.declared.Registers.{Registers}
 use Rattle.state.specs.declared.Meter.{Meter}
-use Rattle.state.specs.WellFormed.{speedGood, sumOf, total, zonesGood, receiverGood, tablesGood, factoryGood, wellFormed}
+use Rattle.state.specs.WellFormed.{speedGood, sumOf, total, zonesGood, receiverGood, tablesGood, archiveGood, factoryGood, wellFormed}
 use Rattle.state.specs.Setting.{zonePlace, counterOf}
 use Rattle.tariff.specs.Zones.{grown, counted}
 use Rattle.datasets.specs.Sets.{energySet}
@@ -34,12 +35,13 @@ pub record Bare : Type 0 where
   pub clock : Clock
   pub zones : List ℕ
   pub tables : List ℕ
+  pub archive : Archive
 
 -- what such a state is well-formed by: document 01's ranges
 unfoldable pub bareFormed : Bare → Bool
 bareFormed b =
     (((leb (b .mode) 4 && leb (b .attempts) 3) && speedGood (b .mode) (b .speed)) && receiverGood (b .mode) (b .receiver))
-    && (factoryGood (b .facts) (b .account) (b .clock) && (zonesGood (b .zones) && tablesGood tables (b .tables)))
+    && (factoryGood (b .facts) (b .account) (b .clock) && (zonesGood (b .zones) && (tablesGood tables (b .tables) && archiveGood (b .archive))))
 
 -- a state whose total is forgotten, and one whose total is added up
 abbrev pub bare : Meter → Bare
@@ -54,6 +56,7 @@ bare m =
       clock = m .registers .clock;
       zones = m .registers .counters .zones;
       tables = m .registers .tables;
+      archive = m .registers .archive;
     }
 
 abbrev pub summed : List ℕ → Counters
@@ -66,7 +69,7 @@ addedUp b =
       attempts = b .attempts;
       speed = b .speed;
       receiver = b .receiver;
-      registers = record { facts = b .facts; account = b .account; clock = b .clock; counters = summed (b .zones); tables = b .tables };
+      registers = record { facts = b .facts; account = b .account; clock = b .clock; counters = summed (b .zones); tables = b .tables; archive = b .archive };
     }
 
 -- what a meter without a total answers, and its next state

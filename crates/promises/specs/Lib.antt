@@ -2,3 +2,4 @@ pub mod Writes
 pub mod Adding
 pub mod Hurt
 pub mod Ignoring
+pub mod Months

@@ -1,10 +1,11 @@
 -- What a character may change in the registers, and what a meter may be asked.
 use mathlib.Core.Path.{_≡_}
-use mathlib.Core.Bool.{Bool, true, _||_}
-use mathlib.Core.List.{List, [], _∷_}
+use mathlib.Core.Bool.{Bool, true, false, _||_}
+use mathlib.Core.List.{List, [], _∷_, _++_}
 use Prim.Native.Nat.{ℕ, _+_, _-_}
 use lib.ListN.{length, take, drop}
 use Rattle.line.specs.Characters.{damagedAt}
+use Rattle.line.specs.Controls.{LF}
 use Rattle.clock.specs.Seconds.{realClock}
 use Rattle.clock.specs.declared.Clock.{Clock}
 use Rattle.values.specs.declared.TableNo.{TableNo}
@@ -12,7 +13,9 @@ use Rattle.values.specs.Reading.{clockRead, tableRead}
 use Rattle.values.specs.declared.reading.ClockRead.{ClockRead}
 use Rattle.values.specs.declared.reading.TableRead.{TableRead}
 use Rattle.values.specs.Registers.{goodAccount, goodRow, goodTable}
+use Rattle.frames.specs.Session.{closingSignOn}
 use Rattle.state.specs.WellFormed.{marked}
+use Rattle.state.specs.Closing.{closing}
 use Rattle.state.specs.Sizes.{tables}
 use Rattle.state.specs.declared.Registers.{Registers}
 use Rattle.state.specs.declared.Meter.{Meter}
@@ -20,7 +23,7 @@ use Rattle.replies.specs.declared.Ask.{Ask}
 use Rattle.replies.specs.declared.Ask.the-variants as ask
 use Rattle.state.specs.Setting.{withClock, withAccount, withTables, withRow}
 use Rattle.receiving.specs.declared.Hearing.{Hearing}
-use Rattle.receiving.specs.declared.Hearing.the-variants.{Frame}
+use Rattle.receiving.specs.declared.Hearing.the-variants.{Line, Frame}
 use Rattle.receiving.specs.Hearing.{hearing}
 use Rattle.receiving.specs.Receivers.{heldText, lastHeld}
 use Rattle.deciding.specs.declared.Verdict.{Verdict}
@@ -50,7 +53,15 @@ pub record Written (m : Meter) (b : ℕ) (v : Verdict) : Type 0 where
   pub started : take 4 (heldText (m .receiver)) ≡ writeStart
   pub decided : verdict (m .mode) (heldText (m .receiver)) (marked (m .receiver) || damagedAt b) (symbol b) ≡ v
 
--- the registers after an outcome: as they were, or with the one register that an accepted write names, and what it tells of it
+-- [12]: the byte completes an unmarked line `/C!` CR LF, in mode 0
+pub record Called (m : Meter) (b : ℕ) : Type 0 where
+  pub listening : m .mode ≡ 0
+  pub completed : hearing (m .mode) (m .receiver .count) (lastHeld (m .receiver)) (symbol b) ≡ Line
+  pub unmarked : marked (m .receiver) ≡ false
+  pub said : heldText (m .receiver) ++ (LF ∷ []) ≡ closingSignOn
+
+-- the registers after an outcome: as they were, or with the one register that an accepted write names, and what it tells of it,
+-- or with a period closed by the sign-on for that
 pub data Kept (m : Meter) (b : ℕ) (o : Outcome) : Type 0 where
   same : o .next .registers ≡ m .registers → Kept m b o
   clock : (c : Clock) → Written m b (WriteClock c) → c ≡ clockRead (tellsOf m) .clock → realClock c ≡ true → o .number ≡ 1
@@ -60,6 +71,7 @@ pub data Kept (m : Meter) (b : ℕ) (o : Outcome) : Type 0 where
   table : (t : TableNo) → Written m b (WriteTable t) → t ≡ tableRead tables (take 2 (tellsOf m)) .table
       → goodTable tables (t .0) ≡ true → goodRow (drop 3 (tellsOf m)) ≡ true → o .number ≡ 1
       → o .next .registers ≡ withTables (m .registers) (withRow (m .registers .tables) (t .0) (drop 3 (tellsOf m))) → Kept m b o
+  closed : Called m b → o .number ≡ 1 → o .next .registers ≡ closing (m .registers) → Kept m b o
 
 -- what is asked can be answered: a table is one of the 24
 unfoldable pub answerable : Ask → Bool

@@ -28,7 +28,7 @@ module _ (p q : ℕ → Bool) (same : allBelow 256 (λ c. agree (p c) (q c)) ≡
   at-byte c h = agreed (p c) (q c) (below-all 256 (λ c. agree (p c) (q c)) same c h)
 
 abbrev pub addressTest : ℕ → Bool
-addressTest c = cond (leb 48 c && leb c 57) true (eqb c 46 || ((leb 65 c && leb c 90) || (leb 97 c && leb c 122)))
+addressTest c = cond (leb 48 c && leb c 57) true ((eqb c 46 || eqb c 42) || ((leb 65 c && leb c 90) || (leb 97 c && leb c 122)))
 
 abbrev pub valueTest : ℕ → Bool
 valueTest c = cond (leb 48 c && leb c 126) true ((eqb c 32 || (leb 34 c && leb c 39)) || (leb 42 c && leb c 46))

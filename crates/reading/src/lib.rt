@@ -21,7 +21,7 @@ fn is_address(c: u8) -> bool
     if (48 <= c) & (c <= 57) {
         return true;
     }
-    (c == b'.') | (((65 <= c) & (c <= 90)) | ((97 <= c) & (c <= 122)))
+    ((c == b'.') | (c == b'*')) | (((65 <= c) & (c <= 90)) | ((97 <= c) & (c <= 122)))
 }
 
 // Whether a byte may stand in a value; most are digits or letters.

@@ -2,11 +2,11 @@
 use mathlib.Core.Path.{_≡_, refl, sym, ap, subst, _∙_}
 use mathlib.Core.Bool.{Bool, true}
 use mathlib.Core.List.{List, [], _∷_, _++_, map, map-append}
-use Prim.Native.Nat.{ℕ, zero, suc, _≤_}
+use Prim.Native.Nat.{ℕ, zero, suc, _+_, _*_, _≤_}
 use native.Mathlib.Omega.{arith}
 use borrow.Author.Tests.{leb-true, le-leb}
 use lib.Dec.{leb, lit≤}
-use lib.ListN.{length}
+use lib.ListN.{length, take, length-append}
 use Rattle.line.specs.Runs.{every}
 use Rattle.line.proofs.Runs.{and-left, and-right, every-append, every-weaker}
 use Rattle.text.specs.Classes.{between}
@@ -15,10 +15,13 @@ use Rattle.values.specs.Edition.{editionTables}
 use Rattle.values.specs.Registers.{goodTable, energyNo, zoneEnergy}
 use Rattle.frames.specs.Frames.{blockOf}
 use Rattle.state.specs.Sizes.{tables}
+use Rattle.state.specs.declared.Period.{Period}
 use Rattle.state.specs.declared.Registers.{Registers}
 use Rattle.state.specs.declared.Meter.{Meter}
-use Rattle.state.specs.WellFormed.{registersGood, wellFormed}
-use Rattle.state.proofs.Parts.{formed}
+use Rattle.state.specs.WellFormed.{periodGood, everyPeriod, registersGood, wellFormed}
+use Rattle.state.specs.Closing.{periodsOf}
+use Rattle.state.proofs.Parts.{formed, formed-registers}
+use Rattle.state.proofs.Archives.{formed-archive}
 use Rattle.datasets.specs.Sets.{DataSet, linesOf, tableSet}
 use Rattle.datasets.proofs.Characters.{Within, within}
 use Rattle.replies.specs.declared.Ask.{Ask}
@@ -27,7 +30,9 @@ use Rattle.replies.specs.Shown.{rowOf}
 use Rattle.replies.specs.Shown as shown
 use Rattle.replies.specs.Answers.{askedSets, askedData}
 use Rattle.replies.specs.Block.{factSets, energySets, tableSets, blockSets, blockData}
-use Rattle.replies.proofs.Good.{asked-good, block-good, asked-shown, block-shown}
+use Rattle.replies.specs.Periods.{periodSets, archiveSets, longSets, longData}
+use Rattle.replies.proofs.Good.{asked-good, block-good, long-good, asked-shown, block-shown, long-shown, register-ground}
+use Rattle.replies.proofs.Periods.{kept-many}
 use Rattle.blocks.specs.Parts.{isContent}
 use Rattle.reading.specs.Whole.{Found, lastLine, readAll}
 use Rattle.readback.proofs.Blocks.{block-long, part-of-block, part-is-content, block-strips, block-strips-into}
@@ -37,8 +42,8 @@ use Rattle.deciding.specs.Verdict.{verdict}
 use Rattle.meter.specs.Acting.{acted}
 use Rattle.promises.specs.Writes.{answerable}
 use Rattle.promises.proofs.Verdicts.{read-answerable}
-use Rattle.recital.specs.Recital.{Register, row, Recites, tableNumbers, rows, blockSays, answerSays, ReadsBack, counts}
-use Rattle.recital.proofs.Registers.{and-then, and-none, own-energy-reads, serial-reads, account-reads, date-reads, time-reads, row-reads}
+use Rattle.recital.specs.Recital.{Register, row, Recites, tableNumbers, rows, blockSays, periodSays, periodsSay, longSays, answerSays, ReadsBack, counts}
+use Rattle.recital.proofs.Registers.{and-then, and-none, period-reads, own-energy-reads, serial-reads, account-reads, date-reads, time-reads, row-reads}
 
 -- what a meter shows may stand in a block
 content : Within (between 10 126) isContent
@@ -97,6 +102,28 @@ block-recites g good =
     (and-then _ _ _ _ (own-energy-reads g good (zoneEnergy 4))
     (and-then _ _ _ _ (own-energy-reads g good Total) all))))))))
 
+-- sets after sets
+and-all : (ds es : List DataSet) (xs ys : List Register) → Recites ds xs → Recites es ys → Recites (ds ++ es) (xs ++ ys)
+unfolding Recites
+and-all [] es [] ys h k = k
+and-all [] es (x ∷ xs) ys h k = absurd h
+and-all (d ∷ ds) es [] ys h k = absurd h
+and-all (d ∷ ds) es (x ∷ xs) ys h k = (h .0, and-all ds es xs ys (h .1) k)
+
+-- [12]: the closed periods
+periods-recite : (k : ℕ) (ps : List Period) → everyPeriod periodGood ps ≡ true → Recites (archiveSets k ps) (periodsSay k ps)
+unfolding everyPeriod archiveSets periodsSay
+periods-recite k [] h = and-none
+periods-recite k (p ∷ ps) h =
+    and-all (periodSets k p) (archiveSets (k + 1) ps) (periodSays k p) (periodsSay (k + 1) ps)
+    (period-reads k p (and-left (periodGood p) (everyPeriod periodGood ps) h)) (periods-recite (k + 1) ps (and-right (periodGood p) (everyPeriod periodGood ps) h))
+
+long-recites : (g : Registers) → registersGood g ≡ true → Recites (longSets editionTables g) (longSays g)
+unfolding longSets longSays periodsOf
+long-recites g good =
+    and-all (blockSets editionTables g) (archiveSets 1 (periodsOf (g .archive))) (blockSays g) (periodsSay 1 (periodsOf (g .archive)))
+    (block-recites g good) (periods-recite 1 (periodsOf (g .archive)) (formed-archive (g .archive) (formed-registers g good .archive) .good))
+
 answer-recites : (g : Registers) → registersGood g ≡ true → (a : Ask) → answerable a ≡ true → Recites (askedSets g a) (answerSays g a)
 unfolding askedSets answerSays answerable
 answer-recites g good ask.Clock h = and-then _ _ _ _ (time-reads g good) (and-then _ _ _ _ (date-reads g good) and-none)
@@ -110,6 +137,10 @@ pub block-read : (g : Registers) → registersGood g ≡ true → readAll (block
 unfolding blockData lastLine
 block-read g good = sets-read-back (blockSets editionTables g) (block-good editionTables g good)
 
+long-read : (g : Registers) → registersGood g ≡ true → readAll (longData editionTables g) ≡ record { sets = longSets editionTables g; number = 0; place = length (linesOf (longSets editionTables g)) }
+unfolding longData lastLine
+long-read g good = sets-read-back (longSets editionTables g) (long-good editionTables g good)
+
 module _ (m : Meter) (f : wellFormed m ≡ true) where
   -- the data block: all 33 data sets in order
   pub block-reads-back : ReadsBack (blockData editionTables (m .registers)) (blockSays (m .registers))
@@ -118,6 +149,14 @@ module _ (m : Meter) (f : wellFormed m ≡ true) where
       let good = formed m f .registers in
       reads-back (blockData editionTables g) (blockSays g) (blockSets editionTables g) (length (linesOf (blockSets editionTables g))) (block-shown editionTables g good) (block-read g good)
       (block-recites g good)
+
+  -- [12]: the block with the closed periods: those, and every period's time and counters, in order
+  pub long-reads-back : ReadsBack (longData editionTables (m .registers)) (longSays (m .registers))
+  long-reads-back =
+      let g = m .registers in
+      let good = formed m f .registers in
+      reads-back (longData editionTables g) (longSays g) (longSets editionTables g) (length (linesOf (longSets editionTables g))) (long-shown editionTables g good) (long-read g good)
+      (long-recites g good)
 
   -- and every answer to R1
   pub answer-block-reads-back : (a : Ask) → answerable a ≡ true → ReadsBack (askedData (m .registers) a) (answerSays (m .registers) a)
@@ -137,3 +176,15 @@ module _ (m : Meter) (f : wellFormed m ≡ true) where
 pub thirty-three : (g : Registers) → length (blockSays g) ≡ 33
 unfolding blockSays rows tableNumbers
 thirty-three g = refl
+
+-- and five for each closed period
+five-each : (k : ℕ) (ps : List Period) → length (periodsSay k ps) ≡ length ps * 5
+unfolding periodsSay periodSays
+five-each k [] = refl
+five-each k (p ∷ ps) = length-append (periodSays k p) (periodsSay (k + 1) ps) ∙ omega (arith, five-each (k + 1) ps)
+
+pub thirty-three-and-five : (g : Registers) → registersGood g ≡ true → length (longSays g) ≡ 33 + g .archive .count * 5
+unfolding longSays
+thirty-three-and-five g good =
+    length-append (blockSays g) (periodsSay 1 (periodsOf (g .archive)))
+    ∙ omega (arith, thirty-three g, five-each 1 (periodsOf (g .archive)), kept-many g (register-ground g good .lengths))

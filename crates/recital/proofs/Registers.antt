@@ -4,29 +4,31 @@ use mathlib.Core.Bool.{true, _&&_}
 use mathlib.Core.List.{List, [], _∷_}
 use Prim.Native.Nat.{ℕ, zero, suc, _-_, _*_, _≤_, _<_}
 use native.Mathlib.Omega.{arith}
-use borrow.Author.Tests.{leb-true, eqb-true, eq-eqb}
-use lib.Dec.{eqb, leb, lit≤}
-use lib.ListN.{length, drop}
+use borrow.Author.Tests.{leb-true, eqb-true, eq-eqb, ltb-true}
+use lib.Dec.{eqb, leb, ltb, lit≤}
+use lib.ListN.{length, drop, getD}
 use Rattle.line.specs.Runs.{every}
 use Rattle.line.proofs.Runs.{and-left, and-right, and-both, every-take, every-drop}
 use Rattle.text.specs.Classes.{between}
 use Rattle.clock.specs.Dates.{realDate, realTime}
-use Rattle.clock.specs.Seconds.{realClock}
+use Rattle.clock.specs.Seconds.{realClock, realStamp}
 use Rattle.values.specs.declared.Energy.{Energy}
 use Rattle.values.specs.declared.Energy.the-variants.{Total, Zone}
 use Rattle.values.specs.Registers.{goodRow, goodTable, energyNo}
-use Rattle.values.proofs.RoundTrip.{date-reads-back, time-reads-back, counter-reads-back}
+use Rattle.values.proofs.RoundTrip.{date-reads-back, time-reads-back, stamp-reads-back, counter-reads-back}
 use Rattle.values.proofs.Serials.{serial-reads-back, account-reads-back, row-reads-back}
 use Rattle.state.specs.Sizes.{tables, rowLength, counterEnd}
+use Rattle.state.specs.declared.Period.{Period}
 use Rattle.state.specs.declared.Registers.{Registers}
-use Rattle.state.specs.WellFormed.{tablesGood, registersGood}
-use Rattle.state.specs.Setting.{rowStart, counterOf}
+use Rattle.state.specs.WellFormed.{below, zonesGood, periodGood, tablesGood, registersGood}
+use Rattle.state.specs.Setting.{rowStart, zonePlace, counterOf}
 use Rattle.state.proofs.Parts.{formed-registers, formed-facts, counter-small, total-is-sum, total-small}
-use Rattle.datasets.specs.Sets.{DataSet, timeSet, dateSet, serialSet, accountSet, energySet, tableSet}
+use Rattle.datasets.specs.Sets.{DataSet, timeSet, dateSet, serialSet, accountSet, energySet, tableSet, closedSet, keptSet}
 use Rattle.replies.specs.Shown.{rowOf}
 use Rattle.replies.specs.Shown as shown
 use Rattle.replies.proofs.Sizes.{row-long}
-use Rattle.recital.specs.Recital.{Register, serial, date, time, account, energy, row, ReadsAs, Recites, counts}
+use Rattle.replies.specs.Periods.{keptIn, periodSets}
+use Rattle.recital.specs.Recital.{Register, serial, date, time, account, energy, row, closed, kept, ReadsAs, Recites, counts, periodSays}
 
 -- one data set more
 pub and-then : (x : Register) (d : DataSet) (xs : List Register) (ds : List DataSet) → ReadsAs x d → Recites ds xs → Recites (d ∷ ds) (x ∷ xs)
@@ -40,6 +42,31 @@ and-none = tt
 pub energy-reads : (n wh : ℕ) → wh < counterEnd → ReadsAs (energy n wh) (energySet n wh)
 unfolding ReadsAs
 energy-reads n wh h = (refl, counter-reads-back 9 3 wh (omega arith) (lit≤ tt))
+
+-- [12]: and so the data sets of a closed period
+small : (zones : List ℕ) → every (below counterEnd) zones ≡ true → (i : ℕ) → getD zones i 0 < counterEnd
+unfolding every below
+small [] h i = omega arith
+small (wh ∷ zones) h zero = ltb-true wh counterEnd (and-left (ltb wh counterEnd) (every (below counterEnd) zones) h)
+small (wh ∷ zones) h (suc i) = small zones (and-right (ltb wh counterEnd) (every (below counterEnd) zones) h) i
+
+module _ (k : ℕ) (p : Period) (good : periodGood p ≡ true) where
+  closed-reads : ReadsAs (closed k (p .closed)) (closedSet k (p .closed))
+  unfolding ReadsAs periodGood
+  closed-reads = (refl, stamp-reads-back (p .closed) (and-left (realStamp (p .closed)) (zonesGood (p .zones)) good))
+
+  kept-reads : (n : ℕ) → ReadsAs (kept k n (keptIn p n)) (keptSet k n (keptIn p n))
+  unfolding ReadsAs periodGood zonesGood
+  kept-reads n =
+      let zones = and-right (realStamp (p .closed)) (zonesGood (p .zones)) good in
+      let low = small (p .zones) (and-right (eqb (length (p .zones)) 4) (every (below counterEnd) (p .zones)) zones) (zonePlace n) in
+      (refl, counter-reads-back 9 3 (keptIn p n) (omega (arith, low)) (lit≤ tt))
+
+  pub period-reads : Recites (periodSets k p) (periodSays k p)
+  unfolding periodSets periodSays
+  period-reads =
+      and-then _ _ _ _ closed-reads
+      (and-then _ _ _ _ (kept-reads 1) (and-then _ _ _ _ (kept-reads 2) (and-then _ _ _ _ (kept-reads 3) (and-then _ _ _ _ (kept-reads 4) and-none))))
 
 module _ (g : Registers) (good : registersGood g ≡ true) where
   pub serial-reads : ReadsAs (serial (g .facts .serial)) (serialSet (g .facts .serial))

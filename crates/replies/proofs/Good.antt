@@ -23,17 +23,21 @@ use Rattle.state.specs.Sizes.{rowLength, tables}
 use Rattle.state.specs.Setting.{rowStart, counterOf}
 use Rattle.state.specs.WellFormed.{tablesGood, registersGood, wellFormed}
 use Rattle.state.proofs.Parts.{formed, formed-registers, formed-facts}
+use Rattle.state.proofs.Archives.{formed-archive}
 use Rattle.state.specs.declared.Meter.{Meter}
+use Rattle.state.specs.declared.Period.{Period}
 use Rattle.state.specs.declared.Registers.{Registers}
+use Rattle.state.specs.Closing.{periodsOf}
 use Rattle.datasets.specs.Sets.{DataSet, linesOf}
 use Rattle.datasets.specs.Good.{goodSet, goodSets}
 use Rattle.datasets.proofs.Characters.{Within, within}
-use Rattle.datasets.proofs.Good.{time-good, date-good, serial-good, account-good, energy-good, table-good, good-append, lines-shown}
+use Rattle.datasets.proofs.Good.{time-good, date-good, serial-good, account-good, energy-good, table-good, closed-good, kept-good, good-append, lines-shown}
 use Rattle.replies.specs.declared.Ask.{Ask}
 use Rattle.replies.specs.declared.Ask.the-variants as ask
 use Rattle.replies.specs.Shown.{Lengths, rowOf, energy}
 use Rattle.replies.specs.Answers.{askedSets, askedData}
 use Rattle.replies.specs.Block.{factSets, energySets, tableSets, blockSets, blockData}
+use Rattle.replies.specs.Periods.{keptIn, periodSets, archiveSets, longSets, longData}
 use Rattle.replies.specs.Fixed.{identification, passwordAsk, accepted, refused}
 use Rattle.replies.proofs.Sizes.{row-short}
 
@@ -58,6 +62,8 @@ register-ground g h =
         serial = eqb-true (length s) 10 (and-left serial (every isDigit s) hs);
         account = eqb-true (length (g .account)) 10 (and-left account (every isAccountCharacter (g .account)) (f .account));
         rows = eqb-true (length (g .tables)) (tables * rowLength) (and-left rows (every (between 49 52) (g .tables)) (f .tables));
+        places = formed-archive (g .archive) (f .archive) .long;
+        kept = formed-archive (g .archive) (f .archive) .count;
       };
       serial = and-right serial (every isDigit s) hs;
       account = and-right account (every isAccountCharacter (g .account)) (f .account);
@@ -123,6 +129,27 @@ block-good tables g h =
     let f = register-ground g h in
     good-append _ _ (facts-good g f) (good-append _ _ (energies-good g) (tables-good g f tables))
 
+-- [12]: and so are the closed periods
+period-sets-good : (k : ℕ) (p : Period) → goodSets (periodSets k p) ≡ true
+unfolding periodSets goodSets
+period-sets-good k p =
+    rw (
+      closed-good k (p .closed),
+      kept-good k 1 (keptIn p 1),
+      kept-good k 2 (keptIn p 2),
+      kept-good k 3 (keptIn p 3),
+      kept-good k 4 (keptIn p 4),
+    )
+
+archive-sets-good : (k : ℕ) (ps : List Period) → goodSets (archiveSets k ps) ≡ true
+unfolding archiveSets goodSets
+archive-sets-good k [] = refl
+archive-sets-good k (p ∷ ps) = good-append (periodSets k p) (archiveSets (k + 1) ps) (period-sets-good k p) (archive-sets-good (k + 1) ps)
+
+pub long-good : (tables : ℕ) (g : Registers) → registersGood g ≡ true → goodSets (longSets tables g) ≡ true
+unfolding longSets
+long-good tables g h = good-append (blockSets tables g) (archiveSets 1 (periodsOf (g .archive))) (block-good tables g h) (archive-sets-good 1 (periodsOf (g .archive)))
+
 -- the block is the lines of its data sets and `!` CR LF; of 24 tables, 33 data sets
 pub block-is-lines : (tables : ℕ) (g : Registers) → blockData tables g ≡ linesOf (blockSets tables g) ++ (33 ∷ 13 ∷ 10 ∷ [])
 unfolding blockData
@@ -141,6 +168,12 @@ pub block-shown : (tables : ℕ) (g : Registers) → registersGood g ≡ true �
 unfolding blockData
 block-shown tables g h =
     every-append (between 10 126) (linesOf (blockSets tables g)) (33 ∷ 13 ∷ 10 ∷ []) (lines-shown (blockSets tables g) (block-good tables g h))
+    (unfold every between in refl)
+
+pub long-shown : (tables : ℕ) (g : Registers) → registersGood g ≡ true → every (between 10 126) (longData tables g) ≡ true
+unfolding longData
+long-shown tables g h =
+    every-append (between 10 126) (linesOf (longSets tables g)) (33 ∷ 13 ∷ 10 ∷ []) (lines-shown (longSets tables g) (long-good tables g h))
     (unfold every between in refl)
 
 -- such a content has no ETX, and its block is characters
@@ -175,6 +208,9 @@ asked-characters g a h = block-characters (askedData g a) (asked-shown g a h)
 
 pub data-block-characters : (tables : ℕ) (g : Registers) → registersGood g ≡ true → every (between 0 127) (blockOf (blockData tables g)) ≡ true
 data-block-characters tables g h = block-characters (blockData tables g) (block-shown tables g h)
+
+pub long-block-characters : (tables : ℕ) (g : Registers) → registersGood g ≡ true → every (between 0 127) (blockOf (longData tables g)) ≡ true
+long-block-characters tables g h = block-characters (longData tables g) (long-shown tables g h)
 
 -- the fixed sequences, by computing
 pub identification-characters : every (between 0 127) identification ≡ true

@@ -1,3 +1,4 @@
 pub mod Sizes
 pub mod Tables
 pub mod Good
+pub mod Periods

@@ -82,23 +82,26 @@ tables-long rows (suc n) h =
     (omega (arith, lines-cons last [], table-line (suc n) (rowOf rows (suc n)), row-long rows n h))
 
 -- 193 characters before the tables, 36 for each, 3 at the end
-pub content-long : (tables : ℕ) (g : Registers) → Lengths tables g → length (blockData tables g) ≡ 196 + tables * 36
-unfolding blockData blockSets
-content-long tables g h =
+pub sets-long : (tables : ℕ) (g : Registers) → Lengths tables g → length (linesOf (blockSets tables g)) ≡ 193 + tables * 36
+unfolding blockSets
+sets-long tables g h =
     let f = factSets (g .facts .serial) (g .clock) (g .account) in
     let e = energySets (g .counters) in
     let t = tableSets (g .tables) tables in
-    let a = length-append (linesOf (f ++ (e ++ t))) (33 ∷ 13 ∷ 10 ∷ []) in
     let b : length (linesOf (f ++ (e ++ t))) ≡ length (linesOf f) + (length (linesOf e) + length (linesOf t)) =
     rw (lines-append f (e ++ t), lines-append e t, length-append (linesOf f) (linesOf e ++ linesOf t), length-append (linesOf e) (linesOf t)) in
-    a
-    ∙ omega (
+    omega (
       arith,
       b,
       facts-long (g .facts .serial) (g .clock) (g .account) (h .serial) (h .account),
       energies-long (g .counters),
       tables-long (g .tables) tables (omega (arith, h .rows)),
     )
+
+pub content-long : (tables : ℕ) (g : Registers) → Lengths tables g → length (blockData tables g) ≡ 196 + tables * 36
+unfolding blockData
+content-long tables g h =
+    length-append (linesOf (blockSets tables g)) (33 ∷ 13 ∷ 10 ∷ []) ∙ omega (arith, sets-long tables g h)
 
 -- document 01: it is 1,063 characters
 pub block-long : (g : Registers) → Lengths tables g → length (blockOf (blockData tables g)) ≡ 1063
@@ -147,14 +150,14 @@ module _ (g : Registers) (a : Ask) (buf : List ℕ) (at place : ℕ) (after : Li
       let s = tableSet (t .0) row in
       asked g a (s ∷ []) buf at place after (ap (askedSets g) told) (single s (12 + length row) buf at place after (table-line (t .0) row) (omega arith) q)
 
--- facts, energies, tables and the end, put in one after the other, are the block's data
-pub whole : (g : Registers) (buf : List ℕ) (at : ℕ) (b1 : List ℕ) (p1 : ℕ) (b2 : List ℕ) (p2 : ℕ) (b3 : List ℕ) (p3 : ℕ) (b4 : List ℕ)
+-- facts, energies and tables, put in one after the other, are the block's lines
+pub all-put : (g : Registers) (buf : List ℕ) (at : ℕ) (b1 : List ℕ) (p1 : ℕ) (b2 : List ℕ) (p2 : ℕ) (b3 : List ℕ) (p3 : ℕ)
     → Lengths tables g → p1 ≡ at + 73 → b1 ≡ stored buf at (linesOf (factSets (g .facts .serial) (g .clock) (g .account)))
     → p2 ≡ p1 + 120 → b2 ≡ stored b1 p1 (linesOf (energySets (g .counters)))
     → p3 ≡ p2 + 864 → b3 ≡ stored b2 p2 (linesOf (tableSets (g .tables) tables))
-    → b4 ≡ stored b3 p3 (33 ∷ 13 ∷ 10 ∷ []) → b4 ≡ stored buf at (blockData tables g)
-unfolding blockData blockSets
-whole g buf at b1 p1 b2 p2 b3 p3 b4 h q1 e1 q2 e2 q3 e3 e4 =
+    → Lines buf at (blockSets tables g) p3 b3
+unfolding blockSets
+all-put g buf at b1 p1 b2 p2 b3 p3 h q1 e1 q2 e2 q3 e3 =
     let f = factSets (g .facts .serial) (g .clock) (g .account) in
     let e = energySets (g .counters) in
     let t = tableSets (g .tables) tables in
@@ -163,8 +166,12 @@ whole g buf at b1 p1 b2 p2 b3 p3 b4 h q1 e1 q2 e2 q3 e3 e4 =
     let energies : Lines b1 p1 e p2 b2 = record { next = omega (arith, energies-long (g .counters)); held = e2 } in
     let rows : Lines b2 p2 t p3 b3 =
     record { next = omega (arith, tables-long (g .tables) tables (omega (arith, h .rows))); held = e3 } in
-    let all = joined f (e ++ t) buf at p1 b1 p3 b3 facts (joined e t b1 p1 p2 b2 p3 b3 energies rows) in
-    and-then buf at (linesOf (f ++ (e ++ t))) b3 p3 (33 ∷ 13 ∷ 10 ∷ []) b4 (all .held) (all .next) e4
+    joined f (e ++ t) buf at p1 b1 p3 b3 facts (joined e t b1 p1 p2 b2 p3 b3 energies rows)
+
+-- lines and the end of them
+pub ended : (sets : List DataSet) (buf : List ℕ) (at place : ℕ) (mid after : List ℕ) → Lines buf at sets place mid
+    → after ≡ stored mid place (33 ∷ 13 ∷ 10 ∷ []) → after ≡ stored buf at (linesOf sets ++ (33 ∷ 13 ∷ 10 ∷ []))
+ended sets buf at place mid after l e = and-then buf at (linesOf sets) mid place (33 ∷ 13 ∷ 10 ∷ []) after (l .held) (l .next) e
 
 -- so every answer to R1 fits, with STX, ETX and BCC
 pub asked-fits : (g : Registers) (a : Ask) → Lengths tables g → length (blockOf (askedData g a)) ≤ 39

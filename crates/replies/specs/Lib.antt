@@ -1,4 +1,5 @@
 pub mod Shown
 pub mod Answers
 pub mod Block
+pub mod Periods
 pub mod Fixed

@@ -1,14 +1,17 @@
 // The data sets of the data block.
 ghost use mathlib.Core.Path.{_≡_};
 ghost use Prim.Native.Nat.{_+_, _*_, _≤_};
-ghost use lib.ListN.{length};
+ghost use lib.ListN.{length, take};
 ghost use Rattle.text.specs.Writing.{stored};
-ghost use Rattle.state.specs.Sizes.{tables, rowLength};
+ghost use Rattle.state.specs.Sizes.{tables, rowLength, periodPlaces};
 ghost use Rattle.datasets.specs.Sets.{linesOf};
 ghost use Rattle.replies.specs.Shown.{Lengths};
-ghost use Rattle.replies.specs.Block.{factSets, energySets, tableSets, blockData};
+ghost use Rattle.replies.specs.Block.{factSets, energySets, tableSets, blockSets, blockData};
+ghost use Rattle.replies.specs.Periods.{periodSets, archiveSets, longData};
 use clock::Clock;
 use state::Counters;
+use state::PERIODS;
+use state::Period;
 use state::Registers;
 use values::Energy;
 use values::ROW_LENGTH;
@@ -59,11 +62,11 @@ fn put_tables(buf: &mut [u8], at: usize, rows: &[u8]) -> usize
     place
 }
 
-// All of it, and the line that ends it.
-pub fn put_block(buf: &mut [u8], at: usize, g: Registers) -> usize
-    requires { ⌜ Lengths tables g × (at + 1060 ≤ length (now buf)) ⌝ }
-    ensures next { λ r. ⌜ r ≡ at + 1060 ⌝ }
-    ensures held { λ _. ⌜ now (buf .exit) ≡ stored (now (buf .entry)) at (blockData tables g) ⌝ }
+// All of these.
+fn put_sets(buf: &mut [u8], at: usize, g: Registers) -> usize
+    requires { ⌜ Lengths tables g × (at + 1057 ≤ length (now buf)) ⌝ }
+    ensures next { λ r. ⌜ r ≡ at + 1057 ⌝ }
+    ensures held { λ _. ⌜ now (buf .exit) ≡ stored (now (buf .entry)) at (linesOf (blockSets tables g)) ⌝ }
 {
     let f = g.facts;
     let serial = f.serial;
@@ -71,6 +74,58 @@ pub fn put_block(buf: &mut [u8], at: usize, g: Registers) -> usize
     let rows = g.tables;
     let a = put_facts(buf, at, &serial, g.clock, &account);
     let b = put_energies(buf, a, g.counters);
-    let c = put_tables(buf, b, &rows);
-    text::put(buf, c, b"!\r\n")
+    put_tables(buf, b, &rows)
+}
+
+// And the line that ends them.
+pub fn put_block(buf: &mut [u8], at: usize, g: Registers) -> usize
+    requires { ⌜ Lengths tables g × (at + 1060 ≤ length (now buf)) ⌝ }
+    ensures next { λ r. ⌜ r ≡ at + 1060 ⌝ }
+    ensures held { λ _. ⌜ now (buf .exit) ≡ stored (now (buf .entry)) at (blockData tables g) ⌝ }
+{
+    let a = put_sets(buf, at, g);
+    text::put(buf, a, b"!\r\n")
+}
+
+// The period numbered k: its time, T1 to T4.
+fn put_period(buf: &mut [u8], at: usize, k: u8, p: Period) -> usize
+    requires { ⌜ at + 134 ≤ length (now buf) ⌝ }
+    ensures next { λ r. ⌜ r ≡ at + 134 ⌝ }
+    ensures held { λ _. ⌜ now (buf .exit) ≡ stored (now (buf .entry)) at (linesOf (periodSets k p)) ⌝ }
+{
+    let zones = p.zones;
+    let o = datasets::put_closed_set(buf, at, k, p.closed);
+    let q = datasets::put_kept_set(buf, o, k, ZoneNo(1), zones[0]);
+    let r = datasets::put_kept_set(buf, q, k, ZoneNo(2), zones[1]);
+    let s = datasets::put_kept_set(buf, r, k, ZoneNo(3), zones[2]);
+    datasets::put_kept_set(buf, s, k, ZoneNo(4), zones[3])
+}
+
+// So many periods, numbered from 01 on.
+fn put_periods(buf: &mut [u8], at: usize, periods: [Period; PERIODS], count: usize) -> usize
+    requires { ⌜ (count ≤ periodPlaces) × (at + count * 134 ≤ length (now buf)) ⌝ }
+    ensures next { λ r. ⌜ r ≡ at + count * 134 ⌝ }
+    ensures held { λ _. ⌜ now (buf .exit) ≡ stored (now (buf .entry)) at (linesOf (archiveSets 1 (take count periods))) ⌝ }
+{
+    let mut i = 0;
+    let mut place = at;
+    while i < count {
+        let p = periods[i];
+        place = put_period(buf, place, (i + 1) as u8, p);
+        i += 1;
+    }
+    place
+}
+
+// The block with the closed periods after its tables.
+pub fn put_long_block(buf: &mut [u8], at: usize, g: Registers) -> usize
+    requires { ⌜ Lengths tables g × (at + 1060 + g .archive .count * 134 ≤ length (now buf)) ⌝ }
+    ensures next { λ r. ⌜ r ≡ at + 1060 + g .archive .count * 134 ⌝ }
+    ensures held { λ _. ⌜ now (buf .exit) ≡ stored (now (buf .entry)) at (longData tables g) ⌝ }
+{
+    let archive = g.archive;
+    let periods = archive.periods;
+    let a = put_sets(buf, at, g);
+    let b = put_periods(buf, a, periods, archive.count as usize);
+    text::put(buf, b, b"!\r\n")
 }

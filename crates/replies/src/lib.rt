@@ -1,7 +1,7 @@
 // What the meter answers: the fixed sequences, the data that R1 asks for, and the data block.
 // Each is put into the reply buffer from its front on, with parity, and its length given.
 ghost use mathlib.Core.Path.{_≡_};
-ghost use Prim.Native.Nat.{_+_, _≤_};
+ghost use Prim.Native.Nat.{_+_, _*_, _≤_};
 ghost use lib.ListN.{length};
 ghost use Rattle.text.specs.Writing.{holding};
 ghost use Rattle.frames.specs.Frames.{blockOf, onWire};
@@ -9,6 +9,7 @@ ghost use Rattle.state.specs.Sizes.{tables, replyRoom};
 ghost use Rattle.replies.specs.Shown.{Lengths};
 ghost use Rattle.replies.specs.Answers.{askedData};
 ghost use Rattle.replies.specs.Block.{blockData};
+ghost use Rattle.replies.specs.Periods.{longData};
 ghost use Rattle.replies.specs.Fixed.{identification, passwordAsk, accepted, refused};
 use state::Registers;
 use values::Energy;
@@ -93,5 +94,16 @@ pub fn data_block(buf: &mut [u8], g: Registers) -> usize
 {
     let start = text::put(buf, 0, b"\x02");
     let end = block::put_block(buf, start, g);
+    frames::seal(buf, end)
+}
+
+// The data block with the closed periods.
+pub fn long_block(buf: &mut [u8], g: Registers) -> usize
+    requires { ⌜ Lengths tables g × (replyRoom ≤ length (now buf)) ⌝ }
+    ensures whole { λ r. ⌜ r ≡ 1063 + g .archive .count * 134 ⌝ }
+    ensures held { λ _. ⌜ now (buf .exit) ≡ holding (now (buf .entry)) (onWire (blockOf (longData tables g))) ⌝ }
+{
+    let start = text::put(buf, 0, b"\x02");
+    let end = block::put_long_block(buf, start, g);
     frames::seal(buf, end)
 }

@@ -1,3 +1,4 @@
 pub mod Parts
 pub mod Limits
 pub mod Totals
+pub mod Archives

@@ -16,10 +16,11 @@ use Rattle.values.specs.Registers.{goodDigits, goodSerial, goodAccount, goodPas
 use Rattle.state.specs.declared.Receiver.{Receiver}
 use Rattle.state.specs.declared.Facts.{Facts}
 use Rattle.state.specs.declared.Counters.{Counters}
+use Rattle.state.specs.declared.Archive.{Archive}
 use Rattle.state.specs.declared.Registers.{Registers}
 use Rattle.state.specs.declared.Meter.{Meter}
 use Rattle.state.specs.Sizes.{heldPlaces, rowLength, tables, counterEnd}
-use Rattle.state.specs.WellFormed.{limit, firstGood, markGood, hurtGood, heldGood, receiverGood, below, zonesGood, total, countersGood, tablesGood, factsGood, factoryGood, registersGood, wellFormed, speedGood}
+use Rattle.state.specs.WellFormed.{limit, firstGood, markGood, heldGood, receiverGood, below, zonesGood, total, countersGood, tablesGood, archiveGood, factsGood, factoryGood, registersGood, wellFormed, speedGood, hurtGood}
 use Rattle.state.specs.Setting.{zonePlace, counterOf, speedIn}
 
 -- what is asked only after two tests have passed, and what has failed before it
@@ -82,6 +83,7 @@ pub record FormedRegisters (g : Registers) : Type 0 where
   pub clock : realClock (g .clock) ≡ true
   pub counters : countersGood (g .counters) ≡ true
   pub tables : tablesGood tables (g .tables) ≡ true
+  pub archive : archiveGood (g .archive) ≡ true
 
 pub formed-registers : (g : Registers) → registersGood g ≡ true → FormedRegisters g
 unfolding registersGood factoryGood
@@ -91,19 +93,21 @@ formed-registers g h =
     let k = realClock (g .clock) in
     let c = countersGood (g .counters) in
     let t = tablesGood tables (g .tables) in
-    let made = and-left (f && (a && k)) (c && t) h in
-    let rest = and-right (f && (a && k)) (c && t) h in
+    let p = archiveGood (g .archive) in
+    let made = and-left (f && (a && k)) (c && (t && p)) h in
+    let rest = and-right (f && (a && k)) (c && (t && p)) h in
     record {
       facts = and-left f (a && k) made;
       account = and-left a k (and-right f (a && k) made);
       clock = and-right a k (and-right f (a && k) made);
-      counters = and-left c t rest;
-      tables = and-right c t rest;
+      counters = and-left c (t && p) rest;
+      tables = and-left t p (and-right c (t && p) rest);
+      archive = and-right t p (and-right c (t && p) rest);
     }
 
 pub registers-good : (g : Registers) → FormedRegisters g → registersGood g ≡ true
 unfolding registersGood factoryGood
-registers-good g f = rw (f .facts, f .account, f .clock, f .counters, f .tables)
+registers-good g f = rw (f .facts, f .account, f .clock, f .counters, f .tables, f .archive)
 
 -- what a meter has for life, taken apart
 pub record FormedFacts (f : Facts) : Type 0 where

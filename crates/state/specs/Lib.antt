@@ -2,3 +2,4 @@ pub mod Sizes
 pub mod WellFormed
 pub mod Making
 pub mod Setting
+pub mod Closing

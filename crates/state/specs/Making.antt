@@ -8,10 +8,12 @@ use Rattle.clock.specs.declared.Clock.{Clock}
 use Rattle.state.specs.declared.Receiver.{Receiver}
 use Rattle.state.specs.declared.Facts.{Facts}
 use Rattle.state.specs.declared.Counters.{Counters}
+use Rattle.state.specs.declared.Period.{Period}
+use Rattle.state.specs.declared.Archive.{Archive}
 use Rattle.state.specs.declared.Registers.{Registers}
 use Rattle.state.specs.declared.Meter.{Meter}
 use Rattle.state.specs.declared.Made.{Made}
-use Rattle.state.specs.Sizes.{heldPlaces, rowLength, tables}
+use Rattle.state.specs.Sizes.{heldPlaces, rowLength, tables, periodPlaces}
 use Rattle.state.specs.WellFormed.{factoryGood}
 
 abbrev pub emptyReceiver : Receiver
@@ -20,10 +22,17 @@ emptyReceiver = record { held = replicate heldPlaces 0; count = 0; mark = 0; pla
 abbrev pub noCounters : Counters
 noCounters = record { zones = replicate 4 0; total = 0 }
 
+-- an unused place
+abbrev pub noPeriod : Period
+noPeriod = record { closed = record { date = dateOf 0 0 0; hour = 0; minute = 0 }; zones = replicate 4 0 }
+
+abbrev pub emptyArchive : Archive
+emptyArchive = record { periods = replicate periodPlaces noPeriod; count = 0 }
+
 abbrev pub factsOf : List ℕ → List ℕ → Facts
 factsOf serial password = record { serial = serial; password = password }
 
--- counters 0, attempts 0, all tables '1', mode 0, speed 0, empty receiver
+-- counters 0, attempts 0, all tables '1', no closed period, mode 0, speed 0, empty receiver
 abbrev pub meterOf : Facts → List ℕ → Clock → Meter
 meterOf facts account clock =
     record {
@@ -31,7 +40,15 @@ meterOf facts account clock =
       attempts = 0;
       speed = 0;
       receiver = emptyReceiver;
-      registers = record { facts = facts; account = account; clock = clock; counters = noCounters; tables = replicate (tables * rowLength) 49 };
+      registers =
+          record {
+            facts = facts;
+            account = account;
+            clock = clock;
+            counters = noCounters;
+            tables = replicate (tables * rowLength) 49;
+            archive = emptyArchive;
+          };
     }
 
 -- zeros, ten spaces and 2000-01-01 00:00:00

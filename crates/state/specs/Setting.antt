@@ -8,6 +8,7 @@ use Rattle.text.specs.Writing.{stored}
 use Rattle.clock.specs.declared.Clock.{Clock}
 use Rattle.state.specs.declared.Receiver.{Receiver}
 use Rattle.state.specs.declared.Counters.{Counters}
+use Rattle.state.specs.declared.Archive.{Archive}
 use Rattle.state.specs.declared.Registers.{Registers}
 use Rattle.state.specs.declared.Meter.{Meter}
 use Rattle.state.specs.Sizes.{rowLength}
@@ -46,16 +47,19 @@ abbrev pub withRegisters : Meter → Registers → Meter
 withRegisters m g = meterIn (m .mode) (m .attempts) (m .speed) (m .receiver) g
 
 abbrev pub withAccount : Registers → List ℕ → Registers
-withAccount g a = record { facts = g .facts; account = a; clock = g .clock; counters = g .counters; tables = g .tables }
+withAccount g a = record { facts = g .facts; account = a; clock = g .clock; counters = g .counters; tables = g .tables; archive = g .archive }
 
 abbrev pub withClock : Registers → Clock → Registers
-withClock g c = record { facts = g .facts; account = g .account; clock = c; counters = g .counters; tables = g .tables }
+withClock g c = record { facts = g .facts; account = g .account; clock = c; counters = g .counters; tables = g .tables; archive = g .archive }
 
 abbrev pub withCounters : Registers → Counters → Registers
-withCounters g c = record { facts = g .facts; account = g .account; clock = g .clock; counters = c; tables = g .tables }
+withCounters g c = record { facts = g .facts; account = g .account; clock = g .clock; counters = c; tables = g .tables; archive = g .archive }
 
 abbrev pub withTables : Registers → List ℕ → Registers
-withTables g t = record { facts = g .facts; account = g .account; clock = g .clock; counters = g .counters; tables = t }
+withTables g t = record { facts = g .facts; account = g .account; clock = g .clock; counters = g .counters; tables = t; archive = g .archive }
+
+abbrev pub withArchive : Registers → Archive → Registers
+withArchive g a = record { facts = g .facts; account = g .account; clock = g .clock; counters = g .counters; tables = g .tables; archive = a }
 
 -- the counter of a zone
 abbrev pub zonePlace : ℕ → ℕ

@@ -12,4 +12,8 @@ counterEnd = 1000000000
 
 -- the least room of a reply buffer
 abbrev pub replyRoom : ℕ
-replyRoom = 2048
+replyRoom = 4096
+
+-- [12]: an archive keeps 12 periods at most
+abbrev pub periodPlaces : ℕ
+periodPlaces = 12

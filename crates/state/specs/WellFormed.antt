@@ -3,18 +3,21 @@ use mathlib.Core.Bool.{Bool, true, false, cond, not, _&&_, _||_}
 use mathlib.Core.List.{List, [], _∷_}
 use Prim.Native.Nat.{ℕ, _+_, _*_, _%_}
 use lib.Dec.{eqb, leb, ltb}
-use lib.ListN.{length, drop, getD}
+use lib.ListN.{length, take, drop, getD}
 use Rattle.line.specs.Runs.{every}
 use Rattle.text.specs.Classes.{between}
-use Rattle.clock.specs.Seconds.{realClock}
+use Rattle.clock.specs.Seconds.{realClock, realStamp}
 use Rattle.clock.specs.declared.Clock.{Clock}
+use Rattle.clock.specs.declared.Stamp.{Stamp}
 use Rattle.values.specs.Registers.{goodSerial, goodAccount, goodPassword}
 use Rattle.state.specs.declared.Receiver.{Receiver}
 use Rattle.state.specs.declared.Facts.{Facts}
 use Rattle.state.specs.declared.Counters.{Counters}
+use Rattle.state.specs.declared.Period.{Period}
+use Rattle.state.specs.declared.Archive.{Archive}
 use Rattle.state.specs.declared.Registers.{Registers}
 use Rattle.state.specs.declared.Meter.{Meter}
-use Rattle.state.specs.Sizes.{heldPlaces, rowLength, tables, counterEnd}
+use Rattle.state.specs.Sizes.{heldPlaces, rowLength, tables, counterEnd, periodPlaces}
 
 -- at most 31 held in mode 0, 5 in mode 1, 63 in modes 2 to 4
 unfoldable pub limit : ℕ → ℕ
@@ -50,8 +53,11 @@ receiverGood mode r =
 unfoldable pub below : ℕ → ℕ → Bool
 below end n = ltb n end
 
+abbrev pub zonesBelow : ℕ → List ℕ → Bool
+zonesBelow end zones = eqb (length zones) 4 && every (below end) zones
+
 unfoldable pub zonesGood : List ℕ → Bool
-zonesGood zones = eqb (length zones) 4 && every (below counterEnd) zones
+zonesGood zones = zonesBelow counterEnd zones
 
 unfoldable pub sumOf : List ℕ → ℕ
 sumOf [] = 0
@@ -69,6 +75,35 @@ countersGood c = zonesGood (c .zones) && eqb (c .total) (total c)
 unfoldable pub tablesGood : ℕ → List ℕ → Bool
 tablesGood n s = eqb (length s) (n * rowLength) && every (between 49 52) s
 
+-- [12]: a closed period has a real time and four counters
+unfoldable pub periodGood : Period → Bool
+periodGood p = realStamp (p .closed) && zonesGood (p .zones)
+
+-- an unused place is all 0
+unfoldable pub noTime : Stamp → Bool
+noTime s = (eqb (s .date .year) 0 && (eqb (s .date .month) 0 && eqb (s .date .day) 0)) && (eqb (s .hour) 0 && eqb (s .minute) 0)
+
+unfoldable pub unused : Period → Bool
+unused p = noTime (p .closed) && zonesBelow 1 (p .zones)
+
+unfoldable pub everyPeriod : (Period → Bool) → List Period → Bool
+everyPeriod p [] = true
+everyPeriod p (x ∷ xs) = p x && everyPeriod p xs
+
+-- places from the i-th on: a period where it is one of the first so many, else nothing
+unfoldable pub placeGood : Bool → Period → Bool
+placeGood used p = cond used (periodGood p) (unused p)
+
+unfoldable pub placesGood : ℕ → ℕ → List Period → Bool
+placesGood i count [] = true
+placesGood i count (p ∷ ps) = placeGood (ltb i count) p && placesGood (i + 1) count ps
+
+-- 0 to 12 periods are kept, the others of the twelve places are unused
+unfoldable pub archiveGood : Archive → Bool
+archiveGood a =
+    (leb (a .count) periodPlaces && eqb (length (a .periods)) periodPlaces)
+    && (everyPeriod periodGood (take (a .count) (a .periods)) && everyPeriod unused (drop (a .count) (a .periods)))
+
 -- what a meter has for life: serial and password
 unfoldable pub factsGood : Facts → Bool
 factsGood f = goodSerial (f .serial) && goodPassword (f .password)
@@ -78,7 +113,8 @@ unfoldable pub factoryGood : Facts → List ℕ → Clock → Bool
 factoryGood facts account clock = factsGood facts && (goodAccount account && realClock clock)
 
 unfoldable pub registersGood : Registers → Bool
-registersGood g = factoryGood (g .facts) (g .account) (g .clock) && (countersGood (g .counters) && tablesGood tables (g .tables))
+registersGood g =
+    factoryGood (g .facts) (g .account) (g .clock) && (countersGood (g .counters) && (tablesGood tables (g .tables) && archiveGood (g .archive)))
 
 -- speed identifier 0 in modes 0 and 1, 0 or 5 in modes 2 to 4
 unfoldable pub speedGood : ℕ → ℕ → Bool

@@ -4,14 +4,16 @@ ghost use Prim.Native.Nat.{_≤_, _<_};
 ghost use lib.ListN.{length};
 ghost use Rattle.line.specs.Runs.{every};
 ghost use Rattle.state.specs.Sizes.{tables, heldPlaces};
-ghost use Rattle.state.specs.WellFormed.{limit, firstGood, hurtGood, heldGood, receiverGood, below, zonesGood, total, countersGood, tablesGood, factsGood, factoryGood, registersGood, wellFormed, speedGood};
+ghost use Rattle.state.specs.WellFormed.{limit, firstGood, heldGood, receiverGood, below, zonesBelow, zonesGood, total, countersGood, tablesGood, factsGood, factoryGood, registersGood, wellFormed, speedGood, hurtGood};
 ghost use Rattle.state.specs.Making.{factsOf, meterOf, blankMeter, madeOf};
 use clock::Clock;
 use clock::Date;
+use clock::Stamp;
 use clock::Time;
 use values::ROW_LENGTH;
 use values::TABLES;
 
+pub mod closing;
 pub mod setting;
 
 // A receiver holds so many characters at most.
@@ -24,7 +26,10 @@ pub const ALL_ROWS: usize = TABLES as usize * ROW_LENGTH;
 pub const COUNTER_END: u32 = 1_000_000_000;
 
 // The least room of a reply buffer.
-pub const REPLY_ROOM: usize = 2_048;
+pub const REPLY_ROOM: usize = 4_096;
+
+// An archive keeps so many periods at most.
+pub const PERIODS: usize = 12;
 
 // What was received of a line or frame so far; the mark is 1 where damage was seen, else 0, and the place is that of the first damaged character, or 0.
 #[repr(C)]
@@ -49,6 +54,20 @@ pub struct Counters {
     pub total: u32,
 }
 
+// A closed period: when it was closed, and the zones' counters as they stood.
+#[repr(C)]
+pub struct Period {
+    pub closed: Stamp,
+    pub zones: [u32; 4],
+}
+
+// The closed periods, the newest first; unused places are all 0.
+#[repr(C)]
+pub struct Archive {
+    pub periods: [Period; PERIODS],
+    pub count: u8,
+}
+
 // What a refused frame never changes.
 #[repr(C)]
 pub struct Registers {
@@ -57,6 +76,7 @@ pub struct Registers {
     pub clock: Clock,
     pub counters: Counters,
     pub tables: [u8; ALL_ROWS],
+    pub archive: Archive,
 }
 
 // Mode: 0 listening, 1 confirmation, 2 password, 3 read-only, 4 programming. The speed identifier is that of the session: 0 or 5, as confirmed.
@@ -153,10 +173,17 @@ fn all_below(s: &[u32], end: u32) -> bool
     ok
 }
 
+// Whether there are four numbers, each below an end.
+fn zones_below(s: &[u32], end: u32) -> bool
+    ensures { λ r. ⌜ r ≡ zonesBelow end (now (s .entry)) ⌝ }
+{
+    (s.len() == 4) & all_below(s, end)
+}
+
 fn zones_good(s: &[u32]) -> bool
     ensures { λ r. ⌜ r ≡ zonesGood (now (s .entry)) ⌝ }
 {
-    (s.len() == 4) & all_below(s, COUNTER_END)
+    zones_below(s, COUNTER_END)
 }
 
 fn wide(wh: u32) -> u64
@@ -204,14 +231,14 @@ fn factory_good(f: Facts, account: &[u8], clock: Clock) -> bool
     facts_good(f) & (values::is_account(account) & clock::is_clock(clock))
 }
 
-// The tables come last and apart: they are most of the record, and what is read of it early has to be kept.
+// The tables and the archive come last and apart: they are most of the record, and what is read of it early has to be kept.
 fn registers_good(g: Registers) -> bool
     ensures { λ r. ⌜ r ≡ registersGood g ⌝ }
 {
     let account = g.account;
     if factory_good(g.facts, &account, g.clock) & counters_good(g.counters) {
         let tables = g.tables;
-        return tables_good(&tables);
+        return tables_good(&tables) & closing::archive_good(g.archive);
     }
     false
 }
@@ -237,7 +264,7 @@ pub fn is_well_formed(m: Meter) -> bool
     false
 }
 
-// A new meter: counters 0, attempts 0, all tables '1', mode 0, an empty receiver.
+// A new meter: counters 0, attempts 0, all tables '1', no closed period, mode 0, an empty receiver.
 fn meter_of(facts: Facts, account: [u8; 10], clock: Clock) -> Meter
     ensures { λ r. ⌜ r ≡ meterOf facts account clock ⌝ }
 {
@@ -255,6 +282,7 @@ fn meter_of(facts: Facts, account: [u8; 10], clock: Clock) -> Meter
                 total: 0,
             },
             tables: [b'1'; ALL_ROWS],
+            archive: closing::empty_archive(),
         },
     }
 }

@@ -4,8 +4,9 @@ ghost use Prim.Native.Nat.{_≤_};
 ghost use lib.ListN.{length};
 ghost use Rattle.state.specs.Sizes.{rowLength, tables};
 ghost use Rattle.state.specs.Making.{emptyReceiver};
-ghost use Rattle.state.specs.Setting.{withHeld, withMark, withReceiver, inMode, withAttempts, withRegisters, withAccount, withClock, withCounters, withTables, withZones, withTotal, withRow, rowStart, zonePlace, counterOf, speedIn, withSpeed};
+ghost use Rattle.state.specs.Setting.{withHeld, withMark, withReceiver, inMode, withAttempts, withRegisters, withAccount, withClock, withCounters, withTables, withArchive, withZones, withTotal, withRow, rowStart, zonePlace, counterOf, speedIn, withSpeed};
 use crate::ALL_ROWS;
+use crate::Archive;
 use crate::Counters;
 use crate::HELD_PLACES;
 use crate::Meter;
@@ -133,6 +134,14 @@ pub fn with_tables(g: Registers, rows: [u8; ALL_ROWS]) -> Registers
 {
     let mut next = g;
     next.tables = rows;
+    next
+}
+
+pub fn with_archive(g: Registers, a: Archive) -> Registers
+    ensures { λ x. ⌜ x ≡ withArchive g a ⌝ }
+{
+    let mut next = g;
+    next.archive = a;
     next
 }
 

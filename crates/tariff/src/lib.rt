@@ -1,10 +1,12 @@
-// The tariff: the day's table, the hour's zone, and a counter after a pulse.
+// The tariff: the day's table, the hour's zone, a counter after a pulse, and a month that starts.
 ghost use mathlib.Core.Path.{_≡_};
 ghost use mathlib.Core.Bool.{true};
 ghost use Prim.Native.Nat.{_-_, _≤_, _<_};
 ghost use Rattle.state.specs.Sizes.{counterEnd};
-ghost use Rattle.state.specs.WellFormed.{countersGood};
+ghost use Rattle.state.specs.WellFormed.{countersGood, archiveGood};
 ghost use Rattle.tariff.specs.Zones.{tableFor, zoneIn, grown, counted};
+ghost use Rattle.tariff.specs.Months.{monthStarts, monthClosed, secondLater};
+use clock::Clock;
 use clock::Date;
 use state::COUNTER_END;
 use state::Counters;
@@ -64,4 +66,32 @@ pub fn count(c: Counters, zone: ZoneNo, wh: u32) -> Counters
         return state::setting::with_total(next, grow(c.total, wh));
     }
     c
+}
+
+// Whether it is 00:00:00 on the first of a month.
+fn month_starts(c: Clock) -> bool
+    ensures { λ r. ⌜ r ≡ monthStarts c ⌝ }
+{
+    let d = c.date;
+    let t = c.time;
+    (d.day == 1) & ((t.hour == 0) & ((t.minute == 0) & (t.second == 0)))
+}
+
+// A month that starts closes a period.
+fn close_month(g: Registers) -> Registers
+    requires { ⌜ archiveGood (g .archive) ≡ true ⌝ }
+    ensures { λ r. ⌜ r ≡ monthClosed g ⌝ }
+{
+    if month_starts(g.clock) {
+        return state::closing::close(g);
+    }
+    g
+}
+
+// The registers a second later.
+pub fn second_later(g: Registers) -> Registers
+    requires { ⌜ archiveGood (g .archive) ≡ true ⌝ }
+    ensures { λ r. ⌜ r ≡ secondLater g ⌝ }
+{
+    close_month(state::setting::with_clock(g, clock::next_second(g.clock)))
 }

@@ -23,9 +23,9 @@ unfoldable pub isLetter : ℕ → Bool
 unfolding between
 isLetter c = between (char "A") (char "Z") c || between (char "a") (char "z") c
 
--- in a data set's address: letters, digits or '.'
+-- in a data set's address: letters, digits, '.' or '*'
 unfoldable pub isAddress : ℕ → Bool
-isAddress c = (isLetter c || isDigit c) || eqb c (char ".")
+isAddress c = (isLetter c || isDigit c) || (eqb c (char ".") || eqb c (char "*"))
 
 -- in a data set's value: printable characters without `()/!`
 unfoldable pub isValue : ℕ → Bool

@@ -11,9 +11,9 @@ use Rattle.text.specs.Decimal.{numberAt}
 use Rattle.text.specs.Layout.{Piece, pattern, fits, numbersFrom, agrees}
 use Rattle.text.proofs.Matching.{matched-length}
 use Rattle.text.proofs.Forms.{form-within}
-use Rattle.values.specs.Texts.{threeTwos, clockForm, counterForm, tableForm}
+use Rattle.values.specs.Texts.{threeTwos, clockForm, stampForm, counterForm, tableForm}
 use Rattle.values.specs.Edition.{counterDigits, counterDecimals}
-use Rattle.values.specs.Numbers.{ThreeAt, ClockAt, CounterAt, TableAt}
+use Rattle.values.specs.Numbers.{ThreeAt, ClockAt, StampAt, CounterAt, TableAt}
 
 -- a text of a form is as long as its pattern
 pub fits-long : (p s : List ℕ) → fits p s ≡ true → length s ≡ length p
@@ -40,6 +40,14 @@ clock-fields s h =
       year = f .1 .1 .0;
       time = record { room = omega arith; first = t .0; second = t .1 .0; third = t .1 .1 .0 };
     }
+
+pub stamp-fields : (s : List ℕ) → fits (pattern stampForm) s ≡ true → StampAt s
+unfolding numbersFrom pattern
+stamp-fields s h =
+    let n : length s ≡ 14 = fits-long (pattern stampForm) s h in
+    let f = form-within stampForm s h in
+    let t = f .1 .1 .1 in
+    record { long = n; date = record { room = omega arith; first = f .0; second = f .1 .0; third = f .1 .1 .0 }; hour = t .0; minute = t .1 .0 }
 
 pub counter-fields : (s : List ℕ) → fits (pattern (counterForm counterDigits counterDecimals)) s ≡ true → CounterAt s
 unfolding numbersFrom pattern

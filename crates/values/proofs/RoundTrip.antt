@@ -18,19 +18,21 @@ use Rattle.text.specs.Decimal.{numberAt}
 use Rattle.text.specs.Layout.{Piece, layoutText, numbersFrom, pattern, fits, numbersFit, plain}
 use Rattle.text.proofs.Forms.{text-fits, text-reads, form-is-text, form-within}
 use Rattle.clock.specs.Dates.{realDate, realTime}
-use Rattle.clock.specs.Seconds.{dateOf, timeOf, realClock}
+use Rattle.clock.specs.Seconds.{dateOf, timeOf, realClock, realStamp}
 use Rattle.clock.specs.declared.Date.{Date}
 use Rattle.clock.specs.declared.Time.{Time}
 use Rattle.clock.specs.declared.Clock.{Clock}
+use Rattle.clock.specs.declared.Stamp.{Stamp}
 use Rattle.clock.proofs.Real.{RealDate, RealTime, date-facts, time-facts, days-most}
 use Rattle.values.specs.declared.reading.DateRead.{DateRead}
 use Rattle.values.specs.declared.reading.TimeRead.{TimeRead}
 use Rattle.values.specs.declared.reading.ClockRead.{ClockRead}
+use Rattle.values.specs.declared.reading.StampRead.{StampRead}
 use Rattle.values.specs.declared.reading.CounterRead.{CounterRead}
 use Rattle.values.specs.declared.reading.TableRead.{TableRead}
 use Rattle.values.specs.Registers.{goodTable}
-use Rattle.values.specs.Texts.{dateForm, timeForm, clockForm, counterForm, tableForm, dateText, timeText, clockText, counterText, tableText}
-use Rattle.values.specs.Reading.{dateRead, timeRead, clockRead, counterRead, tableRead, someDate, someTime, someClock, someTable, noDate, noTime, noClock, noTable, clockIn, counterIn}
+use Rattle.values.specs.Texts.{dateForm, timeForm, clockForm, stampForm, counterForm, tableForm, dateText, timeText, clockText, stampText, counterText, tableText}
+use Rattle.values.specs.Reading.{dateRead, timeRead, clockRead, stampRead, counterRead, tableRead, someDate, someTime, someClock, someStamp, someTable, noDate, noTime, noClock, noStamp, noTable, clockIn, stampIn, counterIn}
 
 -- the n-th number that a text's form has
 nth : (s : List ℕ) (ps : List Piece) (ns : List ℕ) (n : ℕ) → numbersFrom 0 ps s ≡ ns → getD (numbersFrom 0 ps s) n 0 ≡ getD ns n 0
@@ -47,6 +49,10 @@ time-plain = refl
 clock-plain : plain clockForm ≡ true
 unfolding plain every
 clock-plain = refl
+
+stamp-plain : plain stampForm ≡ true
+unfolding plain every
+stamp-plain = refl
 
 counter-plain : (all decimals : ℕ) → plain (counterForm all decimals) ≡ true
 unfolding plain every
@@ -156,6 +162,53 @@ clock-read-is-text s h =
     let k : someClock (clockIn s) .ok ≡ true = rw f at h in
     let r : realClock (clockIn s) ≡ true = chosen (λ (r : ClockRead). r .ok) (realClock (clockIn s)) _ noClock refl k in
     rw (f, r) (form-is-text clockForm s clock-plain f)
+
+-- ---- the stamp
+
+module _ (t : Stamp) (h : realStamp t ≡ true) where
+  stamp-date : RealDate (t .date .year) (t .date .month) (t .date .day)
+  unfolding realStamp
+  stamp-date = date-facts _ _ _ (and-left (realDate (t .date .year) (t .date .month) (t .date .day)) (realTime (t .hour) (t .minute) 0) h)
+
+  stamp-time : RealTime (t .hour) (t .minute) 0
+  unfolding realStamp
+  stamp-time = time-facts _ _ _ (and-right (realDate (t .date .year) (t .date .month) (t .date .day)) (realTime (t .hour) (t .minute) 0) h)
+
+  stamp-fit : numbersFit stampForm ((t .date .year - 2000) ∷ t .date .month ∷ t .date .day ∷ t .hour ∷ t .minute ∷ []) ≡ true
+  unfolding numbersFit
+  stamp-fit =
+      let d = stamp-date in
+      let m = days-most (t .date .year) (t .date .month) in
+      rw (
+        lt-ltb (t .date .year - 2000) 100 (omega (arith, d .last-year)),
+        lt-ltb (t .date .month) 100 (omega (arith, d .last-month)),
+        lt-ltb (t .date .day) 100 (omega (arith, d .last-day)),
+        lt-ltb (t .hour) 100 (omega (arith, stamp-time .hour)),
+        lt-ltb (t .minute) 100 (omega (arith, stamp-time .minute)),
+      )
+
+  pub stamp-reads-back : stampRead (stampText t) ≡ record { ok = true; stamp = t }
+  unfolding stampRead stampText numbersFrom
+  stamp-reads-back =
+      let ns = (t .date .year - 2000) ∷ t .date .month ∷ t .date .day ∷ t .hour ∷ t .minute ∷ [] in
+      let s = layoutText stampForm ns in
+      let e = text-reads stampForm ns stamp-fit in
+      let y : 2000 + (t .date .year - 2000) ≡ t .date .year = omega (arith, stamp-date .first-year) in
+      let a : numberAt s 0 2 ≡ t .date .year - 2000 = nth _ stampForm ns 0 e in
+      let b : numberAt s 3 2 ≡ t .date .month = nth _ stampForm ns 1 e in
+      let c : numberAt s 6 2 ≡ t .date .day = nth _ stampForm ns 2 e in
+      let p : numberAt s 9 2 ≡ t .hour = nth _ stampForm ns 3 e in
+      let q : numberAt s 12 2 ≡ t .minute = nth _ stampForm ns 4 e in
+      rw (text-fits stampForm ns stamp-plain stamp-fit, a, b, c, p, q, y, h)
+
+pub stamp-read-is-text : (s : List ℕ) → stampRead s .ok ≡ true → stampText (stampRead s .stamp) ≡ s
+unfolding stampRead stampText numbersFrom
+stamp-read-is-text s h =
+    let f : fits (pattern stampForm) s ≡ true = chosen (λ (r : StampRead). r .ok) (fits (pattern stampForm) s) (someStamp (stampIn s)) noStamp refl h in
+    let k : someStamp (stampIn s) .ok ≡ true = rw f at h in
+    let r : realStamp (stampIn s) ≡ true = chosen (λ (r : StampRead). r .ok) (realStamp (stampIn s)) _ noStamp refl k in
+    let y : 2000 + numberAt s 0 2 - 2000 ≡ numberAt s 0 2 = omega arith in
+    rw (f, r, y) (form-is-text stampForm s stamp-plain f)
 
 -- ---- the counter, over its digits and decimals
 

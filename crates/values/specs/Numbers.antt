@@ -25,6 +25,13 @@ pub record ClockAt (s : List ℕ) : Type 0 where
   pub year : numberAt s 6 4 < 10000
   pub time : ThreeAt s 11
 
+-- as in yy-mm-dd hh:nn
+pub record StampAt (s : List ℕ) : Type 0 where
+  pub long : length s ≡ 14
+  pub date : ThreeAt s 0
+  pub hour : numberAt s 9 2 < 100
+  pub minute : numberAt s 12 2 < 100
+
 -- as in eeeeee.eee*kWh
 pub record CounterAt (s : List ℕ) : Type 0 where
   pub long : length s ≡ 14

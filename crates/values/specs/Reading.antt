@@ -5,15 +5,17 @@ use Prim.Native.Nat.{ℕ, _+_, _*_, _-_, _^_}
 use Rattle.text.specs.Decimal.{numberAt}
 use Rattle.text.specs.Layout.{pattern, fits}
 use Rattle.clock.specs.Dates.{realDate, realTime}
-use Rattle.clock.specs.Seconds.{dateOf, timeOf, realClock}
+use Rattle.clock.specs.Seconds.{dateOf, timeOf, realClock, realStamp}
 use Rattle.clock.specs.declared.Clock.{Clock}
+use Rattle.clock.specs.declared.Stamp.{Stamp}
 use Rattle.values.specs.declared.reading.DateRead.{DateRead}
 use Rattle.values.specs.declared.reading.TimeRead.{TimeRead}
 use Rattle.values.specs.declared.reading.ClockRead.{ClockRead}
+use Rattle.values.specs.declared.reading.StampRead.{StampRead}
 use Rattle.values.specs.declared.reading.CounterRead.{CounterRead}
 use Rattle.values.specs.declared.reading.TableRead.{TableRead}
 use Rattle.values.specs.Registers.{goodTable}
-use Rattle.values.specs.Texts.{dateForm, timeForm, clockForm, counterForm, tableForm}
+use Rattle.values.specs.Texts.{dateForm, timeForm, clockForm, stampForm, counterForm, tableForm}
 
 abbrev pub noDate : DateRead
 noDate = record { ok = false; date = dateOf 0 0 0 }
@@ -47,6 +49,19 @@ someClock c = cond (realClock c) (record { ok = true; clock = c }) noClock
 
 unfoldable pub clockRead : List ℕ → ClockRead
 clockRead s = cond (fits (pattern clockForm) s) (someClock (clockIn s)) noClock
+
+-- yy-mm-dd hh:nn
+abbrev pub noStamp : StampRead
+noStamp = record { ok = false; stamp = record { date = dateOf 0 0 0; hour = 0; minute = 0 } }
+
+abbrev pub stampIn : List ℕ → Stamp
+stampIn s = record { date = dateOf (2000 + numberAt s 0 2) (numberAt s 3 2) (numberAt s 6 2); hour = numberAt s 9 2; minute = numberAt s 12 2 }
+
+abbrev pub someStamp : Stamp → StampRead
+someStamp t = cond (realStamp t) (record { ok = true; stamp = t }) noStamp
+
+unfoldable pub stampRead : List ℕ → StampRead
+stampRead s = cond (fits (pattern stampForm) s) (someStamp (stampIn s)) noStamp
 
 -- eeeeee.eee*kWh
 abbrev pub counterIn : ℕ → ℕ → List ℕ → ℕ

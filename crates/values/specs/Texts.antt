@@ -7,6 +7,7 @@ use Rattle.text.specs.Layout.{Piece, digits, fixed, layoutText}
 use Rattle.clock.specs.declared.Date.{Date}
 use Rattle.clock.specs.declared.Time.{Time}
 use Rattle.clock.specs.declared.Clock.{Clock}
+use Rattle.clock.specs.declared.Stamp.{Stamp}
 
 -- nnn nnnnnnn
 unfoldable pub serialText : List ℕ → List ℕ
@@ -44,6 +45,13 @@ clockForm = digits 2 ∷ fixed (chars "-") ∷ digits 2 ∷ fixed (chars "-") �
 unfoldable pub clockText : Clock → List ℕ
 clockText c =
     layoutText clockForm (c .date .day ∷ c .date .month ∷ c .date .year ∷ c .time .hour ∷ c .time .minute ∷ c .time .second ∷ [])
+
+-- yy-mm-dd hh:nn, of a closed period
+abbrev pub stampForm : List Piece
+stampForm = dateForm ++ (fixed (chars " ") ∷ digits 2 ∷ fixed (chars ":") ∷ digits 2 ∷ [])
+
+unfoldable pub stampText : Stamp → List ℕ
+stampText t = layoutText stampForm ((t .date .year - 2000) ∷ t .date .month ∷ t .date .day ∷ t .hour ∷ t .minute ∷ [])
 
 -- eeeeee.eee*kWh: so many digits in all, so many of them decimals
 abbrev pub counterForm : ℕ → ℕ → List Piece

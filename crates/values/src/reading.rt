@@ -2,8 +2,8 @@
 ghost use mathlib.Core.Path.{_≡_};
 ghost use Prim.Native.Nat.{_+_, _<_};
 ghost use Rattle.values.specs.Edition.{counterDigits, counterDecimals};
-ghost use Rattle.values.specs.Numbers.{ClockAt, CounterAt};
-ghost use Rattle.values.specs.Reading.{someDate, someTime, someClock, noClock, clockIn, counterIn, someTable, dateRead, timeRead, clockRead, counterRead, tableRead};
+ghost use Rattle.values.specs.Numbers.{ClockAt, StampAt, CounterAt};
+ghost use Rattle.values.specs.Reading.{someDate, someTime, someClock, noClock, clockIn, someStamp, noStamp, stampIn, counterIn, someTable, dateRead, timeRead, clockRead, stampRead, counterRead, tableRead};
 use crate::TableNo;
 use crate::number::Three;
 use crate::number::number;
@@ -11,6 +11,7 @@ use crate::number::three_at;
 use crate::number::two;
 use clock::Clock;
 use clock::Date;
+use clock::Stamp;
 use clock::Time;
 
 pub struct DateRead {
@@ -26,6 +27,11 @@ pub struct TimeRead {
 pub struct ClockRead {
     pub ok: bool,
     pub clock: Clock,
+}
+
+pub struct StampRead {
+    pub ok: bool,
+    pub stamp: Stamp,
 }
 
 pub struct CounterRead {
@@ -188,6 +194,62 @@ pub fn read_clock(s: &[u8]) -> ClockRead
         return clock_if_real(clock_in(s));
     }
     no_clock()
+}
+
+// The stamp of a text of its form, real or not.
+fn stamp_in(s: &[u8]) -> Stamp
+    requires { ⌜ StampAt (now s) ⌝ }
+    ensures { λ r. ⌜ r ≡ stampIn (now (s .entry)) ⌝ }
+{
+    let d = three_at(s, 0);
+    let h = two(s, 9);
+    let n = two(s, 12);
+    Stamp {
+        date: Date {
+            year: 2000 + d.first as u16,
+            month: d.second,
+            day: d.third,
+        },
+        hour: h as u8,
+        minute: n as u8,
+    }
+}
+
+// The stamp, if it is real.
+fn stamp_if_real(t: Stamp) -> StampRead
+    ensures { λ r. ⌜ r ≡ someStamp t ⌝ }
+{
+    if clock::is_stamp(t) {
+        return StampRead { ok: true, stamp: t };
+    }
+    no_stamp()
+}
+
+fn no_stamp() -> StampRead
+    ensures { λ r. ⌜ r ≡ noStamp ⌝ }
+{
+    StampRead {
+        ok: false,
+        stamp: Stamp {
+            date: Date {
+                year: 0,
+                month: 0,
+                day: 0,
+            },
+            hour: 0,
+            minute: 0,
+        },
+    }
+}
+
+// A stamp from `yy-mm-dd hh:nn`.
+pub fn read_stamp(s: &[u8]) -> StampRead
+    ensures { λ r. ⌜ r ≡ stampRead (now (s .entry)) ⌝ }
+{
+    if text::has_form(b"##-##-## ##:##", s) {
+        return stamp_if_real(stamp_in(s));
+    }
+    no_stamp()
 }
 
 // The Wh of a counter's text.

@@ -4,10 +4,11 @@ ghost use Prim.Native.Nat.{_+_, _-_, _≤_, _<_};
 ghost use lib.ListN.{length};
 ghost use Rattle.text.specs.Writing.{stored};
 ghost use Rattle.values.specs.Edition.{counterDigits, counterDecimals};
-ghost use Rattle.values.specs.Texts.{serialText, tableText, dateText, timeText, clockText, counterText};
+ghost use Rattle.values.specs.Texts.{serialText, tableText, dateText, timeText, clockText, stampText, counterText};
 use crate::TableNo;
 use clock::Clock;
 use clock::Date;
+use clock::Stamp;
 use clock::Time;
 
 // A serial as `nnn nnnnnnn`.
@@ -107,6 +108,26 @@ pub fn put_clock(buf: &mut [u8], at: usize, c: Clock) -> usize
     ];
     let a = text::put(buf, at, &shown);
     put_time(buf, a, c.time)
+}
+
+// A stamp as `yy-mm-dd hh:nn`.
+pub fn put_stamp(buf: &mut [u8], at: usize, stamp: Stamp) -> usize
+    requires { ⌜ at + 14 ≤ length (now buf) ⌝ }
+    ensures next { λ r. ⌜ r ≡ at + 14 ⌝ }
+    ensures held { λ _. ⌜ now (buf .exit) ≡ stored (now (buf .entry)) at (stampText stamp) ⌝ }
+{
+    let h = stamp.hour;
+    let n = stamp.minute;
+    let shown = [
+        b' ',
+        b'0' + h / 10 % 10,
+        b'0' + h % 10,
+        b':',
+        b'0' + n / 10 % 10,
+        b'0' + n % 10,
+    ];
+    let a = put_date(buf, at, stamp.date);
+    text::put(buf, a, &shown)
 }
 
 // A counter's Wh as `eeeeee.eee*kWh`.

@@ -48,7 +48,7 @@ static IN_ADDRESS: [bool; 256] = {
     let mut allowed = [false; 256];
     let mut c = 0;
     while c < 256 {
-        allowed[c] = (c as u8).is_ascii_alphanumeric() || c as u8 == b'.';
+        allowed[c] = (c as u8).is_ascii_alphanumeric() || matches!(c as u8, b'.' | b'*');
         c += 1;
     }
     allowed
@@ -161,7 +161,7 @@ pub fn find(sets: &[u8], address: &[u8]) -> Lookup {
 #[cfg(test)]
 mod tests {
     use super::*;
-    use ::model::head::{self as model, Clock, Registers};
+    use ::model::head::{self as model, Clock, Period, Registers};
 
     const EDGES: &[u8] = b"\x00\x02\x03\n\r\x1F !()*-./09:@AZ[_`az{~\x7F\x80\x82\x83\xAE\xFF";
 
@@ -181,6 +181,15 @@ mod tests {
             tables: std::array::from_fn(|t| {
                 std::array::from_fn(|h| b'1' + ((7 * t + 3 * h) % 4) as u8)
             }),
+            periods: vec![Period {
+                closed: Clock {
+                    year: 2024,
+                    month: 2,
+                    day: 1,
+                    ..Clock::default()
+                },
+                counters: [1_500, 999_999_998, 0, 7],
+            }],
         }
     }
 
@@ -249,7 +258,7 @@ mod tests {
     #[test]
     fn reads_sets_as_the_model_does() {
         let data = registers().data();
-        assert_eq!(read_all(&data), (answer::END, 33, data.len() - 3));
+        assert_eq!(read_all(&data), (answer::END, 38, data.len() - 3));
         for at in (0..data.len() + 3).chain([usize::MAX]) {
             same_next(&data, at);
         }

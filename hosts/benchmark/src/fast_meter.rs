@@ -2,8 +2,8 @@
 //! It shares the record with the model and nothing else.
 
 use model::meter::{
-    Answer, Clock, Meter, ACK, BLOCK, COUNTER_END, CR, ETX, LF, NAK, PLACES, PULSE_MOST, ROOM, SOH,
-    STX,
+    Answer, Clock, Meter, Period, ACK, BLOCK, COUNTER_END, CR, ETX, LF, NAK, PERIODS, PERIOD_LINES,
+    PLACES, PULSE_MOST, ROOM, SOH, STX,
 };
 
 /// Days of the months of a common year; 0 for what is no month.
@@ -71,6 +71,13 @@ const TEMPLATE: [u8; BLOCK - 1] = {
     put(block, END_LINE, b"!\r\n\x03")
 };
 
+/// The lines of a period, its number and its values left open.
+const PERIOD: &[u8; PERIOD_LINES] = b"0.1.2*kk(yy-mm-dd hh:nn)\r\n\
+    15.8.1*kk(eeeeee.eee*kWh)\r\n15.8.2*kk(eeeeee.eee*kWh)\r\n\
+    15.8.3*kk(eeeeee.eee*kWh)\r\n15.8.4*kk(eeeeee.eee*kWh)\r\n";
+const PERIOD_TIME: usize = 26;
+const PERIOD_ENERGY: usize = 27;
+
 const fn put(mut block: [u8; BLOCK - 1], at: usize, text: &[u8]) -> [u8; BLOCK - 1] {
     let mut place = 0;
     while place < text.len() {
@@ -93,14 +100,40 @@ fn eight_digits(digits: u64) -> bool {
 }
 
 fn clock_good(clock: &Clock) -> bool {
-    let leap = u8::from(clock.year.is_multiple_of(4) && clock.month == 2);
-    let days = DAYS[usize::from(clock.month & 15)] + leap;
-    (clock.year.wrapping_sub(2000) < 100)
-        & (clock.month < 16)
-        & (clock.day.wrapping_sub(1) < days)
+    date_good(clock.year, clock.month, clock.day)
         & (clock.hour < 24)
         & (clock.minute < 60)
         & (clock.second < 60)
+}
+
+fn date_good(year: u16, month: u8, day: u8) -> bool {
+    let leap = u8::from(year.is_multiple_of(4) && month == 2);
+    let days = DAYS[usize::from(month & 15)] + leap;
+    (year.wrapping_sub(2000) < 100) & (month < 16) & (day.wrapping_sub(1) < days)
+}
+
+/// The closed periods, and nothing where there is none.
+fn archive_good(meter: &Meter) -> bool {
+    let closed = usize::from(meter.closed);
+    if closed > PERIODS {
+        return false;
+    }
+    let (kept, unused) = meter.periods.split_at(closed);
+    let mut good = true;
+    for period in kept {
+        let [a, b, c, d] = period.counters;
+        good &= date_good(period.year, period.month, period.day)
+            & (period.hour < 24)
+            & (period.minute < 60)
+            & (a.max(b).max(c.max(d)) < COUNTER_END);
+    }
+    let mut bits = 0;
+    for period in unused {
+        let [a, b, c, d] = period.counters;
+        let small = period.month | period.day | period.hour | period.minute;
+        bits |= a | b | c | d | u32::from(period.year) | u32::from(small);
+    }
+    good & (bits == 0)
 }
 
 fn receiver_good(meter: &Meter) -> bool {
@@ -162,6 +195,22 @@ pub fn well_formed(meter: &Meter) -> bool {
         & (meter.attempts < 4)
         & ((meter.speed == 0) | ((meter.speed == 5) & (meter.mode >= 2)))
         & clock_good(&meter.clock)
+        & archive_good(meter)
+}
+
+/// Closes a period at the clock as it is.
+fn close(meter: &mut Meter) {
+    meter.periods.copy_within(..PERIODS - 1, 1);
+    let clock = &meter.clock;
+    meter.periods[0] = Period {
+        year: clock.year,
+        month: clock.month,
+        day: clock.day,
+        hour: clock.hour,
+        minute: clock.minute,
+        counters: meter.counters,
+    };
+    meter.closed += u8::from(meter.closed < PERIODS as u8);
 }
 
 /// The total for a display with 1, or 0 with 14.
@@ -250,8 +299,12 @@ fn line_character(meter: &mut Meter, character: u8, damaged: bool, buffer: &mut 
         return answer(0, 0, 0);
     }
     if character == LF {
-        let ours = meter.mark == 0 && called(&meter.held[..count], &meter.serial);
+        let closing = meter.mark == 0 && meter.held[..count] == *b"/C!\r";
+        let ours = closing || meter.mark == 0 && called(&meter.held[..count], &meter.serial);
         empty(meter);
+        if closing {
+            close(meter);
+        }
         if !ours {
             return answer(0, 0, 0);
         }
@@ -303,6 +356,7 @@ fn confirmation_character(
     enter(meter, 0);
     match choice {
         b'0' | b'7' if good => answer(1, speed, data_block(meter, buffer)),
+        b'6' if good => answer(1, speed, block_with_periods(meter, buffer)),
         b'1' if good => {
             meter.mode = 2;
             meter.speed = speed;
@@ -570,14 +624,36 @@ fn energy(meter: &Meter, number: usize, to: &mut [u8]) {
         Some(&wh) => wh,
         None => meter.total,
     };
+    kwh(wh, &mut to[7..]);
+}
+
+/// `eeeeee.eee`, its point left as it is.
+fn kwh(wh: u32, to: &mut [u8]) {
     let mut three = |at: usize, value: u32| {
         to[at] = b'0' + (value / 100) as u8;
         to[at + 1] = b'0' + (value / 10 % 10) as u8;
         to[at + 2] = b'0' + (value % 10) as u8;
     };
-    three(7, wh / 1_000_000);
-    three(10, wh / 1_000 % 1_000);
-    three(14, wh % 1_000);
+    three(0, wh / 1_000_000);
+    three(3, wh / 1_000 % 1_000);
+    three(7, wh % 1_000);
+}
+
+/// The lines of the period at a place.
+fn period(meter: &Meter, place: usize, to: &mut [u8]) {
+    let period = &meter.periods[place];
+    to[..PERIOD_LINES].copy_from_slice(PERIOD);
+    two(&mut to[6..], place as u8 + 1);
+    two(&mut to[9..], (period.year - 2000) as u8);
+    two(&mut to[12..], period.month);
+    two(&mut to[15..], period.day);
+    two(&mut to[18..], period.hour);
+    two(&mut to[21..], period.minute);
+    for (zone, &wh) in period.counters.iter().enumerate() {
+        let line = &mut to[PERIOD_TIME + zone * PERIOD_ENERGY..];
+        two(&mut line[7..], place as u8 + 1);
+        kwh(wh, &mut line[10..]);
+    }
 }
 
 fn row(meter: &Meter, table: usize, to: &mut [u8]) {
@@ -599,6 +675,24 @@ fn seal(buffer: &mut [u8], length: usize) -> usize {
 /// Writes the data block; the state must be well-formed and the buffer long enough.
 pub fn data_block(meter: &Meter, buffer: &mut [u8]) -> usize {
     let block = &mut buffer[..BLOCK];
+    registers(meter, block);
+    seal(block, BLOCK - 1)
+}
+
+/// The same with the closed periods after the tables.
+pub fn block_with_periods(meter: &Meter, buffer: &mut [u8]) -> usize {
+    registers(meter, buffer);
+    let mut end = END_LINE;
+    for place in 0..usize::from(meter.closed) {
+        period(meter, place, &mut buffer[end..]);
+        end += PERIOD_LINES;
+    }
+    buffer[end..end + 4].copy_from_slice(b"!\r\n\x03");
+    seal(buffer, end + 4)
+}
+
+/// The data block without parity and BCC.
+fn registers(meter: &Meter, block: &mut [u8]) {
     block[..BLOCK - 1].copy_from_slice(&TEMPLATE);
     serial(meter, &mut block[SERIAL_LINE..]);
     date(meter, &mut block[DATE_LINE..]);
@@ -610,7 +704,6 @@ pub fn data_block(meter: &Meter, buffer: &mut [u8]) -> usize {
     for table in 0..24 {
         row(meter, table, &mut block[TABLE_LINE + table * TABLE..]);
     }
-    seal(block, BLOCK - 1)
 }
 
 /// Eight seconds of silence.
@@ -633,7 +726,7 @@ pub fn silence(meter: &mut Meter, buffer: &mut [u8]) -> Answer {
     }
 }
 
-/// One second of the clock.
+/// One second of the clock; the first one of a month closes a period.
 pub fn tick(meter: &mut Meter) -> Answer {
     if !well_formed(meter) {
         return answer(14, 0, 0);
@@ -649,6 +742,9 @@ pub fn tick(meter: &mut Meter) -> Answer {
             if clock.hour == 24 {
                 clock.hour = 0;
                 next_day(clock);
+                if clock.day == 1 {
+                    close(meter);
+                }
             }
         }
     }

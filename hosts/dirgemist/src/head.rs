@@ -23,6 +23,7 @@ type Lettered = unsafe extern "C" fn(*const u8, usize, *mut u8, usize, *mut usiz
 #[link(name = "headlink", kind = "static")]
 extern "C" {
     fn dirgemist_head_sign_on(out: *mut u8, out_length: usize, length: *mut usize) -> u8;
+    fn dirgemist_head_close(out: *mut u8, out_length: usize, length: *mut usize) -> u8;
     fn dirgemist_head_sign_on_to(
         serial: *const u8,
         serial_length: usize,
@@ -158,6 +159,15 @@ extern "C" {
         month: *mut u8,
         day: *mut u8,
     ) -> u8;
+    fn dirgemist_head_value_period(
+        value: *const u8,
+        length: usize,
+        year: *mut u16,
+        month: *mut u8,
+        day: *mut u8,
+        hour: *mut u8,
+        minute: *mut u8,
+    ) -> u8;
     fn dirgemist_head_value_time(
         value: *const u8,
         length: usize,
@@ -201,6 +211,18 @@ pub fn sign_on(out: &mut [u8]) -> (u8, usize) {
     plain(dirgemist_head_sign_on, out)
 }
 
+/// The sign-on at which the meter closes a period.
+///
+/// ```
+/// use dirgemist::head;
+/// let mut out = [0; head::COMMAND_ROOM];
+/// assert_eq!(head::close(&mut out), (head::DONE, 5));
+/// assert_eq!(out[..5], [0xAF, 0xC3, 0x21, 0x8D, 0x0A]);
+/// ```
+pub fn close(out: &mut [u8]) -> (u8, usize) {
+    plain(dirgemist_head_close, out)
+}
+
 /// The sign-on to the meter of a serial, ten digits.
 ///
 /// ```
@@ -213,7 +235,8 @@ pub fn sign_on_to(serial: &[u8], out: &mut [u8]) -> (u8, usize) {
     lettered(dirgemist_head_sign_on_to, serial, out)
 }
 
-/// The confirmation: the speed's character, `'0'` (300 baud) or `'5'` (9600), then `'0'`, `'7'` or `'1'`.
+/// The confirmation: the speed's character, `'0'` (300 baud) or `'5'` (9600), then `'0'`, `'7'`,
+/// `'6'` (with the closed periods) or `'1'`.
 ///
 /// ```
 /// use dirgemist::head;
@@ -500,6 +523,24 @@ pub fn value_time(value: &[u8]) -> (u8, (u8, u8, u8)) {
     let number =
         unsafe { dirgemist_head_value_time(value.as_ptr(), value.len(), hour, minute, second) };
     (number, time)
+}
+
+/// When a period was closed: year, month, day, hour and minute.
+///
+/// ```
+/// use dirgemist::head;
+/// assert_eq!(head::value_period(b"24-03-01 00:00"), (head::DONE, (2024, 3, 1, 0, 0)));
+/// assert_eq!(head::value_period(b"24-03-01 24:00"), (25, (0, 0, 0, 0, 0)));
+/// ```
+pub fn value_period(value: &[u8]) -> (u8, (u16, u8, u8, u8, u8)) {
+    let byte = UNWRITTEN_BYTE;
+    let mut at = (UNWRITTEN as u16, byte, byte, byte, byte);
+    let (year, month, day, hour, minute) = (&mut at.0, &mut at.1, &mut at.2, &mut at.3, &mut at.4);
+    let (from, length) = (value.as_ptr(), value.len());
+    // SAFETY: see above.
+    let number =
+        unsafe { dirgemist_head_value_period(from, length, year, month, day, hour, minute) };
+    (number, at)
 }
 
 /// A counter's Wh.

@@ -18,7 +18,7 @@ use crate::{UNWRITTEN, UNWRITTEN_BYTE};
 use std::mem::MaybeUninit;
 
 /// The least room of a reply buffer.
-pub const REPLY_ROOM: usize = 2_048;
+pub const REPLY_ROOM: usize = 4_096;
 /// The number of an event that is none.
 pub const NO_EVENT: u8 = 99;
 
@@ -75,6 +75,31 @@ pub struct Counters {
     pub total: u32,
 }
 
+/// When a period was closed: no second.
+#[repr(C)]
+#[derive(Clone, Copy, Debug, PartialEq, Eq)]
+pub struct Stamp {
+    pub date: Date,
+    pub hour: u8,
+    pub minute: u8,
+}
+
+/// A closed period: when it was closed, and the zones' counters as they stood.
+#[repr(C)]
+#[derive(Clone, Copy, Debug, PartialEq, Eq)]
+pub struct Period {
+    pub closed: Stamp,
+    pub zones: [u32; 4],
+}
+
+/// The closed periods, the newest first; the places from `count` on are all 0.
+#[repr(C)]
+#[derive(Clone, Copy, Debug, PartialEq, Eq)]
+pub struct Archive {
+    pub periods: [Period; 12],
+    pub count: u8,
+}
+
 /// What the meter knows and counts.
 #[repr(C)]
 #[derive(Clone, Copy, Debug, PartialEq, Eq)]
@@ -84,6 +109,7 @@ pub struct Registers {
     pub clock: Clock,
     pub counters: Counters,
     pub tables: [[u8; 24]; 24],
+    pub archive: Archive,
 }
 
 /// The record. Any numbers may stand in it: a call tells by 14 that they are no meter's, and leaves
@@ -100,8 +126,9 @@ pub struct Meter {
 }
 
 // The layout is C's; hosts/c/firmware.c holds the header to the same figures.
-const _: () = assert!(size_of::<Receiver>() == 66 && size_of::<Registers>() == 632);
-const _: () = assert!(size_of::<Meter>() == 704);
+const _: () = assert!(size_of::<Receiver>() == 66 && size_of::<Registers>() == 924);
+const _: () = assert!(size_of::<Period>() == 24 && size_of::<Archive>() == 292);
+const _: () = assert!(size_of::<Meter>() == 996);
 
 /// What can happen to a meter.
 #[derive(Clone, Copy, Debug, PartialEq, Eq)]

@@ -1,6 +1,6 @@
 //! The tester's script over the model: one command a line in, its answer lines out.
 
-use crate::meter::{Answer, Clock, Meter, PLACES, ROOM};
+use crate::meter::{Answer, Clock, Meter, Period, PERIODS, PLACES, ROOM};
 use std::fmt::Write as _;
 use std::io::{self, BufRead, Write};
 
@@ -196,8 +196,33 @@ fn clock_of(fields: &[&[u8]]) -> Option<Clock> {
     })
 }
 
-/// The state of the 22 fields that `dump` writes.
+/// Fields of the archive: how many periods, and nine of each.
+const ARCHIVE: usize = 1 + 9 * PERIODS;
+
+/// The periods of the fields that end a state.
+fn archive(fields: &[&[u8]]) -> Option<(u8, [Period; PERIODS])> {
+    let (closed, fields) = fields.split_first()?;
+    let mut periods = [Period::default(); PERIODS];
+    for (period, fields) in periods.iter_mut().zip(fields.chunks(9)) {
+        let [year, month, day, hour, minute, c1, c2, c3, c4] = fields else {
+            return None;
+        };
+        *period = Period {
+            year: decimal(year)?,
+            month: decimal(month)?,
+            day: decimal(day)?,
+            hour: decimal(hour)?,
+            minute: decimal(minute)?,
+            counters: [decimal(c1)?, decimal(c2)?, decimal(c3)?, decimal(c4)?],
+        };
+    }
+    Some((decimal(closed)?, periods))
+}
+
+/// The state of the fields that `dump` writes.
 fn state(fields: &[&[u8]]) -> Option<Meter> {
+    let (fields, kept) = fields.split_at_checked(fields.len().checked_sub(ARCHIVE)?)?;
+    let (closed, periods) = archive(kept)?;
     let [mode, count, mark, held, serial, account, password, attempts, clock @ .., c1, c2, c3, c4, tables, speed, place, total] =
         fields
     else {
@@ -223,10 +248,12 @@ fn state(fields: &[&[u8]]) -> Option<Meter> {
         counters: [decimal(c1)?, decimal(c2)?, decimal(c3)?, decimal(c4)?],
         total: decimal(total)?,
         tables: rows,
+        closed,
+        periods,
     })
 }
 
-/// The 22 fields of a state.
+/// The fields of a state.
 pub fn dump(meter: &Meter) -> String {
     let mut line = String::new();
     put(
@@ -264,6 +291,21 @@ pub fn dump(meter: &Meter) -> String {
         &mut line,
         format_args!(" {} {} {}", meter.speed, meter.place, meter.total),
     );
+    put(&mut line, format_args!(" {}", meter.closed));
+    for period in meter.periods {
+        let Period {
+            year,
+            month,
+            day,
+            hour,
+            minute,
+            counters: [c1, c2, c3, c4],
+        } = period;
+        put(
+            &mut line,
+            format_args!(" {year} {month} {day} {hour} {minute} {c1} {c2} {c3} {c4}"),
+        );
+    }
     line
 }
 

@@ -126,6 +126,7 @@ fn shown(serial: &[u8]) -> String {
 #[derive(Clone, Copy, Debug, PartialEq, Eq)]
 pub enum Command<'a> {
     SignOn,
+    Close,
     SignOnTo(&'a [u8]),
     Confirm(u8, u8),
     Enter,
@@ -156,7 +157,7 @@ fn framed(name: &str, data: &str) -> Vec<u8> {
 pub fn characters(command: &Command) -> Option<Vec<u8>> {
     let fields_good = match command {
         Command::SignOnTo(serial) => serial_rule(serial),
-        Command::Confirm(speed, choice) => b"05".contains(speed) && b"017".contains(choice),
+        Command::Confirm(speed, choice) => b"05".contains(speed) && b"0167".contains(choice),
         Command::Password(password) => digits(password, 8),
         Command::ReadZone(zone) => (1..=4).contains(zone),
         Command::ReadTable(table) => (1..=24).contains(table),
@@ -171,6 +172,7 @@ pub fn characters(command: &Command) -> Option<Vec<u8>> {
     let text = String::from_utf8_lossy;
     Some(match command {
         Command::SignOn => b"/?!\r\n".to_vec(),
+        Command::Close => b"/C!\r\n".to_vec(),
         Command::SignOnTo(serial) => format!("/?{}!\r\n", shown(serial)).into_bytes(),
         Command::Confirm(speed, choice) => vec![ACK, b'0', *speed, *choice, b'\r', b'\n'],
         Command::Enter => framed("P1", "()"),
@@ -285,7 +287,7 @@ pub fn next(sets: &[u8], at: usize) -> Step {
 /// The lengths of address and value of the data set that `rest` starts with.
 /// No bracket may stand in an address or a value, so each ends at the first character of another kind.
 fn set_at_start(rest: &[u8]) -> Option<(usize, usize)> {
-    let in_address = |c: &&u8| c.is_ascii_alphanumeric() || **c == b'.';
+    let in_address = |c: &&u8| c.is_ascii_alphanumeric() || b".*".contains(*c);
     let in_value = |c: &&u8| (0x20..=0x7E).contains(*c) && !b"()/!".contains(*c);
     let address_length = rest.iter().take_while(in_address).count();
     if !(1..=16).contains(&address_length) {
@@ -403,6 +405,17 @@ pub fn value_time(value: &[u8]) -> Option<(u8, u8, u8)> {
     real_time(hour, minute, second).then_some((hour, minute, second))
 }
 
+/// `yy-mm-dd hh:nn`, when a period was closed, to year, month, day, hour and minute.
+pub fn value_period(value: &[u8]) -> Option<(u16, u8, u8, u8, u8)> {
+    if value.len() != 14 || value[8] != b' ' || value[11] != b':' {
+        return None;
+    }
+    let (year, month, day) = value_date(&value[..8])?;
+    let pair = |from: usize| number(&value[from..from + 2]).map(|n| n as u8);
+    let (hour, minute) = (pair(9)?, pair(12)?);
+    real_time(hour, minute, 0).then_some((year, month, day, hour, minute))
+}
+
 /// `eeeeee.eee*kWh` to Wh.
 pub fn value_counter(value: &[u8]) -> Option<u32> {
     let written = value.strip_suffix(b"*kWh")?;
@@ -420,16 +433,18 @@ pub enum Kind {
     Row,
     Date,
     Time,
+    Period,
     Counter,
 }
 
 impl Kind {
-    pub const ALL: [Kind; 6] = [
+    pub const ALL: [Kind; 7] = [
         Kind::Serial,
         Kind::Account,
         Kind::Row,
         Kind::Date,
         Kind::Time,
+        Kind::Period,
         Kind::Counter,
     ];
 
@@ -439,6 +454,7 @@ impl Kind {
             Kind::Serial | Kind::Account => 10,
             Kind::Row => 24,
             Kind::Date | Kind::Time => 3,
+            Kind::Period => 5,
             Kind::Counter => 1,
         }
     }
@@ -453,6 +469,8 @@ pub fn value(kind: Kind, value: &[u8]) -> (u8, Vec<u32>) {
         Kind::Row => value_row(value).map(|row| numbers(&row)),
         Kind::Date => value_date(value).map(|(y, m, d)| vec![y.into(), m.into(), d.into()]),
         Kind::Time => value_time(value).map(|(h, n, s)| numbers(&[h, n, s])),
+        Kind::Period => value_period(value)
+            .map(|(y, m, d, h, n)| vec![y.into(), m.into(), d.into(), h.into(), n.into()]),
         Kind::Counter => value_counter(value).map(|wh| vec![wh]),
     };
     match read {
@@ -463,6 +481,13 @@ pub fn value(kind: Kind, value: &[u8]) -> (u8, Vec<u32>) {
 
 // What a meter sends, so far as a head's trial needs it.
 
+/// A closed period: when it was closed (the second is not shown), and its counters.
+#[derive(Clone, Copy, Debug, PartialEq, Eq)]
+pub struct Period {
+    pub closed: Clock,
+    pub counters: [u32; 4],
+}
+
 /// The registers that a data block tells of.
 #[derive(Clone, Debug, PartialEq, Eq)]
 pub struct Registers {
@@ -471,6 +496,8 @@ pub struct Registers {
     pub clock: Clock,
     pub counters: [u32; 4],
     pub tables: [[u8; 24]; 24],
+    /// The newest first; a block has them only where it was asked for with '6'.
+    pub periods: Vec<Period>,
 }
 
 impl Registers {
@@ -480,28 +507,33 @@ impl Registers {
         (sum % 1_000_000_000) as u32
     }
 
-    /// The data block's 33 data sets, address and value.
+    /// The data block's 33 data sets and five more for each period, address and value.
     pub fn data_sets(&self) -> Vec<(String, String)> {
         let text = |characters: &[u8]| String::from_utf8_lossy(characters).into_owned();
+        let date = |c: &Clock| format!("{:02}-{:02}-{:02}", c.year - 2000, c.month, c.day);
+        let kwh = |wh: u32| format!("{:06}.{:03}*kWh", wh / 1000, wh % 1000);
         let c = &self.clock;
-        let date = format!("{:02}-{:02}-{:02}", c.year - 2000, c.month, c.day);
         let time = format!("{:02}:{:02}:{:02}", c.hour, c.minute, c.second);
         let mut sets = vec![
             ("C.1.0".to_string(), shown(&self.serial)),
-            ("0.9.2".to_string(), date),
+            ("0.9.2".to_string(), date(c)),
             ("0.9.1".to_string(), time),
             ("0.0.0".to_string(), text(&self.account)),
         ];
-        let energy = |n: usize, wh: u32| {
-            let shown = format!("{:06}.{:03}*kWh", wh / 1000, wh % 1000);
-            (format!("15.8.{n}"), shown)
-        };
-        for (zone, wh) in self.counters.iter().enumerate() {
-            sets.push(energy(zone + 1, *wh));
+        for (zone, &wh) in self.counters.iter().enumerate() {
+            sets.push((format!("15.8.{}", zone + 1), kwh(wh)));
         }
-        sets.push(energy(0, self.total()));
+        sets.push(("15.8.0".to_string(), kwh(self.total())));
         for (place, row) in self.tables.iter().enumerate() {
             sets.push((format!("131.0.{:02}", place + 1), text(row)));
+        }
+        for (place, Period { closed, counters }) in self.periods.iter().enumerate() {
+            let kk = format!("{:02}", place + 1);
+            let time = format!("{:02}:{:02}", closed.hour, closed.minute);
+            sets.push((format!("0.1.2*{kk}"), date(closed) + " " + &time));
+            for (zone, &wh) in counters.iter().enumerate() {
+                sets.push((format!("15.8.{}*{kk}", zone + 1), kwh(wh)));
+            }
         }
         sets
     }
@@ -570,6 +602,7 @@ mod tests {
             },
             counters: [1_500, 999_999_999, 0, 123_456_789],
             tables: std::array::from_fn(|t| std::array::from_fn(|h| b'1' + ((t + h) % 4) as u8)),
+            periods: Vec::new(),
         }
     }
 
@@ -615,6 +648,8 @@ mod tests {
     fn commands_in_the_forms_of_the_page() {
         let text = |command| characters(&command).unwrap();
         assert_eq!(text(Command::SignOn), b"/?!\r\n");
+        assert_eq!(text(Command::Close), b"/C!\r\n");
+        assert_eq!(text(Command::Confirm(b'5', b'6')), b"\x06056\r\n");
         assert_eq!(
             text(Command::SignOnTo(b"0123456789")),
             b"/?012 3456789!\r\n"
@@ -792,6 +827,34 @@ mod tests {
     }
 
     #[test]
+    fn closed_periods_follow_the_tables() {
+        let mut registers = sample();
+        let before = registers.data().len();
+        let first = Period {
+            closed: clock(2024, 3, 1),
+            counters: [1, 20, 300, 4_000],
+        };
+        registers.periods = vec![first; 12];
+        registers.periods[11].closed = Clock {
+            hour: 23,
+            minute: 59,
+            ..clock(2023, 4, 30)
+        };
+        let data = registers.data();
+        assert_eq!(data.len(), before + 12 * 134);
+        let read = |address: &str| {
+            let found = find(&data, address.as_bytes());
+            let value = found.value_start..found.value_start + found.value_length;
+            (found.answer, found.count, &data[value])
+        };
+        assert_eq!(read("0.1.2*01"), (1, 34, &b"24-03-01 00:00"[..]));
+        assert_eq!(read("15.8.4*01"), (1, 38, &b"000004.000*kWh"[..]));
+        assert_eq!(read("0.1.2*12"), (1, 89, &b"23-04-30 23:59"[..]));
+        assert_eq!(read("15.8.4*12"), (1, 93, &b"000004.000*kWh"[..]));
+        assert_eq!(read("0.1.2*13"), (27, 93, &b""[..]));
+    }
+
+    #[test]
     fn the_reader_ends_and_stays() {
         let end = |at| Step {
             answer: 0,
@@ -855,7 +918,7 @@ mod tests {
             "A(()\r\n",
             "A())\r\n",
             "A(\u{7F})\r\n",
-            "A*()\r\n",
+            "A+()\r\n",
             "!",
             "!\r",
             "!\n",
@@ -890,6 +953,15 @@ mod tests {
         assert_eq!(value_time(b"23:60:00"), None);
         assert_eq!(value_time(b"23:59:60"), None);
         assert_eq!(value_time(b"00:00:00"), Some((0, 0, 0)));
+        let december = Some((2099, 12, 31, 23, 59));
+        assert_eq!(value_period(b"99-12-31 23:59"), december);
+        assert_eq!(value_period(b"00-02-29 00:00"), Some((2000, 2, 29, 0, 0)));
+        assert_eq!(value_period(b"01-02-29 00:00"), None);
+        assert_eq!(value_period(b"99-12-31 24:00"), None);
+        assert_eq!(value_period(b"99-12-31 23:60"), None);
+        assert_eq!(value_period(b"99-12-31;23:59"), None);
+        assert_eq!(value_period(b"99-12-31 23-59"), None);
+        assert_eq!(value_period(b"99-12-31 23:59:00"), None);
         assert_eq!(value_counter(b"999999.999*kWh"), Some(999_999_999));
         assert_eq!(value_counter(b"000000.000*kwh"), None);
         assert_eq!(value_counter(b"000000,000*kWh"), None);

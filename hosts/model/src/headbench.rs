@@ -193,6 +193,7 @@ fn build(name: &[u8], room: &[u8], fields: &[&[u8]]) -> Option<String> {
     };
     let command = match (name, fields) {
         (b"any", []) => Command::SignOn,
+        (b"close", []) => Command::Close,
         (b"serial", [_]) => Command::SignOnTo(&text),
         (b"confirm", [speed, choice]) => {
             let ([speed], [choice]) = (exactly(speed)?, exactly(choice)?);
@@ -232,6 +233,7 @@ fn value_of(kind: &[u8], value: &[u8]) -> Option<String> {
         b"row" => Kind::Row,
         b"date" => Kind::Date,
         b"time" => Kind::Time,
+        b"period" => Kind::Period,
         b"counter" => Kind::Counter,
         _ => return None,
     };
@@ -297,7 +299,11 @@ mod tests {
             ("build confirm 64 35 31", "1 6 063035b18d0a"),
             ("build confirm 64 30 31", "1 6 063030b18d0a"),
             ("build confirm 64 31 31", "9 0 -"),
-            ("build confirm 64 35 36", "9 0 -"),
+            ("build confirm 64 35 36", "1 6 063035368d0a"),
+            ("build confirm 64 35 38", "9 0 -"),
+            ("build close 64", "1 5 afc3218d0a"),
+            ("build close 63", "19 0 -"),
+            ("build close 64 00", "error"),
             ("build energy 64 5", "9 0 -"),
             ("build serial 64 -", "9 0 -"),
             ("build serial 0 -", "19 0 -"),
@@ -333,6 +339,15 @@ mod tests {
             ("value counter 3030303030312e3530302a6b5768", "1 1500"),
             ("value date 32342d30322d3239", "1 2024 2 29"),
             ("value time 32333a35393a3630", "25 0 0 0"),
+            (
+                "value period 32342d30332d30312030303a3030",
+                "1 2024 3 1 0 0",
+            ),
+            ("value period 32342d30332d30312030303a3630", "25 0 0 0 0 0"),
+            (
+                "find 302e312e322a3031 302e312e322a303128290d0a",
+                "1 1 0 0 8 9 0",
+            ),
             ("value serial -", &format!("25 {}", "00".repeat(10))),
             ("mercury ask 6 128 3 1 0", "1 6 800531002c75"),
             ("mercury ask 5 128 3 1 0", "55 0 -"),

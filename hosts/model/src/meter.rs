@@ -12,13 +12,17 @@ pub const NAK: u8 = 0x15;
 /// Places of the receiver; a frame of 64 needs no place for its BCC.
 pub const PLACES: usize = 63;
 /// The least room of a reply buffer.
-pub const ROOM: usize = 2_048;
+pub const ROOM: usize = 4_096;
 /// The greatest pulse in Wh.
 pub const PULSE_MOST: u32 = 1_000_000;
 /// Counters and their sum are taken modulo this.
 pub const COUNTER_END: u32 = 1_000_000_000;
 /// Characters of the data block.
 pub const BLOCK: usize = 1_063;
+/// The most closed periods that are kept.
+pub const PERIODS: usize = 12;
+/// Characters that a closed period adds to the block.
+pub const PERIOD_LINES: usize = 134;
 
 pub const LISTENING: u8 = 0;
 pub const CONFIRMATION: u8 = 1;
@@ -28,6 +32,7 @@ pub const PROGRAMMING: u8 = 4;
 
 const IDENTIFICATION: &[u8] = b"/ZZZ5SUB-VP01.00*\r\n";
 const SIGN_ON: &[u8] = b"/?!\r\n";
+const CLOSING_SIGN_ON: &[u8] = b"/C!\r\n";
 const ZERO_SIGN_ON: &[u8] = b"/?000 0000000!\r\n";
 
 /// Date and time of day.
@@ -39,6 +44,17 @@ pub struct Clock {
     pub hour: u8,
     pub minute: u8,
     pub second: u8,
+}
+
+/// A closed period: when it was closed, without the second, and the counters as they stood.
+#[derive(Clone, Copy, Debug, Default, PartialEq, Eq)]
+pub struct Period {
+    pub year: u16,
+    pub month: u8,
+    pub day: u8,
+    pub hour: u8,
+    pub minute: u8,
+    pub counters: [u32; 4],
 }
 
 /// Everything the meter remembers. Any values can stand here; `well_formed` tells the good ones.
@@ -62,6 +78,10 @@ pub struct Meter {
     /// The four added up, as it is kept.
     pub total: u32,
     pub tables: [[u8; 24]; 24],
+    /// How many periods are kept.
+    pub closed: u8,
+    /// The newest first; unused places are all 0.
+    pub periods: [Period; PERIODS],
 }
 
 /// What a call gives back beside the state and the buffer.
@@ -222,6 +242,21 @@ impl Clock {
     }
 }
 
+impl Period {
+    /// A real date in 2000 to 2099 with hour and minute, and counters within their range.
+    pub fn is_good(&self) -> bool {
+        let closed = Clock {
+            year: self.year,
+            month: self.month,
+            day: self.day,
+            hour: self.hour,
+            minute: self.minute,
+            second: 0,
+        };
+        closed.is_real() && self.counters.iter().all(|&counter| counter < COUNTER_END)
+    }
+}
+
 impl Answer {
     /// A call that is turned away before anything happens.
     fn turned_away(number: u8) -> Answer {
@@ -270,6 +305,8 @@ impl Meter {
             counters: [0; 4],
             total: 0,
             tables: [[b'1'; 24]; 24],
+            closed: 0,
+            periods: [Period::default(); PERIODS],
         }
     }
 
@@ -339,6 +376,40 @@ impl Meter {
                 .iter()
                 .flatten()
                 .all(|&zone| zone_character(zone))
+            && self.archive_good()
+    }
+
+    fn archive_good(&self) -> bool {
+        let closed = usize::from(self.closed);
+        closed <= PERIODS
+            && self.periods[..closed].iter().all(Period::is_good)
+            && self.periods[closed..]
+                .iter()
+                .all(|unused| *unused == Period::default())
+    }
+
+    /// Closes a period at the clock as it is; a thirteenth pushes out the oldest.
+    fn close(&mut self) {
+        let Clock {
+            year,
+            month,
+            day,
+            hour,
+            minute,
+            ..
+        } = self.clock;
+        self.periods.rotate_right(1);
+        self.periods[0] = Period {
+            year,
+            month,
+            day,
+            hour,
+            minute,
+            counters: self.counters,
+        };
+        if usize::from(self.closed) < PERIODS {
+            self.closed += 1;
+        }
     }
 
     /// The characters held, without the unused places.
@@ -428,9 +499,14 @@ impl Meter {
             // Dropped, damaged or not.
         } else if got == Some(LF) {
             let line = [self.held(), &[LF]].concat();
-            let called = self.mark == 0 && self.called_by(&line);
+            let unmarked = self.mark == 0;
+            let closing = unmarked && line == CLOSING_SIGN_ON;
+            let called = unmarked && self.called_by(&line);
             self.empty();
-            if called {
+            if closing {
+                self.close();
+            }
+            if called || closing {
                 self.enter(CONFIRMATION);
                 return Step::reply(1, 0, IDENTIFICATION);
             }
@@ -461,6 +537,7 @@ impl Meter {
         self.enter(LISTENING);
         match wanted {
             Some((speed, b'0' | b'7')) => Step::reply(1, speed, &self.data_block()),
+            Some((speed, b'6')) => Step::reply(1, speed, &self.block_with_periods()),
             Some((speed, b'1')) => {
                 self.enter(PASSWORD);
                 self.speed = speed;
@@ -634,7 +711,28 @@ impl Meter {
             0 => u64::from(self.total),
             _ => u64::from(self.counters[usize::from(zone) - 1]),
         };
-        format!("15.8.{zone}({:06}.{:03}*kWh)\r\n", wh / 1000, wh % 1000)
+        format!("15.8.{zone}({})\r\n", energy_text(wh))
+    }
+
+    /// The lines of the period at a place, which is named from 01 on.
+    fn period_lines(&self, place: usize) -> String {
+        let Period {
+            year,
+            month,
+            day,
+            hour,
+            minute,
+            counters,
+        } = self.periods[place];
+        let kk = place + 1;
+        let yy = year % 100;
+        let mut lines =
+            format!("0.1.2*{kk:02}({yy:02}-{month:02}-{day:02} {hour:02}:{minute:02})\r\n");
+        for (zone, &wh) in counters.iter().enumerate() {
+            let shown = energy_text(wh.into());
+            lines += &format!("15.8.{}*{kk:02}({shown})\r\n", zone + 1);
+        }
+        lines
     }
 
     fn table_line(&self, table: usize) -> String {
@@ -643,6 +741,20 @@ impl Meter {
 
     /// The data block, BCC included.
     pub fn data_block(&self) -> Vec<u8> {
+        block(&(self.register_lines() + "!\r\n"))
+    }
+
+    /// The data block with the closed periods after its tables, the newest first.
+    pub fn block_with_periods(&self) -> Vec<u8> {
+        let mut lines = self.register_lines();
+        for place in 0..usize::from(self.closed) {
+            lines += &self.period_lines(place);
+        }
+        block(&(lines + "!\r\n"))
+    }
+
+    /// Every register but the periods.
+    fn register_lines(&self) -> String {
         let mut lines = self.serial_line();
         lines += &self.date_line();
         lines += &self.time_line();
@@ -653,8 +765,7 @@ impl Meter {
         for table in 0..24 {
             lines += &self.table_line(table);
         }
-        lines += "!\r\n";
-        block(&lines)
+        lines
     }
 
     /// Eight seconds of silence.
@@ -674,12 +785,22 @@ impl Meter {
         self.answer(step, buffer)
     }
 
-    /// One second of the clock.
+    /// One second of the clock; the one that reaches a first of the month closes a period.
     pub fn tick(&mut self) -> Answer {
         if !self.well_formed() {
             return Answer::turned_away(14);
         }
         self.clock = self.clock.next();
+        let Clock {
+            day,
+            hour,
+            minute,
+            second,
+            ..
+        } = self.clock;
+        if (day, hour, minute, second) == (1, 0, 0, 0) {
+            self.close();
+        }
         Answer {
             number: 1,
             speed: self.speed,
@@ -734,6 +855,11 @@ impl Meter {
 pub fn total_of(counters: &[u32; 4]) -> u32 {
     let sum: u64 = counters.iter().map(|&wh| u64::from(wh)).sum();
     (sum % u64::from(COUNTER_END)) as u32
+}
+
+/// `eeeeee.eee*kWh`.
+fn energy_text(wh: u64) -> String {
+    format!("{:06}.{:03}*kWh", wh / 1000, wh % 1000)
 }
 
 /// Nothing but digits.

@@ -1,12 +1,12 @@
 //! What heads and meters say over the link, good and nearly good, by chance.
 
 use crate::chance::Chance;
-use model::head::{Clock, Registers};
+use model::head::{Clock, Period, Registers};
 
 pub const DIGITS: &[u8] = b"0123456789";
 pub const ZONES: &[u8] = b"1234";
 pub const ACCOUNT: &[u8] = b"ABCDEFGHIJKLMNOPQRSTUVWXYZabcdefghijklmnopqrstuvwxyz0123456789 _";
-pub const ADDRESS: &[u8] = b"ABCXYZabcxyz0123456789.";
+pub const ADDRESS: &[u8] = b"ABCXYZabcxyz0123456789.*";
 pub const VALUE: &[u8] = b"0123456789 ABCXYZabcxyz.,:;-*_#$%&'+<=>?@[\\]^`{|}~\"";
 pub const EDGES: &[u8] =
     b"\x00\x01\x02\x03\x06\n\r\x15\x1F !()*+,-./0123459:;@AZ[_`az{}~\x7F\x80\x81\x82\x83\xA8\xB1\xFF";
@@ -72,13 +72,32 @@ impl Chance {
         }
     }
 
+    /// Registers, some with closed periods.
     pub fn registers(&mut self) -> Registers {
+        let any = self.below(13);
+        let count = self.one_of(&[0, 0, 0, 1, any, 12]);
+        self.registers_closed(count)
+    }
+
+    /// Registers with so many closed periods.
+    pub fn registers_closed(&mut self, count: usize) -> Registers {
         Registers {
             serial: self.texts(DIGITS),
             account: self.texts(ACCOUNT),
             clock: self.real_clock(),
             counters: std::array::from_fn(|_| self.counter()),
             tables: std::array::from_fn(|_| self.texts(ZONES)),
+            periods: (0..count).map(|_| self.period()).collect(),
+        }
+    }
+
+    fn period(&mut self) -> Period {
+        Period {
+            closed: Clock {
+                second: 0,
+                ..self.real_clock()
+            },
+            counters: std::array::from_fn(|_| self.counter()),
         }
     }
 

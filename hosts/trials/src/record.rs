@@ -1,6 +1,8 @@
 //! The model's meter as the record that the library takes.
 
-use dirgemist::meter::{Clock, Counters, Date, Facts, Meter, Receiver, Registers, Time};
+use dirgemist::meter::{
+    Archive, Clock, Counters, Date, Facts, Meter, Period, Receiver, Registers, Stamp, Time,
+};
 
 pub fn clock_of(clock: &model::meter::Clock) -> Clock {
     Clock {
@@ -14,6 +16,21 @@ pub fn clock_of(clock: &model::meter::Clock) -> Clock {
             minute: clock.minute,
             second: clock.second,
         },
+    }
+}
+
+fn period_of(period: &model::meter::Period) -> Period {
+    Period {
+        closed: Stamp {
+            date: Date {
+                year: period.year,
+                month: period.month,
+                day: period.day,
+            },
+            hour: period.hour,
+            minute: period.minute,
+        },
+        zones: period.counters,
     }
 }
 
@@ -40,6 +57,10 @@ pub fn record_of(meter: &model::meter::Meter) -> Meter {
                 total: meter.total,
             },
             tables: meter.tables,
+            archive: Archive {
+                periods: meter.periods.each_ref().map(period_of),
+                count: meter.closed,
+            },
         },
     }
 }

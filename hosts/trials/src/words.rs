@@ -1,7 +1,9 @@
 //! What a head can say, good and nearly good, in characters without parity.
 
 use crate::chance::Chance;
-use model::meter::{bcc, days_in_month, total_of, Clock, Meter, ETX, PLACES, SOH, STX};
+use model::meter::{
+    bcc, days_in_month, total_of, Clock, Meter, Period, ETX, PERIODS, PLACES, SOH, STX,
+};
 
 /// SOH, command, STX and data if there are any, ETX and the true BCC.
 pub fn frame(command: &[u8], data: Option<&[u8]>) -> Vec<u8> {
@@ -40,6 +42,16 @@ pub fn bracketed(inside: &[u8]) -> Vec<u8> {
 pub fn sign_on(serial: &[u8; 10]) -> Vec<u8> {
     [b"/?", &serial[..3], b" ", &serial[3..], b"!\r\n"].concat()
 }
+
+/// The sign-on that closes a period.
+pub const CLOSING: &[u8] = b"/C!\r\n";
+
+/// Lines that come near to it and close nothing.
+#[rustfmt::skip]
+pub const NEARLY_CLOSING: [&[u8]; 10] = [
+    b"/C!\n", b"/C!\r\r\n", b"/c!\r\n", b"/C\r\n", b"/CC!\r\n", b"/C?!\r\n", b"/?C!\r\n", b"C!\r\n",
+    b"/C000 0000000!\r\n", b"/C! \r\n",
+];
 
 pub fn confirmation(choice: u8) -> Vec<u8> {
     confirmation_at(b'5', choice)
@@ -129,6 +141,74 @@ pub fn clock(chance: &mut Chance) -> Clock {
     }
 }
 
+/// A moment around the first of a month, or around a midnight that is none.
+pub fn midnight(chance: &mut Chance) -> Clock {
+    let mut around = clock(chance);
+    let most = days_in_month(around.year, around.month);
+    (around.day, around.hour, around.minute) = (most, 23, 59);
+    around.second = chance.one_of(&[59, 59, 59, 58, 57]);
+    match chance.below(8) {
+        0 => around.day = chance.between(1, usize::from(most) - 1) as u8,
+        1 => {
+            // The very second, which only a tick that reaches it closes, and the one after it.
+            (around.day, around.hour, around.minute) = (1, 0, 0);
+            around.second = chance.below(2) as u8;
+        }
+        _ => {}
+    }
+    around
+}
+
+/// A closed period.
+pub fn period(chance: &mut Chance) -> Period {
+    let Clock {
+        year,
+        month,
+        day,
+        hour,
+        minute,
+        ..
+    } = clock(chance);
+    Period {
+        year,
+        month,
+        day,
+        hour,
+        minute,
+        counters: [(); 4].map(|()| counter(chance)),
+    }
+}
+
+/// Some closed periods, often none or all that are kept.
+pub fn close_some(chance: &mut Chance, meter: &mut Meter) {
+    let any = chance.below(PERIODS + 1);
+    let count = chance.one_of(&[0, 1, 2, PERIODS - 1, PERIODS, PERIODS, any]);
+    meter.closed = count as u8;
+    meter.periods = [Period::default(); PERIODS];
+    for place in 0..count {
+        meter.periods[place] = period(chance);
+    }
+}
+
+/// Something wrong with an archive.
+pub fn break_periods(chance: &mut Chance, meter: &mut Meter) {
+    let place = chance.below(PERIODS);
+    let broken = &mut meter.periods[place];
+    match chance.below(8) {
+        0 => meter.closed = chance.one_of(&[13, 14, 128, 255]),
+        1 => meter.closed = (place as u8 + 1 + meter.closed) % 13,
+        2 => broken.year = chance.one_of(&[1, 1999, 2000, 2099, 2100, 65_535]),
+        3 => broken.month = chance.one_of(&[0, 1, 2, 12, 13, 255]),
+        4 => broken.day = chance.one_of(&[0, 1, 28, 29, 30, 31, 32, 255]),
+        5 => broken.hour = chance.one_of(&[1, 23, 24, 255]),
+        6 => broken.minute = chance.one_of(&[1, 59, 60, 255]),
+        _ => {
+            let wh = chance.one_of(&[1, 999_999_999, 1_000_000_000, u32::MAX]);
+            broken.counters[chance.below(4)] = wh;
+        }
+    }
+}
+
 /// A good state in some mode, its receiver empty.
 pub fn state(chance: &mut Chance, mode: u8) -> Meter {
     let mut meter = Meter {
@@ -151,6 +231,7 @@ pub fn state(chance: &mut Chance, mode: u8) -> Meter {
     for table in 0..24 {
         meter.tables[table] = row(chance);
     }
+    close_some(chance, &mut meter);
     meter
 }
 

@@ -6,7 +6,7 @@ use Rattle.state.proofs.zones_good.Tie as tie
 
 returns : tie.Need-returns
 unfolding zonesGood
-returns c = rw (c .all-below .ensures)
+returns c = rw (c .zones-below .ensures)
 
 pub zones-good-spec : {M : Type 1} → statement M
 zones-good-spec = tie.close (tie.spec (λ c κs. search needs) returns)

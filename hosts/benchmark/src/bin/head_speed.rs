@@ -35,6 +35,7 @@ fn registers() -> Registers {
         tables: std::array::from_fn(|table| {
             std::array::from_fn(|hour| b'1' + ((7 * table + 3 * hour) % 4) as u8)
         }),
+        periods: Vec::new(),
     }
 }
 

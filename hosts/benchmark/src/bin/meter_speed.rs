@@ -3,7 +3,9 @@
 
 use benchmark::fast_meter;
 use dirgemist::meter::{self as library, Event};
-use model::meter::{bcc, total_of, with_parity, Answer, Clock, Meter, BLOCK, ROOM};
+use model::meter::{
+    bcc, total_of, with_parity, Answer, Clock, Meter, Period, BLOCK, PERIODS, PERIOD_LINES, ROOM,
+};
 use std::hint::black_box;
 use std::time::Instant;
 use trials::record::record_of;
@@ -17,6 +19,8 @@ const TURNS: u32 = 50;
 trait Side {
     fn of(meter: &Meter) -> Self;
     fn character(&mut self, byte: u8, buffer: &mut [u8]) -> Answer;
+    /// A second goes by on the last of a month, just before midnight; the clock is put back.
+    fn midnight(&mut self) -> u8;
     /// Waits for the LF of a confirmation whose first five characters are these.
     fn wait(&mut self, held: &[u8; 5]);
 }
@@ -30,6 +34,13 @@ impl Side for ByHand {
 
     fn character(&mut self, byte: u8, buffer: &mut [u8]) -> Answer {
         fast_meter::character(&mut self.0, byte, buffer)
+    }
+
+    fn midnight(&mut self) -> u8 {
+        let before = self.0.clock;
+        let number = fast_meter::tick(&mut self.0).number;
+        self.0.clock = before;
+        number
     }
 
     fn wait(&mut self, held: &[u8; 5]) {
@@ -52,6 +63,13 @@ impl Side for library::Meter {
             length: answer.length,
             place: answer.place,
         }
+    }
+
+    fn midnight(&mut self) -> u8 {
+        let before = self.registers.clock;
+        let number = self.meet(Event::Tick, &mut []).number;
+        self.registers.clock = before;
+        number
     }
 
     fn wait(&mut self, held: &[u8; 5]) {
@@ -81,6 +99,17 @@ fn meter(mode: u8) -> Meter {
     };
     for (number, row) in meter.tables.iter_mut().enumerate() {
         *row = std::array::from_fn(|hour| b'1' + ((hour * 5 + number) / 3 % 4) as u8);
+    }
+    meter.closed = PERIODS as u8;
+    for (place, period) in meter.periods.iter_mut().enumerate() {
+        *period = Period {
+            year: 2024,
+            month: 12 - place as u8,
+            day: 1,
+            hour: 0,
+            minute: 0,
+            counters: meter.counters.map(|wh| wh / (place as u32 + 1)),
+        };
     }
     meter
 }
@@ -138,26 +167,49 @@ fn stream(bytes: &[u8]) -> (f64, f64) {
     times
 }
 
-/// Answers a confirmation by the data block, so many times; the five characters before the LF are put back.
-fn send(side: &mut impl Side, buffer: &mut [u8]) {
+/// Answers a confirmation by a block of some length, so many times; the five characters before the LF are
+/// put back.
+fn send(side: &mut impl Side, held: &[u8; 5], length: usize, buffer: &mut [u8]) {
     for _ in 0..TURNS {
-        side.wait(b"\x06050\r");
+        side.wait(held);
         let answer = black_box(&mut *side).character(black_box(0x0A), buffer);
-        assert_eq!(black_box(answer).length, BLOCK);
+        assert_eq!(black_box(answer).length, length);
     }
 }
 
-/// Nanoseconds for the call that sends the data block.
-fn block() -> (f64, f64) {
+/// Nanoseconds for the call that sends the data block, with or without the closed periods.
+fn block(held: &[u8; 5], length: usize) -> (f64, f64) {
     let start = meter(1);
     let (mut rust, mut library) = (ByHand::of(&start), library::Meter::of(&start));
     let (mut one, mut other) = ([0xAA; ROOM], [0xAA; ROOM]);
     let times = medians(
         TURNS as usize,
-        || send(&mut rust, &mut one),
-        || send(&mut library, &mut other),
+        || send(&mut rust, held, length, &mut one),
+        || send(&mut library, held, length, &mut other),
     );
     assert_eq!(one, other);
+    times
+}
+
+/// Nanoseconds for the tick that closes a month.
+fn closing() -> (f64, f64) {
+    let mut start = meter(4);
+    (start.clock.minute, start.clock.second) = (59, 59);
+    let (mut rust, mut library) = (ByHand::of(&start), library::Meter::of(&start));
+    let times = medians(
+        TURNS as usize,
+        || {
+            for _ in 0..TURNS {
+                assert_eq!(black_box(black_box(&mut rust).midnight()), 1);
+            }
+        },
+        || {
+            for _ in 0..TURNS {
+                assert_eq!(black_box(black_box(&mut library).midnight()), 1);
+            }
+        },
+    );
+    assert_eq!(library, record_of(&rust.0));
     times
 }
 
@@ -206,7 +258,15 @@ fn main() {
     for (name, (rust, library)) in [
         ("a character of table writes", stream(&writes)),
         ("a character of mixed frames", stream(&mixed)),
-        ("the call that sends the data block", block()),
+        (
+            "the call that sends the data block",
+            block(b"\x06050\r", BLOCK),
+        ),
+        (
+            "the same with twelve periods",
+            block(b"\x06056\r", BLOCK + PERIODS * PERIOD_LINES),
+        ),
+        ("the tick that closes a month", closing()),
         ("the total for a display", display()),
     ] {
         println!(

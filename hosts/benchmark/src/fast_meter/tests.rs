@@ -111,6 +111,18 @@ fn state(chance: &mut Chance, mode: u8) -> Meter {
         minute: 59,
         second: 58 + chance.below(2) as u8,
     };
+    let any = chance.below(PERIODS + 1);
+    meter.closed = chance.one_of(&[0, 1, PERIODS, any]) as u8;
+    for place in 0..usize::from(meter.closed) {
+        meter.periods[place] = Period {
+            year: 2000 + chance.below(100) as u16,
+            month: 1 + chance.below(12) as u8,
+            day: 1 + chance.below(28) as u8,
+            hour: chance.below(24) as u8,
+            minute: chance.below(60) as u8,
+            counters: [(); 4].map(|()| chance.below(1_000_000_000) as u32),
+        };
+    }
     meter
 }
 
@@ -118,13 +130,14 @@ fn state(chance: &mut Chance, mode: u8) -> Meter {
 fn message(chance: &mut Chance, meter: &Meter) -> Vec<u8> {
     let serial = &meter.serial;
     match meter.mode {
-        0 => match chance.below(4) {
+        0 => match chance.below(5) {
             0 => b"/?!\r\n".to_vec(),
             1 => b"/?000 0000000!\r\n".to_vec(),
+            3 => b"/C!\r\n".to_vec(),
             2 => [b"/", &[b'x'; 40][..26 + chance.below(8)], b"\n"].concat(),
             _ => [b"/?", &serial[..3], b" ", &serial[3..], b"!\r\n"].concat(),
         },
-        1 => vec![ACK, b'0', b'5', chance.one_of(b"011172"), CR, LF],
+        1 => vec![ACK, b'0', b'5', chance.one_of(b"0111726"), CR, LF],
         2 => match chance.below(5) {
             0 => framed(b"P1", Some(b"()")),
             1 => framed(b"P1", Some(b"(1234567a)")),
@@ -183,7 +196,7 @@ fn command(chance: &mut Chance) -> Vec<u8> {
 /// One field of a state is given any value.
 fn spoil(chance: &mut Chance, meter: &mut Meter) {
     let byte = chance.byte();
-    match chance.below(17) {
+    match chance.below(20) {
         0 => meter.mode = byte % 8,
         1 => meter.count = byte % 80,
         2 => meter.held[chance.below(PLACES)] = byte,
@@ -203,6 +216,18 @@ fn spoil(chance: &mut Chance, meter: &mut Meter) {
         13 => meter.speed = byte % 7,
         14 => meter.counters[chance.below(4)] = 999_999_990 + u32::from(byte % 20),
         15 => meter.total = meter.total.wrapping_add(u32::from(byte % 3)),
+        16 => meter.closed = byte % 15,
+        17 | 18 => {
+            let period = &mut meter.periods[chance.below(PERIODS)];
+            match byte % 6 {
+                0 => period.year = 1998 + u16::from(byte % 104),
+                1 => period.month = byte % 20,
+                2 => period.day = byte % 34,
+                3 => period.hour = byte % 26,
+                4 => period.minute = byte % 62,
+                _ => period.counters[chance.below(4)] = 999_999_990 + u32::from(byte % 20),
+            }
+        }
         _ => meter.tables[chance.below(24)][chance.below(24)] = byte,
     }
 }
@@ -264,5 +289,10 @@ fn data_block_of_any_state() {
         let block: Vec<u8> = meter.data_block().iter().map(|&c| parity(c)).collect();
         assert_eq!(buffer[..BLOCK], block);
         assert!(buffer[BLOCK..].iter().all(|&byte| byte == 0xAA));
+        let length = block_with_periods(&meter, &mut buffer);
+        let block = meter.block_with_periods();
+        let block: Vec<u8> = block.iter().map(|&c| parity(c)).collect();
+        assert_eq!(buffer[..length], block);
+        assert!(buffer[length..].iter().all(|&byte| byte == 0xAA));
     }
 }

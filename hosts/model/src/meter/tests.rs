@@ -481,7 +481,7 @@ fn a_slow_head_is_answered_slowly() {
 #[test]
 fn no_other_digit_is_a_speed() {
     for digit in (0..128).filter(|digit| !b"05".contains(digit)) {
-        for choice in *b"017" {
+        for choice in *b"0167" {
             let mut meter = meter_in(CONFIRMATION);
             let got = send(&mut meter, &[ACK, b'0', digit, choice, CR, LF]);
             assert_eq!((got.0, got.1, meter.mode), (2, 0, LISTENING));
@@ -501,4 +501,184 @@ fn speeds_out_of_range_are_malformed() {
             assert_eq!(meter.well_formed(), good);
         }
     }
+}
+
+/// The period that this meter closes at its clock.
+fn period_of(meter: &Meter) -> Period {
+    let clock = meter.clock;
+    Period {
+        year: clock.year,
+        month: clock.month,
+        day: clock.day,
+        hour: clock.hour,
+        minute: clock.minute,
+        counters: meter.counters,
+    }
+}
+
+#[test]
+fn the_closing_sign_on_closes_and_answers() {
+    let mut meter = meter_in(LISTENING);
+    meter.counters = [999_999_999, 2, 30, 400];
+    meter.total = 431;
+    let before = meter.clone();
+    let got = send(&mut meter, b"/C!\r\n");
+    assert_eq!(got, (1, 0, b"/ZZZ5SUB-VP01.00*\r\n".to_vec()));
+    let mut after = Meter {
+        mode: CONFIRMATION,
+        closed: 1,
+        ..before.clone()
+    };
+    after.periods[0] = period_of(&before);
+    assert_eq!(meter, after);
+    // No other line closes, and none with a damaged character.
+    for line in [
+        "/?!\r\n",
+        "/C\r\n",
+        "/c!\r\n",
+        "/CC!\r\n",
+        "/C!\n",
+        "/C! \r\n",
+        "/C123 4567890!\r\n",
+    ] {
+        let mut meter = before.clone();
+        send(&mut meter, line.as_bytes());
+        assert_eq!(
+            (meter.closed, meter.periods),
+            (0, before.periods),
+            "{line:?}"
+        );
+    }
+    for place in 1..5 {
+        let mut bytes = b"/C!\r\n".map(with_parity);
+        bytes[place] ^= 0x80;
+        let mut meter = before.clone();
+        assert_ne!(wire(&mut meter, &bytes).0, 1);
+        assert_eq!((meter.closed, meter.periods), (0, before.periods));
+    }
+}
+
+#[test]
+fn a_thirteenth_period_pushes_out_the_oldest() {
+    let mut meter = meter_in(LISTENING);
+    for n in 1..=14 {
+        meter.counters[0] = n;
+        meter.total = n;
+        send(&mut meter, b"/C!\r\n");
+        meter.enter(LISTENING);
+        assert_eq!(u32::from(meter.closed), n.min(12));
+        assert!(meter.well_formed());
+        for (place, period) in meter.periods.iter().enumerate() {
+            let place = place as u32;
+            assert_eq!(period.counters[0], n.saturating_sub(place), "{n} {place}");
+        }
+    }
+    assert_eq!(meter.counters, [14, 0, 0, 0]);
+}
+
+#[test]
+fn only_the_first_second_of_a_month_closes() {
+    for mode in LISTENING..=PROGRAMMING {
+        for (day, last, closes) in [(31, 59, true), (31, 58, false), (30, 59, false)] {
+            let mut meter = meter_in(mode);
+            meter.counters = [7, 0, 0, 0];
+            meter.total = 7;
+            meter.clock = Clock {
+                month: 12,
+                day,
+                hour: 23,
+                minute: 59,
+                second: last,
+                ..meter.clock
+            };
+            assert_eq!(meter.tick().number, 1);
+            assert_eq!(meter.closed, u8::from(closes));
+            if closes {
+                assert_eq!(meter.periods[0], period_of(&meter));
+                assert_eq!((meter.periods[0].year, meter.periods[0].hour), (2025, 0));
+            }
+            // The second after it closes nothing, but where it is that very one.
+            meter.tick();
+            assert_eq!(meter.closed, u8::from(day == 31));
+        }
+    }
+    // A write of that very second closes nothing.
+    let mut meter = meter_in(PROGRAMMING);
+    assert!(is_done(send(
+        &mut meter,
+        &true_frame("W1", "T(01-03-2024;00:00:00)")
+    )));
+    assert_eq!(meter.closed, 0);
+    meter.tick();
+    assert_eq!(meter.closed, 0);
+}
+
+#[test]
+fn the_block_with_periods_has_them_behind_its_tables() {
+    for count in 0..=12 {
+        let mut meter = meter_in(CONFIRMATION);
+        meter.closed = count;
+        for place in 0..usize::from(count) {
+            meter.periods[place] = Period {
+                counters: [place as u32, 999_999_999, 1_500, 0],
+                ..period_of(&meter)
+            };
+        }
+        let plain = meter.data_block();
+        assert_eq!(plain.len(), BLOCK);
+        for speed in *b"05" {
+            let mut meter = meter.clone();
+            let (number, at, block) = send(&mut meter, &[ACK, b'0', speed, b'6', CR, LF]);
+            assert_eq!((number, at, meter.mode), (1, speed - b'0', LISTENING));
+            let kept = BLOCK - 5;
+            assert_eq!(block[..kept], plain[..kept]);
+            assert_eq!(block.len(), BLOCK + usize::from(count) * PERIOD_LINES);
+            assert!(block[..block.len() - 1].ends_with(b")\r\n!\r\n\x03"));
+            assert_eq!(bcc(&block[1..]), 0);
+            if count == 12 {
+                let last = "0.1.2*12(24-02-29 08:05)\r\n15.8.1*12(000000.011*kWh)\r\n\
+                    15.8.2*12(999999.999*kWh)\r\n15.8.3*12(000001.500*kWh)\r\n\
+                    15.8.4*12(000000.000*kWh)\r\n!\r\n\x03";
+                assert!(block[..block.len() - 1].ends_with(last.as_bytes()));
+                assert!(block.len() <= ROOM);
+            }
+        }
+    }
+}
+
+#[test]
+fn archives_out_of_range_are_malformed() {
+    let mut good = meter_in(LISTENING);
+    good.closed = 2;
+    good.periods[0] = period_of(&good);
+    // Periods need not be in order.
+    good.periods[1] = Period {
+        year: 2096,
+        ..period_of(&good)
+    };
+    assert!(good.well_formed());
+    let broken = |change: fn(&mut Meter)| {
+        let mut meter = good.clone();
+        change(&mut meter);
+        !meter.well_formed()
+    };
+    assert!(broken(|meter| meter.closed = 1));
+    assert!(broken(|meter| meter.closed = 3));
+    assert!(broken(|meter| meter.closed = 13));
+    assert!(broken(|meter| meter.closed = 255));
+    assert!(broken(|meter| meter.periods[1].year = 1999));
+    assert!(broken(|meter| meter.periods[1].year = 2100));
+    assert!(broken(|meter| meter.periods[1].month = 0));
+    assert!(broken(|meter| meter.periods[0].day = 30));
+    assert!(broken(|meter| meter.periods[0].hour = 24));
+    assert!(broken(|meter| meter.periods[0].minute = 60));
+    assert!(broken(|meter| meter.periods[0].counters[3] = 1_000_000_000));
+    assert!(broken(|meter| meter.periods[2].minute = 1));
+    assert!(broken(|meter| meter.periods[11].counters[3] = 1));
+    let mut full = good.clone();
+    full.closed = 12;
+    full.periods = [good.periods[1]; 12];
+    assert!(full.well_formed());
+    full.closed = 13;
+    assert!(!full.well_formed());
 }

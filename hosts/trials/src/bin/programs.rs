@@ -7,6 +7,7 @@
 //! It is run in the repository's root, with the programs built.
 
 use model::head;
+use model::meter::{Meter, Period, PERIODS};
 use model::post::{self, Row, Table, HOURS, LAST, LINE, LONGEST, TABLES};
 use std::collections::BTreeSet;
 use std::io::{Read, Write};
@@ -372,6 +373,50 @@ fn for_one_register(cases: &mut Vec<Case>) {
     }
 }
 
+/// Blocks of meters with closed periods, for the readout: all of them, and each of their lines.
+fn for_closed_months(cases: &mut Vec<Case>) {
+    let mut meter = Meter::blank();
+    for count in 0..=PERIODS {
+        if count > 0 {
+            meter.periods.rotate_right(1);
+            meter.periods[0] = Period {
+                year: 2023,
+                month: count as u8,
+                day: 1,
+                hour: 0,
+                minute: count as u8,
+                counters: [1, 20, 300, 4_000].map(|wh| wh * count as u32),
+            };
+        }
+        meter.closed = count as u8;
+        let block = meter.block_with_periods();
+        let reply = head::on_the_wire(&block);
+        cases.push(Case {
+            reaches: format!("readout: {count} periods"),
+            ..readout(&reply)
+        });
+        for kk in 1..=count {
+            for address in [format!("0.1.2*{kk:02}"), format!("15.8.4*{kk:02}")] {
+                cases.push(Case {
+                    reaches: format!("register: period {kk}"),
+                    ..readout_of(&reply, &address)
+                });
+            }
+        }
+        let others = ["0.1.2", "0.1.2*", "0.1.2*1", "0.1.2*00", "15.8.0*01", "*01"];
+        cases.extend(others.map(|address| readout_of(&reply, address)));
+        cases.push(readout_of(&reply, &format!("0.1.2*{:02}", count + 1)));
+    }
+    // Cut and damaged in the periods.
+    let reply = head::on_the_wire(&meter.block_with_periods());
+    for place in (1_050..reply.len()).step_by(41) {
+        cases.push(readout(&reply[..place]));
+        let mut damaged = reply.clone();
+        damaged[place] ^= 0x80;
+        cases.push(readout_of(&damaged, "0.1.2*12"));
+    }
+}
+
 /// Texts for the delivery.
 fn for_the_delivery(cases: &mut Vec<Case>) {
     cases.extend((1..=TABLES).map(|number| delivering(&post_of([number]))));
@@ -436,7 +481,7 @@ fn held(case: &Case) -> Result<(), String> {
 
 /// The programs as a shell starts them: command, exit status, whether something stands on standard
 /// error, and what is reached.
-const STARTED: [(&str, i32, bool, &str); 23] = [
+const STARTED: [(&str, i32, bool, &str); 24] = [
     ("./export-post examples/winter.post", 0, false, "status 0"),
     ("./export-post <examples/winter.post", 0, false, "status 0"),
     ("./export-post examples/crafted.post", 1, false, "status 1"),
@@ -478,6 +523,12 @@ const STARTED: [(&str, i32, bool, &str); 23] = [
     ),
     (
         "[ \"$(hosts/tool readout 15.8.0 <crates/readout/stdin)\" = '15.8.0 123458.288*kWh' ]",
+        0,
+        false,
+        "status 0",
+    ),
+    (
+        "[ \"$(hosts/tool readout '0.1.2*02' <crates/readout/stdin)\" = '0.1.2*02 24-01-15 17:42' ]",
         0,
         false,
         "status 0",
@@ -547,6 +598,8 @@ fn to_reach() -> BTreeSet<String> {
         .chain([1, 22, 23, 24, 25, 26].map(|number| format!("readout: {number}")))
         .chain((1..=33).map(|set| format!("register: set {set}")))
         .chain([22, 23, 24, 25, 26, 27].map(|number| format!("register: {number}")))
+        .chain((0..=PERIODS).map(|count| format!("readout: {count} periods")))
+        .chain((1..=PERIODS).map(|kk| format!("register: period {kk}")))
         .chain([1, 20].map(|number| format!("delivering: {number}")))
         .chain(STARTED.iter().map(|case| case.3.to_string()))
         .collect();
@@ -564,6 +617,7 @@ fn main() -> ExitCode {
     for_the_exporter(&mut cases);
     for_the_readout(&mut cases);
     for_one_register(&mut cases);
+    for_closed_months(&mut cases);
     for_the_delivery(&mut cases);
     let reached = Mutex::new(BTreeSet::new());
     let wrong = Mutex::new(Vec::new());

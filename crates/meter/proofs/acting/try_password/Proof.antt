@@ -1,4 +1,5 @@
 -- `meter::acting::try_password` meets its contract: each way out is the case of the definition that its tests name. Assumes nothing.
+use mathlib.Core.Path.{sym}
 use Rattle.state.proofs.Parts.{formed, long}
 use native.Mathlib.Omega.{arith}
 use Rattle.text.specs.Writing.{holding}
@@ -15,7 +16,7 @@ returns c = (rw (eq-eqb _ _ (c .before .before .before .before .if1 .taken), c .
 slice-aggregate-same : tie.Need-slice-aggregate-same
 slice-aggregate-same c =
     let start = c .before .before .before .before .before .before .before .before .before .before .before in
-    search (needs, long (start .args .m) (start .pre .0) .password)
+    sym (long (start .args .m) (start .pre .0) .password)
 
 accept-requires : tie.Need-accept-requires
 accept-requires c κs = omega (arith, c .before .before .before .before .before .before .before .before .before .before .before .before .before .before .before .before .pre .1)

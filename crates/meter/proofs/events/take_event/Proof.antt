@@ -12,6 +12,9 @@ take-requires c κs = let known = c .before .before .before .before .before .pre
 silence-requires : tie.Need-silence-requires
 silence-requires c κs = silence-room _ _ (c .before .enum-told .given .1) (c .before .before .before .before .pre .1)
 
+tick-requires : tie.Need-tick-requires
+tick-requires c κs = c .before .before .before .pre .0
+
 pulse-requires : tie.Need-pulse-requires
 pulse-requires c κs = let known = c .before .before .before .before .pre in (known .0, pulse-small _ _ _ (c .before .e2 .given .1) (known .1))
 
@@ -40,4 +43,4 @@ unfolding happened holding
 returns-6 c = (rw (c .before .enum-told4 .given .1, c .unheard-with .ensures), rw (c .before .enum-told4 .given .1))
 
 pub take-event-spec : {M : Type 1} → statement M
-take-event-spec = tie.close (tie.spec (λ c. search needs) take-requires (λ c. search needs) silence-requires (λ c. search needs) (λ c κs. search needs) (λ c. search needs) pulse-requires (λ c. search needs) (λ c κs. search needs) (λ c. search needs) (λ c κs. search needs) (λ c. search needs) returns (λ c. search needs) returns-2 returns-3 returns-4 returns-5 returns-6)
+take-event-spec = tie.close (tie.spec (λ c. search needs) take-requires (λ c. search needs) silence-requires (λ c. search needs) tick-requires (λ c. search needs) pulse-requires (λ c. search needs) (λ c κs. search needs) (λ c. search needs) (λ c κs. search needs) (λ c. search needs) returns (λ c. search needs) returns-2 returns-3 returns-4 returns-5 returns-6)

@@ -3,6 +3,8 @@ use Rattle.state.proofs.Parts.{long}
 use Rattle.text.specs.Writing.{holding}
 use Rattle.meter.specs.Character.{lineEnded}
 use borrow.Author.Tests.{eq-eqb, ne-eqb}
+use mathlib.Core.Path.{sym}
+use Rattle.state.proofs.Parts.{long}
 use borrow.Author.Needs.{needs}
 use Rattle.meter.proofs.lines.end_line.Statement.{statement}
 use Rattle.meter.proofs.lines.end_line.Tie as tie
@@ -14,7 +16,7 @@ returns c = (rw (eq-eqb _ _ (c .before .before .if1 .taken), c .quiet .ensures, 
 slice-aggregate-signs-on : tie.Need-slice-aggregate-signs-on
 slice-aggregate-signs-on c =
     let start = c .before .before .before .before .before .before .before .before .before .before .before .before in
-    search (needs, long (start .args .m) (start .pre .0) .serial)
+    sym (long (start .args .m) (start .pre .0) .serial)
 
 signs-on-requires : tie.Need-signs-on-requires
 signs-on-requires c κs =
@@ -23,11 +25,15 @@ signs-on-requires c κs =
 
 returns-2 : tie.Need-returns-2
 unfolding lineEnded holding
-returns-2 c = (rw (ne-eqb _ _ (c .before .before .before .before .before .before .before .before .before .before .before .if1 .left), ← c .before .before .before .before .before .before .before .before .first .ensures .1, ← c .before .before .before .before .before .before .signs-on .ensures, c .before .before .before .before .before .if2 .taken, c .in-mode2 .ensures, c .before .before .before .identify .ensures .0), rw (ne-eqb _ _ (c .before .before .before .before .before .before .before .before .before .before .before .if1 .left), ← c .before .before .before .before .before .before .before .before .first .ensures .1, ← c .before .before .before .before .before .before .signs-on .ensures, c .before .before .before .before .before .if2 .taken) (c .before .before .before .identify .ensures .1))
+returns-2 c = (rw (ne-eqb _ _ (c .before .before .before .before .before .before .before .before .before .before .if1 .left), ← c .before .before .before .before .before .before .before .first .ensures .1, ← c .before .before .before .before .before .signs-on .ensures, c .before .before .before .before .if2 .taken, c .before .before .sign-on .ensures .0), rw (ne-eqb _ _ (c .before .before .before .before .before .before .before .before .before .before .if1 .left), ← c .before .before .before .before .before .before .before .first .ensures .1, ← c .before .before .before .before .before .signs-on .ensures, c .before .before .before .before .if2 .taken) (c .before .before .sign-on .ensures .1))
 
 returns-3 : tie.Need-returns-3
 unfolding lineEnded holding
-returns-3 c = (rw (ne-eqb _ _ (c .before .before .before .before .before .before .before .before .if1 .left), ← c .before .before .before .before .before .first .ensures .1, ← c .before .before .before .signs-on .ensures, c .before .before .if2 .left, c .quiet2 .ensures, c .before .in-mode3 .ensures), rw (ne-eqb _ _ (c .before .before .before .before .before .before .before .before .if1 .left), ← c .before .before .before .before .before .first .ensures .1, ← c .before .before .before .signs-on .ensures, c .before .before .if2 .left))
+returns-3 c = (rw (ne-eqb _ _ (c .before .before .before .before .before .before .before .before .before .before .before .before .before .if1 .left), ← c .before .before .before .before .before .before .before .before .before .before .first .ensures .1, ← c .before .before .before .before .before .before .before .before .signs-on .ensures, c .before .before .before .before .before .before .before .if2 .left, ← c .before .before .before .before .before .before .closes .ensures, c .before .before .before .before .before .if3 .taken, c .before .before .sign-on2 .ensures .0, c .before .before .before .before .close-period .ensures), rw (ne-eqb _ _ (c .before .before .before .before .before .before .before .before .before .before .before .before .before .if1 .left), ← c .before .before .before .before .before .before .before .before .before .before .first .ensures .1, ← c .before .before .before .before .before .before .before .before .signs-on .ensures, c .before .before .before .before .before .before .before .if2 .left, ← c .before .before .before .before .before .before .closes .ensures, c .before .before .before .before .before .if3 .taken) (c .before .before .sign-on2 .ensures .1))
+
+returns-4 : tie.Need-returns-4
+unfolding lineEnded holding
+returns-4 c = (rw (ne-eqb _ _ (c .before .before .before .before .before .before .before .before .before .before .if1 .left), ← c .before .before .before .before .before .before .before .first .ensures .1, ← c .before .before .before .before .before .signs-on .ensures, c .before .before .before .before .if2 .left, ← c .before .before .before .closes .ensures, c .before .before .if3 .left, c .quiet2 .ensures, c .before .in-mode2 .ensures), rw (ne-eqb _ _ (c .before .before .before .before .before .before .before .before .before .before .if1 .left), ← c .before .before .before .before .before .before .before .first .ensures .1, ← c .before .before .before .before .before .signs-on .ensures, c .before .before .before .before .if2 .left, ← c .before .before .before .closes .ensures, c .before .before .if3 .left))
 
 pub end-line-spec : {M : Type 1} → statement M
-end-line-spec = tie.close (tie.spec (λ c κs. search needs) (λ c κs. search needs) returns (λ c. search needs) (λ c. search needs) (λ c κs. search needs) slice-aggregate-signs-on signs-on-requires (λ c κs. search needs) (λ c κs. search needs) (λ c. search needs) returns-2 (λ c κs. search needs) (λ c κs. search needs) returns-3)
+end-line-spec = tie.close (tie.spec (λ c κs. search needs) (λ c κs. search needs) returns (λ c. search needs) (λ c. search needs) (λ c κs. search needs) slice-aggregate-signs-on signs-on-requires (λ c κs. c .before .before .before .before .before .before .before .before .before .before .before .before .before .before .before .pre .1) (λ c. search needs) returns-2 (λ c κs. search needs) (λ c κs. c .before .before .before .before .before .before .before .before .before .before .before .before .before .before .before .before .pre .0) (λ c κs. c .before .before .before .before .before .before .before .before .before .before .before .before .before .before .before .before .before .before .pre .1) (λ c. search needs) returns-3 (λ c κs. search needs) (λ c κs. search needs) returns-4)

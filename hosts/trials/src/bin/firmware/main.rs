@@ -79,12 +79,12 @@ impl Pair<'_> {
         self.model = meter;
     }
 
-    fn same_record(&self, what: &str) -> Result<(), String> {
+    fn same_record(&self, what: impl FnOnce() -> String) -> Result<(), String> {
         let record = self.firmware.record();
         if record == record_of(&self.model) {
             return Ok(());
         }
-        let model = &self.model;
+        let (what, model) = (what(), &self.model);
         Err(format!(
             "{what}: the records differ\nmodel: {model:?}\nlibrary: {record:?}"
         ))
@@ -98,7 +98,7 @@ impl Pair<'_> {
         if given != wanted {
             return Err(format!("make {facts:?}: wanted {wanted}, given {given}"));
         }
-        self.same_record("make")
+        self.same_record(|| "make".into())
     }
 
     fn check(&mut self) -> Result<(), String> {
@@ -119,7 +119,7 @@ impl Pair<'_> {
                 "total of {model:?}: wanted {wanted} {total}, given {shown:?}"
             ));
         }
-        self.same_record("check")
+        self.same_record(|| "check".into())
     }
 
     /// One event to both, in a buffer of `room` bytes of some filling.
@@ -130,14 +130,15 @@ impl Pair<'_> {
         let reply = self.replies.lend(room);
         reply.fill(filling);
         let given = self.firmware.meet(kind, value, reply);
-        let what = format!("event {kind}, value {value:#x}, room {room}, on {before:?}");
+        let what = || format!("event {kind}, value {value:#x}, room {room}, on {before:?}");
         if given != wanted {
+            let what = what();
             return Err(format!("{what}: wanted {wanted:?}, given {given:?}"));
         }
         if *reply != wanted_reply[..] {
-            return Err(format!("{what}: the buffers differ"));
+            return Err(format!("{}: the buffers differ", what()));
         }
-        self.same_record(&what)?;
+        self.same_record(what)?;
         self.reached
             .event(&before, (kind, value, room), wanted, &self.model);
         Ok(())
@@ -149,7 +150,7 @@ fn trial(firmware: &mut dyn Firmware, seed: u64, events: u64) -> Result<Reached,
     let mut pair = Pair {
         firmware,
         model: Meter::blank(),
-        replies: Guarded::new(4_096),
+        replies: Guarded::new(8_192),
         reached: Reached::default(),
     };
     pair.put(Meter::blank());
@@ -186,12 +187,15 @@ fn run() -> Result<(), String> {
         return Err(format!("never reached: {}", missed.join("; ")));
     }
     println!(
-        "firmware: {} events, {} of slow sessions, {} with a place, {} meters made, {} records \
-         checked, all equal; \
+        "firmware: {} events, {} of slow sessions, {} with a place, {} cases of closed months ({} \
+         periods closed, {} blocks with periods), {} meters made, {} records checked, all equal; \
          reached all of {}; answers {}",
         reached.events,
         reached.slow,
         reached.hurt,
+        reached.months,
+        reached.closed,
+        reached.blocks,
         reached.made,
         reached.checks,
         reached::AIMS.len(),

@@ -1,7 +1,7 @@
 //! What happens to the meters: dialogues, noise, time, energy, facts good and bad, broken records.
 
 use crate::{Clock, Meter, Pair};
-use model::meter::{with_parity, PLACES, ROOM};
+use model::meter::{with_parity, Period, PERIODS, PLACES, ROOM};
 use trials::chance::Chance;
 use trials::words::*;
 
@@ -21,7 +21,7 @@ pub fn play(pair: &mut Pair, seed: u64, events: u64) -> Outcome {
     let chance = &mut Chance::new(seed);
     while pair.reached.events < events {
         let filling = chance.byte();
-        match chance.weighed(&[80, 5, 5, 4, 3, 4, 4, 3, 2, 2, 1, 60]) {
+        match chance.weighed(&[80, 5, 5, 4, 3, 4, 4, 3, 2, 2, 1, 60, 100]) {
             0 => {
                 for character in message(chance, &pair.model) {
                     let damage = u8::from(chance.one_in(400)) << 7;
@@ -56,6 +56,7 @@ pub fn play(pair: &mut Pair, seed: u64, events: u64) -> Outcome {
                 pair.meet(kind, value, chance.one_of(&[0, ROOM]), filling)?;
             }
             11 => hurt_frame(pair, chance, filling)?,
+            12 => months(pair, chance, filling)?,
             _ => {
                 let meter = any_bytes(chance);
                 let kept = std::mem::replace(&mut pair.model, Meter::blank());
@@ -73,10 +74,12 @@ pub fn play(pair: &mut Pair, seed: u64, events: u64) -> Outcome {
 /// What a head might say to this meter, or nearly.
 fn message(chance: &mut Chance, meter: &Meter) -> Vec<u8> {
     let mut message = match meter.mode {
-        0 => match chance.weighed(&[3, 2, 1, 1]) {
+        0 => match chance.weighed(&[3, 2, 1, 1, 2, 1]) {
             0 => b"/?!\r\n".to_vec(),
             1 => sign_on(&meter.serial),
             2 => sign_on(b"0000000000"),
+            4 => CLOSING.to_vec(),
+            5 => chance.pick(&NEARLY_CLOSING).to_vec(),
             _ => {
                 let mut line = vec![b'/'];
                 let most = chance.between(1, 34);
@@ -88,7 +91,7 @@ fn message(chance: &mut Chance, meter: &Meter) -> Vec<u8> {
         1 => {
             let wanted = chance.byte() & 0x7F;
             let speed = chance.one_of(b"0000555554");
-            let choice = chance.one_of(&[b'1', b'1', b'1', b'1', b'0', b'7', wanted]);
+            let choice = chance.one_of(&[b'1', b'1', b'1', b'1', b'0', b'6', b'7', wanted]);
             confirmation_at(speed, choice)
         }
         2 => match chance.weighed(&[2, 6, 1, 1]) {
@@ -140,6 +143,68 @@ fn hurt_frame(pair: &mut Pair, chance: &mut Chance, filling: u8) -> Outcome {
     }
     for byte in bytes {
         pair.meet(0, byte.into(), ROOM, filling)?;
+    }
+    Ok(())
+}
+
+/// Midnights, of a first or not, reached by a tick or told by a write; the closing sign-on, whole and
+/// hurt; the block with the periods.
+fn months(pair: &mut Pair, chance: &mut Chance, filling: u8) -> Outcome {
+    let mut meter = pair.model.clone();
+    if chance.percent(10) {
+        close_some(chance, &mut meter);
+    }
+    pair.put(meter);
+    for _ in 0..chance.between(1, 12) {
+        let mut meter = pair.model.clone();
+        meter.clock = midnight(chance);
+        pair.put(meter);
+        for _ in 0..chance.one_of(&[1, 1, 1, 2, 3]) {
+            pair.meet(2, chance.bits() as u32, 0, filling)?;
+        }
+    }
+    match chance.below(64) {
+        0..=7 => {
+            let mut meter = holding(pair.model.clone(), &[], false);
+            (meter.mode, meter.speed) = (0, 0);
+            pair.put(meter);
+            let mut line = CLOSING.iter().map(|&c| with_parity(c)).collect::<Vec<_>>();
+            if chance.percent(40) {
+                line[chance.between(1, 3)] ^= 0x80;
+            }
+            for byte in line {
+                pair.meet(0, byte.into(), ROOM, filling)?;
+            }
+            if pair.model.mode == 1 && chance.percent(30) {
+                let speed = chance.one_of(b"05");
+                for character in confirmation_at(speed, b'6') {
+                    pair.meet(0, with_parity(character).into(), ROOM, filling)?;
+                }
+            }
+        }
+        8 if pair.model.mode == 4 => {
+            // A first of a month told, which closes nothing.
+            let first = Clock {
+                day: 1,
+                hour: 0,
+                minute: 0,
+                second: 0,
+                ..clock(chance)
+            };
+            for character in write(&clock_data(first)) {
+                pair.meet(0, with_parity(character).into(), ROOM, filling)?;
+            }
+        }
+        9 => {
+            let kept = pair.model.clone();
+            let mut meter = kept.clone();
+            break_periods(chance, &mut meter);
+            pair.put(meter);
+            pair.check()?;
+            any_event(pair, chance, filling)?;
+            pair.put(kept);
+        }
+        _ => {}
     }
     Ok(())
 }
@@ -247,7 +312,7 @@ fn broken(chance: &mut Chance) -> Meter {
         meter = holding(meter, &frame[..frame.len() - 1], true);
     }
     let odd = chance.byte();
-    match chance.below(17) {
+    match chance.below(20) {
         0 => meter.mode = odd,
         1 => meter.attempts = odd,
         2 => meter.count = odd,
@@ -273,6 +338,7 @@ fn broken(chance: &mut Chance) -> Meter {
             meter = holding(meter, held, true);
             meter.place = chance.one_of(&[2, 3, 3, odd]);
         }
+        16..=18 => break_periods(chance, &mut meter),
         _ => meter.tables[chance.below(24)][chance.below(24)] = odd,
     }
     meter
@@ -302,6 +368,15 @@ fn any_bytes(chance: &mut Chance) -> Meter {
         counters: [0; 4].map(|_| chance.bits() as u32),
         total: chance.bits() as u32,
         tables: [[0; 24]; 24].map(|row| row.map(|_| chance.byte())),
+        closed: chance.byte(),
+        periods: [(); PERIODS].map(|()| Period {
+            year: chance.bits() as u16,
+            month: chance.byte(),
+            day: chance.byte(),
+            hour: chance.byte(),
+            minute: chance.byte(),
+            counters: [0; 4].map(|_| chance.bits() as u32),
+        }),
     }
 }
 

@@ -1,11 +1,11 @@
 //! Counts what the events reached, from the states around them and not from what was meant.
 
 use crate::{Answer, Facts, Meter};
-use model::meter::{data_bits, BLOCK, ROOM};
+use model::meter::{data_bits, Period, BLOCK, PERIODS, PERIOD_LINES, ROOM};
 use std::collections::{BTreeMap, BTreeSet};
 
 /// What must have happened at least once.
-pub const AIMS: [&str; 100] = [
+pub const AIMS: [&str; 123] = [
     "character: 0",
     "character: 1",
     "character: 2",
@@ -106,6 +106,29 @@ pub const AIMS: [&str; 100] = [
     "end of a year",
     "end of 2099",
     "any bytes in the record",
+    "closed by /C!",
+    "closed by a tick in mode 0",
+    "closed by a tick in mode 1",
+    "closed by a tick in mode 2",
+    "closed by a tick in mode 3",
+    "closed by a tick in mode 4",
+    "closed where none was kept",
+    "closed where twelve were kept",
+    "closed with counters that are not 0",
+    "a midnight that closes nothing",
+    "the second after a first's midnight",
+    "a first's midnight told by a write",
+    "/C! with the mark",
+    "block with no period",
+    "block with one period",
+    "block with twelve periods",
+    "slow block with periods",
+    "half a million cases of closed months",
+    "more than twelve periods",
+    "bad date of a period",
+    "bad hour of a period",
+    "bad counter of a period",
+    "period in an unused place",
 ];
 
 #[derive(Default)]
@@ -116,6 +139,10 @@ pub struct Reached {
     pub slow: u64,
     /// Events of a session that left damage held, or answered 3.
     pub hurt: u64,
+    /// Midnights, closing lines, blocks with periods and archives out of their ranges.
+    pub months: u64,
+    pub closed: u64,
+    pub blocks: u64,
     numbers: BTreeMap<u8, u64>,
     zones: [bool; 4],
     met: BTreeSet<String>,
@@ -261,11 +288,108 @@ impl Reached {
             "bad password",
         );
         self.when(meter.account.contains(&b'-'), "bad account");
+        self.bad_archive(meter);
+    }
+
+    fn bad_archive(&mut self, meter: &Meter) {
+        let count = usize::from(meter.closed);
+        let (kept, unused) = meter.periods.split_at(count.min(PERIODS));
+        let real = |period: &Period| {
+            let last = match (period.month, period.year % 4) {
+                (2, 0) => 29,
+                (2, _) => 28,
+                (4 | 6 | 9 | 11, _) => 30,
+                _ => 31,
+            };
+            (2000..=2099).contains(&period.year)
+                && (1..=12).contains(&period.month)
+                && (1..=last).contains(&period.day)
+        };
+        let found = [
+            (count > PERIODS, "more than twelve periods"),
+            (!kept.iter().all(real), "bad date of a period"),
+            (
+                kept.iter().any(|p| p.hour > 23 || p.minute > 59),
+                "bad hour of a period",
+            ),
+            (
+                kept.iter()
+                    .any(|p| p.counters.iter().any(|&wh| wh > 999_999_999)),
+                "bad counter of a period",
+            ),
+            (
+                unused.iter().any(|&p| p != Period::default()),
+                "period in an unused place",
+            ),
+        ];
+        for (bad, aim) in found {
+            self.when(bad, aim);
+        }
+        if found.iter().any(|&(bad, _)| bad) {
+            self.month();
+        }
+    }
+
+    /// One more case of closed months.
+    fn month(&mut self) {
+        self.months += 1;
+        self.when(
+            self.months == 500_000,
+            "half a million cases of closed months",
+        );
+    }
+
+    fn archive(&mut self, before: &Meter, kind: u8, answer: Answer, after: &Meter) {
+        let clock = after.clock;
+        let time = (clock.hour, clock.minute, clock.second);
+        let closed = after.closed != before.closed || after.periods != before.periods;
+        if closed {
+            self.closed += 1;
+            self.month();
+            self.when(before.closed == 0, "closed where none was kept");
+            self.when(before.closed == 12, "closed where twelve were kept");
+            let counted = after.counters != [0; 4];
+            self.when(counted, "closed with counters that are not 0");
+        }
+        match kind {
+            0 => {
+                let line = before.mode == 0 && before.count == 4 && after.count == 0;
+                self.when(closed, "closed by /C!");
+                self.when(
+                    line && before.mark == 1 && before.held().ends_with(b"!\r"),
+                    "/C! with the mark",
+                );
+                let told = after.clock != before.clock && clock.day == 1 && time == (0, 0, 0);
+                self.when(told, "a first's midnight told by a write");
+                let choice = before.held().get(3) == Some(&b'6');
+                if before.mode == 1 && answer.length > 0 && choice {
+                    self.blocks += 1;
+                    self.month();
+                    let periods = (answer.length - BLOCK) / PERIOD_LINES;
+                    self.when(periods == 0, "block with no period");
+                    self.when(periods == 1, "block with one period");
+                    self.when(periods == 12, "block with twelve periods");
+                    self.when(periods > 0 && answer.speed == 0, "slow block with periods");
+                }
+            }
+            2 => {
+                if closed {
+                    self.reach(format!("closed by a tick in mode {}", before.mode));
+                } else if time == (0, 0, 0) {
+                    self.month();
+                    self.reach("a midnight that closes nothing");
+                }
+                let after_it = clock.day == 1 && time == (0, 0, 1);
+                self.when(after_it, "the second after a first's midnight");
+            }
+            _ => {}
+        }
     }
 
     fn happened(&mut self, before: &Meter, event: (u8, u32), answer: Answer, after: &Meter) {
         let (kind, value) = event;
         self.reach(format!("mode {}", before.mode));
+        self.archive(before, kind, answer, after);
         let slow = before.mode >= 2 && before.speed == 0;
         self.slow += u64::from(slow);
         self.when(slow, "a slow session");

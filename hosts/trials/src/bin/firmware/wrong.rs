@@ -1,7 +1,7 @@
 //! The trial's own trial: meters that are the model but for one fault.
 
 use crate::{library, made, record_of, ruled, Answer, Facts, Firmware, Meter};
-use model::meter::{data_bits, total_of, with_parity, ETX, ROOM, SOH};
+use model::meter::{data_bits, total_of, with_parity, Clock, Period, BLOCK, ETX, ROOM, SOH};
 
 #[derive(Clone, Copy, Debug, PartialEq, Eq)]
 pub enum Fault {
@@ -41,9 +41,18 @@ pub enum Fault {
     NoPlaceForTheBcc,
     PlaceWithEveryNumber,
     TakesAPlaceBehind,
+    ClosesASecondLate,
+    ClosesEveryMidnight,
+    ClosesAtAWrite,
+    KeepsTheOldestFirst,
+    SetsCountersBack,
+    ClosesByAMarkedLine,
+    DropsTheNewest,
+    SixIsThePlainBlock,
+    ChecksNoPeriod,
 }
 
-pub const FAULTS: [Fault; 36] = [
+pub const FAULTS: [Fault; 45] = [
     Fault::TakesAMarkOfTwo,
     Fault::MalformedBeforeRoom,
     Fault::RoomBeforeThePulse,
@@ -80,6 +89,15 @@ pub const FAULTS: [Fault; 36] = [
     Fault::NoPlaceForTheBcc,
     Fault::PlaceWithEveryNumber,
     Fault::TakesAPlaceBehind,
+    Fault::ClosesASecondLate,
+    Fault::ClosesEveryMidnight,
+    Fault::ClosesAtAWrite,
+    Fault::KeepsTheOldestFirst,
+    Fault::SetsCountersBack,
+    Fault::ClosesByAMarkedLine,
+    Fault::DropsTheNewest,
+    Fault::SixIsThePlainBlock,
+    Fault::ChecksNoPeriod,
 ];
 
 pub struct Wrong {
@@ -88,6 +106,8 @@ pub struct Wrong {
     /// Characters received, and how many before the frame at hand began.
     received: usize,
     begun: usize,
+    /// The seven bits of what came since the last '/', damaged or not.
+    said: Vec<u8>,
 }
 
 impl Wrong {
@@ -98,6 +118,7 @@ impl Wrong {
             fault: None,
             received: 0,
             begun: 0,
+            said: Vec::new(),
         }
     }
 
@@ -107,6 +128,82 @@ impl Wrong {
             fault: Some(fault),
             received: 0,
             begun: 0,
+            said: Vec::new(),
+        }
+    }
+
+    /// A period closed at the clock as it is.
+    fn close(&mut self) {
+        let Clock {
+            year,
+            month,
+            day,
+            hour,
+            minute,
+            ..
+        } = self.meter.clock;
+        self.meter.periods.rotate_right(1);
+        self.meter.periods[0] = Period {
+            year,
+            month,
+            day,
+            hour,
+            minute,
+            counters: self.meter.counters,
+        };
+        self.meter.closed = (self.meter.closed + 1).min(12);
+    }
+
+    /// What the fault makes of the archive, after the model had the event.
+    fn misfiled(&mut self, before: &Meter, kind: u8, answer: &mut Answer, reply: &mut [u8]) {
+        let Clock {
+            day,
+            hour,
+            minute,
+            second,
+            ..
+        } = self.meter.clock;
+        let now = (hour, minute, second);
+        let meter = &mut self.meter;
+        let closed = meter.closed != before.closed || meter.periods != before.periods;
+        let kept = usize::from(meter.closed);
+        let done = answer.number == 1;
+        match self.fault {
+            Some(Fault::ClosesASecondLate) if kind == 2 && done && closed => {
+                (meter.closed, meter.periods) = (before.closed, before.periods);
+            }
+            Some(Fault::ClosesASecondLate) if kind == 2 && done && (day, now) == (1, (0, 0, 1)) => {
+                self.close();
+            }
+            Some(Fault::ClosesEveryMidnight)
+                if kind == 2 && done && !closed && now == (0, 0, 0) =>
+            {
+                self.close();
+            }
+            Some(Fault::ClosesAtAWrite)
+                if kind == 0 && meter.clock != before.clock && (day, now) == (1, (0, 0, 0)) =>
+            {
+                self.close();
+            }
+            Some(Fault::KeepsTheOldestFirst) if closed => meter.periods[..kept].rotate_left(1),
+            Some(Fault::SetsCountersBack) if closed => {
+                (meter.counters, meter.total) = ([0; 4], 0);
+            }
+            Some(Fault::ClosesByAMarkedLine)
+                if kind == 0 && before.mode == 0 && before.mark == 1 && self.said == b"/C!\r\n" =>
+            {
+                self.close();
+            }
+            Some(Fault::DropsTheNewest) if closed && before.closed == 12 => {
+                meter.periods = before.periods;
+            }
+            Some(Fault::SixIsThePlainBlock) if answer.length > BLOCK => {
+                for (place, character) in reply.iter_mut().zip(before.data_block()) {
+                    *place = with_parity(character);
+                }
+                answer.length = BLOCK;
+            }
+            _ => {}
         }
     }
 
@@ -160,6 +257,10 @@ impl Firmware for Wrong {
         if self.fault == Some(Fault::ChecksNoTable) {
             meter.tables = Meter::blank().tables;
         }
+        if self.fault == Some(Fault::ChecksNoPeriod) {
+            meter.closed = 0;
+            meter.periods = Meter::blank().periods;
+        }
         if self.fault == Some(Fault::ChecksNoTotal) {
             meter.total = total_of(&meter.counters);
         }
@@ -201,12 +302,20 @@ impl Firmware for Wrong {
             let good = u32::from(with_parity(value as u8 & 0x7F));
             return ruled(&mut self.meter, kind, good, reply);
         }
+        if kind == 0 {
+            let character = value as u8 & 0x7F;
+            if character == b'/' {
+                self.said.clear();
+            }
+            self.said.push(character);
+        }
         let mut answer = ruled(&mut self.meter, kind, value, reply);
         let restarted = kind == 0 && value as u8 == SOH | 0x80 && self.meter.count == 1;
         if restarted {
             self.begun = self.received;
         }
         self.received += 1;
+        self.misfiled(&before, kind, &mut answer, reply);
         let row = self.meter.tables != before.tables;
         let days = (before.clock.day, self.meter.clock.day);
         let leaps = kind == 2 && self.meter.clock.month == 2 && days == (28, 29);

@@ -56,6 +56,8 @@ struct Trial<'h> {
     head: &'h dyn Head,
     chance: Chance,
     cases: u64,
+    /// Those of closed months: the closing sign-on, '6', addresses with '*', the time of a period.
+    months: u64,
     /// What the lookups came to.
     reached: Reached,
     /// The head's buffer, and the model's.
@@ -79,6 +81,7 @@ impl<'h> Trial<'h> {
             head,
             chance: Chance::new(seed),
             cases: 0,
+            months: 0,
             reached: Reached::default(),
             theirs: Guarded::new(4_096),
             ours: Vec::new(),
@@ -120,6 +123,8 @@ impl<'h> Trial<'h> {
     }
 
     fn build(&mut self, command: &Command, room: usize) -> Outcome {
+        let month = matches!(command, Command::Close | Command::Confirm(_, b'6'));
+        self.months += u64::from(month);
         self.lent(
             "build",
             room,
@@ -157,6 +162,9 @@ impl<'h> Trial<'h> {
             let input = format!("{} at place {at}", hex(sets));
             return Err(difference("next", input, &told, &ruled));
         }
+        let address = at..at.saturating_add(ruled.address_length);
+        let star = sets.get(address).is_some_and(|read| read.contains(&b'*'));
+        self.months += u64::from(star);
         Ok(ruled)
     }
 
@@ -187,6 +195,7 @@ impl<'h> Trial<'h> {
 
     fn value(&mut self, kind: Kind, value: &[u8]) -> Outcome {
         self.cases += 1;
+        self.months += u64::from(kind == Kind::Period);
         let told = self.head.value(kind, value);
         let ruled = model::value(kind, value);
         if told != ruled {
@@ -224,8 +233,9 @@ const SECTIONS: [(&str, Section); 7] = [
 ];
 
 /// The commands that have no field.
-const BARE: [Command; 7] = [
+const BARE: [Command; 8] = [
     Command::SignOn,
+    Command::Close,
     Command::Enter,
     Command::ReadClock,
     Command::ReadSerial,
@@ -257,6 +267,7 @@ fn commands(t: &mut Trial) -> Outcome {
                 Command::Confirm(b'0', byte),
                 Command::Confirm(b'5', byte),
                 Command::Confirm(byte, b'1'),
+                Command::Confirm(byte, b'6'),
                 Command::ReadZone(byte),
                 Command::ReadTable(byte),
                 Command::WriteTable(byte, &row),
@@ -386,7 +397,10 @@ fn strips(t: &mut Trial) -> Outcome {
     }
     for _ in 0..4 {
         let mut reply = model::on_the_wire(&data_block(t));
-        for room in (0..8).chain(1000..1100).chain([2048]) {
+        for room in (0..8)
+            .chain(reply.len() - 50..reply.len() + 50)
+            .chain([4096])
+        {
             t.strip(&reply, room)?;
         }
         for place in 0..reply.len() {
@@ -491,7 +505,7 @@ fn broken_inside(t: &mut Trial, good: &[u8]) -> Outcome {
 
 /// Lines of each kind that a meter sends, and the shortest and longest that there may be.
 fn lines(t: &mut Trial) -> Vec<Vec<u8>> {
-    let registers = t.chance.registers();
+    let registers = t.chance.registers_closed(1);
     let mut sets = registers.data_sets();
     sets.drain(11..31);
     let mut lines: Vec<Vec<u8>> = sets
@@ -501,6 +515,8 @@ fn lines(t: &mut Trial) -> Vec<Vec<u8>> {
     lines.push(model::line("a", ""));
     lines.push(model::line("Z", "~"));
     lines.push(model::line("ABCDEFGH.abc.xyz", &" }~&'*.0".repeat(4)));
+    lines.push(model::line("*", ""));
+    lines.push(model::line(&"*".repeat(16), "**"));
     lines
 }
 
@@ -602,7 +618,7 @@ fn hurt_lines(t: &mut Trial, line: &[u8]) -> Outcome {
 
 /// A good value of a kind, and the numbers or characters that made it.
 fn good_value(t: &mut Trial, kind: Kind) -> (Vec<u8>, Vec<u32>) {
-    let registers = t.chance.registers();
+    let registers = t.chance.registers_closed(1);
     let wide = |characters: &[u8]| characters.iter().map(|&c| u32::from(c)).collect();
     let c = registers.clock;
     let (place, made) = match kind {
@@ -612,6 +628,18 @@ fn good_value(t: &mut Trial, kind: Kind) -> (Vec<u8>, Vec<u32>) {
         Kind::Account => (3, wide(&registers.account)),
         Kind::Counter => (4, vec![registers.counters[0]]),
         Kind::Row => (9, wide(&registers.tables[0])),
+        Kind::Period => {
+            let Clock {
+                year,
+                month,
+                day,
+                hour,
+                minute,
+                ..
+            } = registers.periods[0].closed;
+            let rest = [month, day, hour, minute].map(u32::from);
+            (33, [&[year.into()], &rest[..]].concat())
+        }
     };
     let (_, value) = registers.data_sets().swap_remove(place);
     (value.into_bytes(), made)
@@ -623,6 +651,9 @@ fn values(t: &mut Trial) -> Outcome {
             for day in 0..=40 {
                 let date = format!("{year:02}-{month:02}-{day:02}");
                 t.value(Kind::Date, date.as_bytes())?;
+                let (hour, minute) = (t.chance.below(26), t.chance.below(64));
+                let period = format!("{date} {hour:02}:{minute:02}");
+                t.value(Kind::Period, period.as_bytes())?;
             }
         }
     }
@@ -632,6 +663,8 @@ fn values(t: &mut Trial) -> Outcome {
                 let time = format!("{hour:02}:{minute:02}:{second:02}");
                 t.value(Kind::Time, time.as_bytes())?;
             }
+            let period = format!("24-02-29 {hour:02}:{minute:02}");
+            t.value(Kind::Period, period.as_bytes())?;
         }
     }
     for kind in Kind::ALL {
@@ -679,6 +712,16 @@ fn values(t: &mut Trial) -> Outcome {
         let counter = format!("{:06}.{:03}*kWh", wh / 1000, wh % 1000);
         t.value(Kind::Counter, counter.as_bytes())?;
     }
+    for _ in 0..250_000 {
+        let c = t.chance.clock();
+        let (month, day, hour, minute) = (c.month % 100, c.day % 100, c.hour % 100, c.minute % 100);
+        let date = format!("{:02}-{month:02}-{day:02}", c.year % 100);
+        let mut period = format!("{date} {hour:02}:{minute:02}").into_bytes();
+        if t.chance.one_in(8) {
+            t.chance.hurt(&mut period);
+        }
+        t.value(Kind::Period, &period)?;
+    }
     Ok(())
 }
 
@@ -711,7 +754,9 @@ fn round_trips(t: &mut Trial) -> Outcome {
                 2 => Kind::Time,
                 3 => Kind::Account,
                 4..=8 => Kind::Counter,
-                _ => Kind::Row,
+                9..=32 => Kind::Row,
+                _ if place % 5 == 3 => Kind::Period,
+                _ => Kind::Counter,
             };
             t.value(kind, &read[address.len() + 1..read.len() - 3])?;
             at = step.next;
@@ -740,7 +785,9 @@ enum Fault {
     FieldBeforeRoom,
     BuildsInRoom63,
     ClearsPastTheCommand,
-    ConfirmsSix,
+    ConfirmsEight,
+    RefusesSix,
+    ClosesByThePlainSignOn,
     ConfirmsAtAnyDigit,
     WritesPastTheReply,
     StripsUpToTheDamage,
@@ -757,6 +804,7 @@ enum Fault {
     LeavesTheEnd,
     PlaceNotGiven,
     TakesValueOf33,
+    TakesNoStar,
     CountsFromOne,
     FindsFromZero,
     FindsBeginnings,
@@ -764,16 +812,20 @@ enum Fault {
     FindsTheLast,
     FindsPastTheEnd,
     TakesAnyLeapDay,
+    SwapsHourAndMinute,
+    TakesMinute60,
     KeepsARefusedCounter,
     ZeroCharacters,
 }
 
-const FAULTS: [(Fault, Section); 30] = [
+const FAULTS: [(Fault, Section); 35] = [
     (Fault::WritesBeforeItChecks, commands),
     (Fault::FieldBeforeRoom, commands),
     (Fault::BuildsInRoom63, commands),
     (Fault::ClearsPastTheCommand, commands),
-    (Fault::ConfirmsSix, commands),
+    (Fault::ConfirmsEight, commands),
+    (Fault::RefusesSix, commands),
+    (Fault::ClosesByThePlainSignOn, commands),
     (Fault::ConfirmsAtAnyDigit, commands),
     (Fault::WritesPastTheReply, strips),
     (Fault::StripsUpToTheDamage, strips),
@@ -790,6 +842,7 @@ const FAULTS: [(Fault, Section); 30] = [
     (Fault::LeavesTheEnd, data_sets),
     (Fault::PlaceNotGiven, data_sets),
     (Fault::TakesValueOf33, data_sets),
+    (Fault::TakesNoStar, data_sets),
     (Fault::CountsFromOne, data_sets),
     (Fault::FindsFromZero, lookups),
     (Fault::FindsBeginnings, lookups),
@@ -797,6 +850,8 @@ const FAULTS: [(Fault, Section); 30] = [
     (Fault::FindsTheLast, lookups),
     (Fault::FindsPastTheEnd, lookups),
     (Fault::TakesAnyLeapDay, values),
+    (Fault::SwapsHourAndMinute, values),
+    (Fault::TakesMinute60, values),
     (Fault::KeepsARefusedCounter, values),
     (Fault::ZeroCharacters, values),
 ];
@@ -818,12 +873,20 @@ impl Head for Wrong {
                 return told;
             }
             (Fault::ClearsPastTheCommand, (answer::DONE, length)) => out[length..].fill(0),
-            (Fault::ConfirmsSix, (answer::FIELD, _))
-                if *command == Command::Confirm(b'5', b'6') =>
+            (Fault::ConfirmsEight, (answer::FIELD, _))
+                if *command == Command::Confirm(b'5', b'8') =>
             {
                 let told = model::build(&Command::Confirm(b'5', b'0'), out);
-                out[3] = b'6';
+                out[3] = b'8' | 0x80;
                 return told;
+            }
+            (Fault::RefusesSix, (answer::DONE, _))
+                if matches!(command, Command::Confirm(_, b'6')) =>
+            {
+                return (answer::FIELD, 0)
+            }
+            (Fault::ClosesByThePlainSignOn, (answer::DONE, _)) if *command == Command::Close => {
+                return model::build(&Command::SignOn, out)
             }
             (Fault::ConfirmsAtAnyDigit, (answer::FIELD, _)) => {
                 if let Command::Confirm(speed @ b'1'..=b'4', choice) = *command {
@@ -904,6 +967,17 @@ impl Head for Wrong {
                 ..told
             },
             (Fault::PlaceNotGiven, answer::MALFORMED) => Step { place: 0, ..told },
+            (Fault::TakesNoStar, answer::DONE)
+                if sets[at..at + told.address_length].contains(&b'*') =>
+            {
+                Step {
+                    answer: answer::MALFORMED,
+                    address_length: 0,
+                    value_length: 0,
+                    next: at,
+                    place: at,
+                }
+            }
             (Fault::TakesValueOf33, answer::MALFORMED) => {
                 let mut shorter = sets.to_vec();
                 match sets[at..].iter().position(|&c| c == b'(') {
@@ -942,6 +1016,16 @@ impl Head for Wrong {
             (Fault::TakesAnyLeapDay, Kind::Date, answer::MALFORMED) if value == b"01-02-29" => {
                 (answer::DONE, vec![2001, 2, 29])
             }
+            (Fault::SwapsHourAndMinute, Kind::Period, answer::DONE) => {
+                let mut read = told.1;
+                read.swap(3, 4);
+                (told.0, read)
+            }
+            (Fault::TakesMinute60, Kind::Period, answer::MALFORMED)
+                if value == b"24-02-29 23:60" =>
+            {
+                (answer::DONE, vec![2024, 2, 29, 23, 60])
+            }
             (Fault::KeepsARefusedCounter, Kind::Counter, answer::MALFORMED) => {
                 (told.0, vec![u32::from(value.len() > 5)])
             }
@@ -974,6 +1058,10 @@ fn run(seed: u64) -> Result<u64, String> {
             "head: {cases:>8} {name} in {:.1} s",
             start.elapsed().as_secs_f64()
         );
+    }
+    println!("head: {:>8} of these of closed months", trial.months);
+    if trial.months < 500_000 {
+        return Err("too few cases of closed months".into());
     }
     Ok(trial.cases)
 }

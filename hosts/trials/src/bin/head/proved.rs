@@ -41,6 +41,7 @@ impl Head for Proved {
     fn build(&self, command: &Command, out: &mut [u8]) -> (u8, usize) {
         match *command {
             Command::SignOn => head::sign_on(out),
+            Command::Close => head::close(out),
             Command::SignOnTo(serial) => self.on(serial, |serial| head::sign_on_to(serial, out)),
             Command::Confirm(speed, choice) => head::confirm(speed, choice, out),
             Command::Enter => head::enter(out),
@@ -114,6 +115,11 @@ impl Head for Proved {
             Kind::Time => {
                 let (number, (hour, minute, second)) = head::value_time(value);
                 (number, wide(&[hour, minute, second]))
+            }
+            Kind::Period => {
+                let (number, (year, month, day, hour, minute)) = head::value_period(value);
+                let rest = wide(&[month, day, hour, minute]);
+                (number, [&[year.into()], &rest[..]].concat())
             }
             Kind::Counter => {
                 let (number, wh) = head::value_counter(value);

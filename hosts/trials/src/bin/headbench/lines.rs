@@ -52,6 +52,18 @@ pub fn fixed() -> Vec<Vec<u8>> {
         "build confirm 64 30 3131",
         "build confirm 64 3030 31",
         "build confirm 64 30 31 31",
+        "build confirm 64 35 36",
+        "build confirm 64 35 38",
+        "build close 64",
+        "build close 63",
+        "build close 64 64",
+        "build close",
+        "value period -",
+        "value period 32342d30332d30312030303a3030",
+        "value period 32342d30332d30312032343a3030",
+        "value period 32342d30332d30312030303a3030 -",
+        "find 302e312e322a3031 302e312e322a303128290d0a",
+        "next 0 302e312e322a303128290d0a",
         "build serial 64 -",
         "build serial 64 31",
         "build serial 64 3",
@@ -223,12 +235,12 @@ fn field(chance: &mut Chance, made_of: &[u8], length: usize) -> String {
 
 fn build(chance: &mut Chance) -> String {
     let room = room(chance, 64);
-    let rest = match chance.below(14) {
+    let rest = match chance.below(15) {
         0 => format!("serial {room} {}", field(chance, DIGITS, 10)),
         1 => {
             let choice = match chance.below(3) {
                 0 => chance.byte(),
-                _ => chance.one_of(b"0177"),
+                _ => chance.one_of(b"01677"),
             };
             let speed = match chance.below(3) {
                 0 => chance.byte(),
@@ -261,7 +273,9 @@ fn build(chance: &mut Chance) -> String {
             )
         }
         plain => {
-            let names = ["any", "readonly", "clock", "number", "account", "break"];
+            let names = [
+                "any", "readonly", "clock", "number", "account", "break", "close",
+            ];
             format!("{} {room}", names[plain - 8])
         }
     };
@@ -358,13 +372,14 @@ fn value(chance: &mut Chance) -> String {
         ("account", 3),
         ("counter", 4),
         ("row", 9),
+        ("period", 33),
     ];
     let (kind, place) = chance.one_of(&kinds);
     let place = match chance.below(12) {
         0 => chance.one_of(&kinds).1,
         _ => place,
     };
-    let (_, value) = chance.registers().data_sets().swap_remove(place);
+    let (_, value) = chance.registers_closed(1).data_sets().swap_remove(place);
     let mut value = value.into_bytes();
     if chance.percent(40) {
         chance.hurt(&mut value);

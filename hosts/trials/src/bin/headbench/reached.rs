@@ -6,6 +6,7 @@ use std::collections::BTreeMap;
 /// Each call with the numbers that it can answer.
 const CALLS: &[(&str, &[u8])] = &[
     ("build any", &[1, 19]),
+    ("build close", &[1, 19]),
     ("build serial", &[1, 9, 19]),
     ("build confirm", &[1, 9, 19]),
     ("build readonly", &[1, 19]),
@@ -25,6 +26,7 @@ const CALLS: &[(&str, &[u8])] = &[
     ("value counter", &[1, 25]),
     ("value date", &[1, 25]),
     ("value time", &[1, 25]),
+    ("value period", &[1, 25]),
     ("mercury ask", &[1, 54, 55]),
     ("mercury read", &[1, 50, 51, 52, 53]),
     ("check", &[1, 20]),
@@ -79,6 +81,9 @@ const MORE: &[&str] = &[
     "damage at the first byte",
     "damage at the last byte",
     "damage at more than one byte",
+    "the block with periods confirmed",
+    "a period's line read",
+    "a period's line found",
 ];
 
 #[derive(Default)]
@@ -104,6 +109,14 @@ fn hex_length(word: &str) -> usize {
     } else {
         word.len() / 2
     }
+}
+
+/// Whether an address, by where it stands in data of hex, holds '*'.
+fn has_star(data: &str, start: &str, length: &str) -> bool {
+    let number = |word: &str| word.parse::<usize>().expect("it was told");
+    let (start, length) = (number(start), number(length));
+    let address = &data.as_bytes()[2 * start..2 * (start + length)];
+    address.chunks(2).any(|pair| pair == b"2a")
 }
 
 impl Reached {
@@ -188,6 +201,15 @@ impl Reached {
             ("build energy", true) if rest[1] == "0" => self.reach("total asked for"),
             ("build table" | "build settable", true) if rest[1] == "24" => self.reach("table 24"),
             ("strip", false) if told[0] == "24" => self.hurt(rest[1], told[3]),
+            ("build confirm", true) if rest[2] == "36" => {
+                self.reach("the block with periods confirmed");
+            }
+            ("next", true) if has_star(rest[1], told[2], told[3]) => {
+                self.reach("a period's line read");
+            }
+            ("find", true) if has_star(rest[1], told[3], told[4]) => {
+                self.reach("a period's line found");
+            }
             ("export", true) if told[1] == "864" => self.reach("24 lines exported"),
             ("find", true) if told[1] != "1" => self.reach("a register found behind others"),
             ("mercury read", true) if told.contains(&"-") => {

@@ -5,7 +5,7 @@ use crate::player::{wire, Player};
 use crate::reached::Reached;
 use crate::sweeps::new_line;
 use model::bench::dump;
-use model::meter::{Clock, Meter, ETX, LF, PLACES, SOH, STX};
+use model::meter::{Clock, Meter, ETX, LF, PLACES, ROOM, SOH, STX};
 use trials::chance::Chance;
 use trials::program::Played;
 use trials::words::*;
@@ -35,7 +35,7 @@ impl Aim<'_> {
         }
         match self
             .chance
-            .weighed(&[800, 12, 12, 12, 12, 30, 30, 10, 12, 25, 25, 10])
+            .weighed(&[800, 12, 12, 12, 12, 30, 30, 10, 12, 25, 25, 10, 60])
         {
             0 => self.dialogue(),
             1 => self.factory(),
@@ -48,7 +48,8 @@ impl Aim<'_> {
             8 => self.no_command(),
             9 => self.noise(),
             10 => self.interruption(),
-            _ => self.too_long(),
+            11 => self.too_long(),
+            _ => self.months(),
         }
     }
 
@@ -66,7 +67,7 @@ impl Aim<'_> {
 
     fn line_to(&mut self, meter: &Meter) -> Vec<u8> {
         let chance = &mut self.chance;
-        match chance.weighed(&[30, 25, 20, 10, 5, 5, 5]) {
+        match chance.weighed(&[30, 25, 20, 10, 5, 5, 5, 20, 4]) {
             0 => b"/?!\r\n".to_vec(),
             1 => sign_on(&meter.serial),
             2 => sign_on(b"0000000000"),
@@ -94,6 +95,8 @@ impl Aim<'_> {
                 let kept = chance.below(start.len() - 1);
                 [&start[..kept], b"/?!\r\n"].concat()
             }
+            7 => CLOSING.to_vec(),
+            8 => chance.pick(&NEARLY_CLOSING).to_vec(),
             _ => {
                 let length = chance.between(29, 34);
                 let mut line = vec![b'/'];
@@ -107,14 +110,15 @@ impl Aim<'_> {
     fn confirmation(&mut self) -> Vec<u8> {
         let chance = &mut self.chance;
         let speed = chance.one_of(b"05");
-        match chance.weighed(&[60, 6, 6, 10, 4, 10]) {
+        match chance.weighed(&[60, 6, 6, 10, 4, 10, 12]) {
             0 => confirmation_at(speed, b'1'),
             1 => confirmation_at(speed, b'0'),
             2 => confirmation_at(speed, b'7'),
             3 => confirmation_at(speed, chance.byte() & 0x7F),
             4 => confirmation_at(chance.between(b'1'.into(), b'9'.into()) as u8, b'1'),
+            6 => confirmation_at(speed, b'6'),
             _ => {
-                let mut message = confirmation_at(speed, chance.one_of(b"017"));
+                let mut message = confirmation_at(speed, chance.one_of(b"0167"));
                 message[chance.below(6)] = chance.one_of(b"\x06\x15\x01\x030156789\r\n/\0");
                 message
             }
@@ -205,10 +209,10 @@ impl Aim<'_> {
                 // A character refused for want of room is not taken; it comes again.
                 for byte in bytes {
                     if self.chance.percent(10) {
-                        let room = self.chance.one_of(&[0, 1, 1_063, 2_047]);
+                        let room = self.chance.one_of(&[0, 1, 2_671, ROOM - 1]);
                         self.player.line(format!("byte {byte:02x} {room}"));
                     }
-                    let room = self.chance.one_of(&[2_048, 2_049, 3_000, 8_192]);
+                    let room = self.chance.one_of(&[ROOM, ROOM + 1, 5_000, 8_192]);
                     self.player.line(format!("byte {byte:02x} {room}"));
                 }
             }
@@ -227,7 +231,7 @@ impl Aim<'_> {
             3 => self.no_command(),
             4 => self.player.line("silence"),
             5 => self.player.line("up"),
-            _ => self.player.line("silence 2047"),
+            _ => self.player.line("silence 4095"),
         }
     }
 
@@ -354,7 +358,7 @@ impl Aim<'_> {
         let mode = chance.below(5) as u8;
         let mut meter = state(chance, mode);
         for _ in 0..chance.one_of(&[1, 1, 1, 2, 4]) {
-            match chance.below(15) {
+            match chance.below(18) {
                 0 => meter.mode = chance.between(5, 255) as u8,
                 1 => meter.count = chance.byte(),
                 2 => meter.held[chance.below(PLACES)] = chance.byte(),
@@ -372,6 +376,7 @@ impl Aim<'_> {
                     meter = holding(meter, b"\x01R\0\x02", true);
                     meter.place = chance.one_of(&[2, 4, 4, 5, 255]);
                 }
+                14..=16 => break_periods(chance, &mut meter),
                 _ => meter.tables[chance.below(24)][chance.below(24)] = chance.byte(),
             }
         }
@@ -410,6 +415,42 @@ impl Aim<'_> {
         }
     }
 
+    /// Midnights, those that close a month and those that do not; what is kept is asked for, often.
+    fn months(&mut self) {
+        for _ in 0..self.chance.between(1, 4) {
+            let around = midnight(&mut self.chance);
+            let mut meter = self.player.meter().clone();
+            if meter.mode == 4 && self.chance.percent(50) {
+                self.player.send(&write(&clock_data(around)));
+            } else {
+                meter.clock = around;
+                if self.chance.percent(20) {
+                    close_some(&mut self.chance, &mut meter);
+                }
+                self.player.set(&meter);
+            }
+            for _ in 0..self.chance.between(1, 4) {
+                self.player.line("tick");
+            }
+            if self.chance.percent(50) {
+                self.pulses();
+            }
+        }
+        if self.chance.percent(30) {
+            let mut meter = self.player.meter().clone();
+            meter = holding(meter, &[], false);
+            (meter.mode, meter.speed) = (0, 0);
+            self.player.set(&meter);
+            let line = self.chance.pick(&[CLOSING, CLOSING, b"/?!\r\n"]);
+            self.player.send(line);
+            let speed = self.chance.one_of(b"05");
+            self.player.send(&confirmation_at(speed, b'6'));
+        }
+        if self.chance.percent(50) {
+            self.player.dump();
+        }
+    }
+
     fn pulses(&mut self) {
         for _ in 0..self.chance.between(1, 3) {
             let wh = match self.chance.weighed(&[10, 15, 8, 3, 2, 40, 5]) {
@@ -432,7 +473,7 @@ impl Aim<'_> {
     fn room(&mut self) {
         let room = match self.chance.below(3) {
             0 => self.chance.below(8_193),
-            _ => self.chance.one_of(&[0, 1, 2_047, 2_048, 2_049, 8_192]),
+            _ => self.chance.one_of(&[0, 1, ROOM - 1, ROOM, ROOM + 1, 8_192]),
         };
         if self.chance.percent(50) {
             self.player.line(format!("silence {room}"));
@@ -452,7 +493,7 @@ impl Aim<'_> {
             0 => "dump".into(),
             1 => "tick".into(),
             2 => "bytes 81af8d0a".into(),
-            3 => "byte 81 2048".into(),
+            3 => "byte 81 4096".into(),
             4 => "silence 8192".into(),
             5 => "pulse 1000".into(),
             6 => new_line(&meter.serial, &meter.account, &meter.password, Clock::FIRST),
@@ -500,7 +541,7 @@ impl Aim<'_> {
         }
         let line = self
             .chance
-            .pick(&["silence", "silence", "silence 2047", "up"]);
+            .pick(&["silence", "silence", "silence 4095", "up"]);
         self.player.line(line);
         if self.chance.percent(50) {
             self.player.dump();

@@ -36,6 +36,8 @@ struct Shown {
     /// Table and row, where not all '1'.
     row: (usize, &'static str),
     speed: u8,
+    /// The periods, each in nine fields, the newest first.
+    periods: &'static [&'static str],
 }
 
 /// The meter of these scripts, just made. Its date is a Thursday.
@@ -52,6 +54,7 @@ const MADE: Shown = Shown {
     counters: "0 0 0 0",
     row: (1, ALL_ONES),
     speed: 0,
+    periods: &[],
 };
 
 const BLANK: Shown = Shown {
@@ -97,8 +100,13 @@ impl Shown {
             .map(|wh| wh.parse::<u64>().unwrap())
             .sum();
         let total = sum % 1_000_000_000;
+        let mut periods = self.periods.len().to_string();
+        for place in 0..12 {
+            periods += " ";
+            periods += self.periods.get(place).unwrap_or(&"0 0 0 0 0 0 0 0 0");
+        }
         format!(
-            "{} {count} {} {held} {} {} {} {} {} {} {tables} {} {} {total}",
+            "{} {count} {} {held} {} {} {} {} {} {} {tables} {} {} {total} {periods}",
             self.mode,
             self.mark,
             hex(self.serial.bytes()),
@@ -261,6 +269,7 @@ pub fn all() -> Vec<Played> {
             passwords(),
             registers(),
             events(),
+            months(),
             states(),
             script_rules(),
         ]
@@ -279,8 +288,9 @@ fn by_hand() -> Fixed {
     let taken = "0 5 0 - 0\n".repeat(35) + "1 5 1 06 0";
     let state = format!(
         "4 0 0 {} 31323334353637383930 4b696c6e5f37206f6c64 3230333034303530 0 2024 2 29 8 5 9 \
-         0 0 0 0 {tables} 5 0 0",
-        "00".repeat(63)
+         0 0 0 0 {tables} 5 0 0 0{}",
+        "00".repeat(63),
+        " 0 0 0 0 0 0 0 0 0".repeat(12)
     );
     Fixed::empty("a session byte by byte")
         .line(
@@ -543,7 +553,7 @@ fn confirming() -> Vec<Fixed> {
     let wrong = |name, text: &str| Fixed::confirming(name).send(text, 0, 2, 0, "").dump(MADE);
     vec![
         wrong("choice '2' is wrong", "\x06052\r\n"),
-        wrong("choice '6' is wrong", "\x06056\r\n"),
+        wrong("choice '8' is wrong", "\x06058\r\n"),
         wrong("speed '1' is wrong", "\x06011\r\n"),
         wrong("speed '4' is wrong", "\x06041\r\n"),
         wrong("speed '6' is wrong", "\x06061\r\n"),
@@ -902,23 +912,49 @@ fn registers() -> Vec<Fixed> {
 }
 
 fn events() -> Vec<Fixed> {
-    let evening = |clock| Shown { clock, ..MADE };
+    let evening = |clock, periods| Shown {
+        clock,
+        periods,
+        ..MADE
+    };
     let mut ticks = Fixed::empty("clock ends");
-    for (from, to) in [
-        ("2024 2 28 23 59 59", "2024 2 29 0 0 0"),
-        ("2024 2 29 23 59 59", "2024 3 1 0 0 0"),
-        ("2023 2 28 23 59 59", "2023 3 1 0 0 0"),
-        ("2000 2 28 23 59 59", "2000 2 29 0 0 0"),
-        ("2023 4 30 23 59 59", "2023 5 1 0 0 0"),
-        ("2023 12 31 23 59 59", "2024 1 1 0 0 0"),
-        ("2099 12 31 23 59 59", "2000 1 1 0 0 0"),
-        ("2024 5 5 5 59 59", "2024 5 5 6 0 0"),
-        ("2024 5 5 5 5 59", "2024 5 5 5 6 0"),
-    ] {
+    // The first of a month closes a period.
+    let ends: [(_, _, &[&str]); 9] = [
+        ("2024 2 28 23 59 59", "2024 2 29 0 0 0", &[]),
+        (
+            "2024 2 29 23 59 59",
+            "2024 3 1 0 0 0",
+            &["2024 3 1 0 0 0 0 0 0"],
+        ),
+        (
+            "2023 2 28 23 59 59",
+            "2023 3 1 0 0 0",
+            &["2023 3 1 0 0 0 0 0 0"],
+        ),
+        ("2000 2 28 23 59 59", "2000 2 29 0 0 0", &[]),
+        (
+            "2023 4 30 23 59 59",
+            "2023 5 1 0 0 0",
+            &["2023 5 1 0 0 0 0 0 0"],
+        ),
+        (
+            "2023 12 31 23 59 59",
+            "2024 1 1 0 0 0",
+            &["2024 1 1 0 0 0 0 0 0"],
+        ),
+        (
+            "2099 12 31 23 59 59",
+            "2000 1 1 0 0 0",
+            &["2000 1 1 0 0 0 0 0 0"],
+        ),
+        ("2024 5 5 5 59 59", "2024 5 5 6 0 0", &[]),
+        ("2024 5 5 5 5 59", "2024 5 5 5 6 0", &[]),
+    ];
+    for (from, to, closed) in ends {
         ticks = ticks
-            .set(evening(from))
+            .set(evening(from, &[]))
             .line("tick", "1 0")
-            .dump(evening(to));
+            .dump(evening(to, closed));
     }
     vec![
         ticks,
@@ -1009,12 +1045,12 @@ fn events() -> Vec<Fixed> {
                 counters: "6 0 0 0",
                 ..MADE
             }),
-        Fixed::listening("a reply buffer under 2,048 takes no character")
-            .line("byte af 2047", "12 0 0 - 0")
+        Fixed::listening("a reply buffer under 4,096 takes no character")
+            .line("byte af 4095", "12 0 0 - 0")
             .line("byte af 0", "12 0 0 - 0")
-            .line("silence 2047", "12 0 0 - 0")
+            .line("silence 4095", "12 0 0 - 0")
             .dump(MADE)
-            .line("byte af 2048", "0 0 0 - 0")
+            .line("byte af 4096", "0 0 0 - 0")
             .quiet("?!\r", 0)
             .line(
                 "byte 0a 8192",
@@ -1022,7 +1058,224 @@ fn events() -> Vec<Fixed> {
             )
             .line("silence 1", "12 0 0 - 0")
             .dump(Shown { mode: 1, ..MADE })
-            .line("silence 2049", "1 0 1 95 0"),
+            .line("silence 4097", "1 0 1 95 0"),
+    ]
+}
+
+/// Closed months: what closes a period, what does not, and how they are sent.
+fn months() -> Vec<Fixed> {
+    let closing = |script: Fixed| script.send("/C!\r\n", 0, 1, 0, IDENTIFICATION);
+    const FEBRUARY: &str = "2024 2 29 8 5 0 0 0 0";
+    let mut block = String::from(
+        "\x02C.1.0(123 4567890)\r\n0.9.2(24-02-29)\r\n0.9.1(08:05:09)\r\n0.0.0(Kiln_7 old)\r\n",
+    );
+    for zone in [1, 2, 3, 4, 0] {
+        block += &format!("15.8.{zone}(000000.000*kWh)\r\n");
+    }
+    for table in 1..=24 {
+        block += &format!("131.0.{table:02}({ALL_ONES})\r\n");
+    }
+    let none = block.clone() + "!\r\n\x03\x19";
+    block += "0.1.2*01(24-02-29 08:05)\r\n";
+    for zone in 1..=4 {
+        block += &format!("15.8.{zone}*01(000000.000*kWh)\r\n");
+    }
+    let one = block + "!\r\n\x03\x1b";
+    vec![
+        closing(Fixed::listening("/C! closes and is answered"))
+            .dump(Shown {
+                mode: 1,
+                periods: &[FEBRUARY],
+                ..MADE
+            })
+            .send("\x06056\r\n", 0, 1, 5, &one)
+            .dump(Shown {
+                periods: &[FEBRUARY],
+                ..MADE
+            })
+            .sign_on()
+            .send("\x06006\r\n", 0, 1, 0, &one)
+            .sign_on()
+            .send("\x06050\r\n", 0, 1, 5, &none)
+            .sign_on()
+            .send("\x06007\r\n", 0, 1, 0, &none),
+        Fixed::confirming("'6' without a period is the block").send("\x06056\r\n", 0, 1, 5, &none),
+        Fixed::listening("a marked /C! closes nothing")
+            .quiet_wire("af43218d0a", 0)
+            .dump(MADE)
+            .quiet_wire("afc3a18d0a", 0)
+            .dump(MADE)
+            // A restart forgets the damage.
+            .wire("af43afc3218d0a", 0, 1, 0, IDENTIFICATION)
+            .dump(Shown {
+                mode: 1,
+                periods: &[FEBRUARY],
+                ..MADE
+            }),
+        Fixed::listening("lines that are nearly /C!")
+            .quiet("/C!\n", 0)
+            .quiet("/c!\r\n", 0)
+            .quiet("/C\r\n", 0)
+            .quiet("/CC!\r\n", 0)
+            .quiet("/C123 4567890!\r\n", 0)
+            .quiet("/C000 0000000!\r\n", 0)
+            .quiet("/?C!\r\n", 0)
+            .dump(MADE),
+        closing(
+            Fixed::listening("the newest comes first, and the counters go on")
+                .line("pulse 1500", "1 0")
+                .set(Shown {
+                    counters: "1500 0 0 0",
+                    periods: &["2099 12 31 23 59 1 2 3 4"],
+                    ..MADE
+                }),
+        )
+        .dump(Shown {
+            mode: 1,
+            counters: "1500 0 0 0",
+            periods: &["2024 2 29 8 5 1500 0 0 0", "2099 12 31 23 59 1 2 3 4"],
+            ..MADE
+        }),
+        closing(
+            Fixed::listening("a thirteenth pushes out the oldest").set(Shown {
+                periods: &[
+                    "2000 1 1 0 0 12 0 0 0",
+                    "2000 1 1 0 0 11 0 0 0",
+                    "2000 1 1 0 0 10 0 0 0",
+                    "2000 1 1 0 0 9 0 0 0",
+                    "2000 1 1 0 0 8 0 0 0",
+                    "2000 1 1 0 0 7 0 0 0",
+                    "2000 1 1 0 0 6 0 0 0",
+                    "2000 1 1 0 0 5 0 0 0",
+                    "2000 1 1 0 0 4 0 0 0",
+                    "2000 1 1 0 0 3 0 0 0",
+                    "2000 1 1 0 0 2 0 0 0",
+                    "2000 1 1 0 0 1 0 0 0",
+                ],
+                ..MADE
+            }),
+        )
+        .dump(Shown {
+            mode: 1,
+            periods: &[
+                FEBRUARY,
+                "2000 1 1 0 0 12 0 0 0",
+                "2000 1 1 0 0 11 0 0 0",
+                "2000 1 1 0 0 10 0 0 0",
+                "2000 1 1 0 0 9 0 0 0",
+                "2000 1 1 0 0 8 0 0 0",
+                "2000 1 1 0 0 7 0 0 0",
+                "2000 1 1 0 0 6 0 0 0",
+                "2000 1 1 0 0 5 0 0 0",
+                "2000 1 1 0 0 4 0 0 0",
+                "2000 1 1 0 0 3 0 0 0",
+                "2000 1 1 0 0 2 0 0 0",
+            ],
+            ..MADE
+        }),
+        Fixed::empty("the tick that reaches a first closes, in any mode")
+            .set(Shown {
+                mode: 4,
+                speed: 5,
+                held: "\x01R1",
+                clock: "2024 2 29 23 59 58",
+                counters: "7 0 0 999999999",
+                ..MADE
+            })
+            .line("tick", "1 5")
+            .dump(Shown {
+                mode: 4,
+                speed: 5,
+                held: "\x01R1",
+                clock: "2024 2 29 23 59 59",
+                counters: "7 0 0 999999999",
+                ..MADE
+            })
+            .line("tick", "1 5")
+            .dump(Shown {
+                mode: 4,
+                speed: 5,
+                held: "\x01R1",
+                clock: "2024 3 1 0 0 0",
+                counters: "7 0 0 999999999",
+                periods: &["2024 3 1 0 0 7 0 0 999999999"],
+                ..MADE
+            })
+            .line("tick", "1 5")
+            .dump(Shown {
+                mode: 4,
+                speed: 5,
+                held: "\x01R1",
+                clock: "2024 3 1 0 0 1",
+                counters: "7 0 0 999999999",
+                periods: &["2024 3 1 0 0 7 0 0 999999999"],
+                ..MADE
+            }),
+        Fixed::empty("another midnight closes nothing")
+            .set(Shown {
+                clock: "2024 2 28 23 59 59",
+                ..MADE
+            })
+            .line("tick", "1 0")
+            .dump(Shown {
+                clock: "2024 2 29 0 0 0",
+                ..MADE
+            }),
+        Fixed::programming("a clock written to a first closes nothing")
+            .frame("\x01W1\x02T(01-03-2024;00:00:00)\x03\x0f", 1, ACK)
+            .line("tick", "1 5")
+            .dump(Shown {
+                clock: "2024 3 1 0 0 1",
+                ..PROGRAMMING
+            })
+            .frame("\x01W1\x02T(31-12-2099;23:59:59)\x03\x0b", 1, ACK)
+            .line("tick", "1 5")
+            .dump(Shown {
+                clock: "2000 1 1 0 0 0",
+                periods: &["2000 1 1 0 0 0 0 0 0"],
+                ..PROGRAMMING
+            }),
+        Fixed::empty("an archive out of its ranges")
+            .kept(
+                Shown {
+                    periods: &["2024 2 30 8 5 0 0 0 0"],
+                    ..MADE
+                },
+                "tick",
+                "14 0",
+            )
+            .kept(
+                Shown {
+                    periods: &["2024 2 29 24 5 0 0 0 0"],
+                    ..MADE
+                },
+                "up",
+                "14 0",
+            )
+            .kept(
+                Shown {
+                    periods: &["2024 2 29 8 60 0 0 0 0"],
+                    ..MADE
+                },
+                "byte af",
+                "14 0 0 - 0",
+            )
+            .kept(
+                Shown {
+                    periods: &["2024 2 29 8 5 0 0 0 1000000000"],
+                    ..MADE
+                },
+                "pulse 1",
+                "14 0",
+            )
+            .kept(
+                Shown {
+                    periods: &[FEBRUARY, "0 0 0 0 0 0 0 0 0"],
+                    ..MADE
+                },
+                "silence",
+                "14 0 0 - 0",
+            ),
     ]
 }
 
@@ -1034,7 +1287,7 @@ fn states() -> Vec<Fixed> {
     vec![
         Fixed::empty("a malformed state is kept by every call")
             .kept(broken, "byte 81", "14 0 0 - 0")
-            .kept(broken, "byte 81 2047", "12 0 0 - 0")
+            .kept(broken, "byte 81 4095", "12 0 0 - 0")
             .kept(broken, "silence", "14 0 0 - 0")
             .kept(broken, "silence 0", "12 0 0 - 0")
             .kept(broken, "tick", "14 0")
@@ -1145,7 +1398,7 @@ fn script_rules() -> Vec<Fixed> {
         "byte",
         "byte AF",
         "byte af 8193",
-        "byte af  2048",
+        "byte af  4096",
         "byte af3f",
         "bytes",
         "bytes a",
@@ -1159,6 +1412,13 @@ fn script_rules() -> Vec<Fixed> {
         errors = errors.line(line, "error");
     }
     let shown = MADE.fields();
+    // The state's line with the field at a place put another way.
+    let spoiled = |place: usize, field: &str| {
+        let mut fields: Vec<&str> = shown.split(' ').collect();
+        fields[place] = field;
+        format!("set {}", fields.join(" "))
+    };
+    let tables = "31".repeat(577);
     vec![
         errors.dump(MADE),
         Fixed::listening("a spoiled set changes nothing")
@@ -1166,16 +1426,15 @@ fn script_rules() -> Vec<Fixed> {
             .line(&format!("set {}", &shown[..shown.len() - 2]), "error")
             .line(&format!("set {shown} 31"), "error")
             .line(&format!("set {shown}4294967296"), "error")
-            .line(&format!("set {}256 0", &shown[..shown.len() - 2]), "error")
-            .line(
-                &format!("set {}256 0 0", &shown[..shown.len() - 4]),
-                "error",
-            )
-            .line(
-                &format!("set {}31 0 0 0", &shown[..shown.len() - 6]),
-                "error",
-            )
-            .line(&format!("set {} 0", &shown[..shown.len() - 4]), "error")
+            .line(&spoiled(18, &tables), "error")
+            .line(&spoiled(19, "256"), "error")
+            .line(&spoiled(20, "256"), "error")
+            .line(&spoiled(21, "4294967296"), "error")
+            .line(&spoiled(22, "256"), "error")
+            .line(&spoiled(23, "65536"), "error")
+            .line(&spoiled(27, "256"), "error")
+            .line(&spoiled(28, "4294967296"), "error")
+            .line(&spoiled(22, "0 0"), "error")
             .line(&format!("set 256{}", &shown[1..]), "error")
             .line(&format!("set 0 0 256{}", &shown[5..]), "error")
             .dump(MADE)
@@ -1194,7 +1453,7 @@ fn script_rules() -> Vec<Fixed> {
             .line("bytes -", "")
             .line("tick", "1 0")
             .line("pulse 0000000007", "1 0")
-            .line("byte 00 0002048", "0 0 0 - 0")
+            .line("byte 00 0004096", "0 0 0 - 0")
             .dump(Shown {
                 clock: "2024 2 29 8 5 10",
                 counters: "7 0 0 0",

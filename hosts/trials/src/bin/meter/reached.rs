@@ -3,7 +3,8 @@
 
 use model::bench::Event;
 use model::meter::{
-    data_bits, days_in_month, Answer, Meter, COUNTER_END, ETX, LF, PULSE_MOST, ROOM, SOH, STX,
+    data_bits, days_in_month, Answer, Meter, Period, COUNTER_END, ETX, LF, PERIODS, PULSE_MOST,
+    ROOM, SOH, STX,
 };
 use std::collections::BTreeMap;
 
@@ -19,6 +20,8 @@ const AIMS: &[&str] = &[
     "sign-on by our serial",
     "sign-on by the zero serial",
     "sign-on by the zero serial that is ours",
+    "sign-on by /C!",
+    "/C! with the mark",
     "line not ours, unmarked",
     "line with the mark",
     "line of 31 characters",
@@ -31,6 +34,8 @@ const AIMS: &[&str] = &[
     "confirmation '0'",
     "confirmation '7'",
     "confirmation '1'",
+    "confirmation '6'",
+    "slow confirmation '6'",
     "slow confirmation '0'",
     "slow confirmation '7'",
     "slow confirmation '1'",
@@ -111,6 +116,12 @@ const AIMS: &[&str] = &[
     "tick 28 February, other year",
     "tick over a year's end",
     "tick over the end of 2099",
+    "tick to a midnight that closes nothing",
+    "tick after the first second of a month",
+    "write of the first second of a month closes nothing",
+    "closed with other periods out of order",
+    "closed where none was kept",
+    "closed where twelve were kept",
     "pulse of 0",
     "pulse of 1,000,000",
     "pulse of 1,000,001",
@@ -177,6 +188,17 @@ const RANGES: &[&str] = &[
     "total",
     "total not rolled over",
     "table",
+    "number of periods",
+    "period's year below",
+    "period's year above",
+    "period's month 0",
+    "period's month above",
+    "period's day 0",
+    "period's day above",
+    "period's hour",
+    "period's minute",
+    "period's counter",
+    "period in an unused place",
 ];
 
 /// Rooms that must have been lent, to a character and to silence.
@@ -206,6 +228,11 @@ pub struct Reached {
     tables_read: [u64; 24],
     tables_written: [u64; 24],
     zones: [u64; 4],
+    /// Periods closed by a tick, by mode, and by the sign-on, by how many were kept before.
+    closed_by_tick: [u64; 5],
+    closed_by_line: [u64; PERIODS + 1],
+    /// Blocks with periods, by how many these are.
+    blocks: [u64; PERIODS + 1],
 }
 
 impl Reached {
@@ -226,6 +253,33 @@ impl Reached {
             tables_read: [0; 24],
             tables_written: [0; 24],
             zones: [0; 4],
+            closed_by_tick: [0; 5],
+            closed_by_line: [0; PERIODS + 1],
+            blocks: [0; PERIODS + 1],
+        }
+    }
+
+    /// A period has been closed: what there was before.
+    fn closed(&mut self, before: &Meter) {
+        let kept = &before.periods[..usize::from(before.closed)];
+        let age = |period: &Period| {
+            let Period {
+                year,
+                month,
+                day,
+                hour,
+                minute,
+                ..
+            } = *period;
+            (year, month, day, hour, minute)
+        };
+        if kept.windows(2).any(|pair| age(&pair[0]) < age(&pair[1])) {
+            self.reach("closed with other periods out of order");
+        }
+        match kept.len() {
+            0 => self.reach("closed where none was kept"),
+            PERIODS => self.reach("closed where twelve were kept"),
+            _ => {}
         }
     }
 
@@ -395,8 +449,15 @@ impl Reached {
                     _ => {}
                 }
                 let zero_line = before.held() == b"/?000 0000000!\r";
+                let closing = before.held() == b"/C!\r";
+                if closing && after.mode == 1 {
+                    self.closed_by_line[usize::from(before.closed)] += 1;
+                    self.closed(before);
+                }
                 self.reach(match (after.mode, before.mark == 1) {
                     (1, _) if before.held() == b"/?!\r" => "sign-on by /?!",
+                    (1, _) if closing => "sign-on by /C!",
+                    (_, true) if closing => "/C! with the mark",
                     (1, _) if zero_line && before.serial == *b"0000000000" => {
                         "sign-on by the zero serial that is ours"
                     }
@@ -430,18 +491,24 @@ impl Reached {
         if before.held[0] == 0 && before.mark == 1 {
             self.reach("confirmation that starts damaged");
         }
+        let good = before.mark == 0 && got == Some(LF);
+        if good && matches!(before.held(), [0x06, b'0', b'0' | b'5', b'6', b'\r']) {
+            self.blocks[usize::from(before.closed)] += 1;
+        }
         self.reach(match (after.mode, before.held()) {
             (2, _) if after.speed == 0 => "slow confirmation '1'",
             (2, _) => "confirmation '1'",
             _ if before.mark == 1 || got.is_none() => "confirmation with the mark",
             (_, b"\x06050\r") if got == Some(LF) => "confirmation '0'",
             (_, b"\x06057\r") if got == Some(LF) => "confirmation '7'",
+            (_, b"\x06056\r") if got == Some(LF) => "confirmation '6'",
+            (_, b"\x06006\r") if got == Some(LF) => "slow confirmation '6'",
             (_, b"\x06000\r") if got == Some(LF) => "slow confirmation '0'",
             (_, b"\x06007\r") if got == Some(LF) => "slow confirmation '7'",
-            (_, [0x06, b'0', b'1'..=b'4', b'0' | b'1' | b'7', b'\r']) if got == Some(LF) => {
+            (_, [0x06, b'0', b'1'..=b'4', b'0' | b'1' | b'6' | b'7', b'\r']) if got == Some(LF) => {
                 "speed digit 1 to 4"
             }
-            (_, [0x06, b'0', _, b'0' | b'1' | b'7', b'\r']) if got == Some(LF) => {
+            (_, [0x06, b'0', _, b'0' | b'1' | b'6' | b'7', b'\r']) if got == Some(LF) => {
                 "another speed digit"
             }
             _ => "confirmation wrong, unmarked",
@@ -581,6 +648,11 @@ impl Reached {
             (Some(b'Z'), _) => "write Z refused with 9",
             _ => "write of another letter refused with 9",
         });
+        let clock = after.clock;
+        let first = (clock.day, clock.hour, clock.minute, clock.second) == (1, 0, 0, 0);
+        if number == 1 && data[0] == b'T' && first {
+            self.reach("write of the first second of a month closes nothing");
+        }
         // A row that was there already would not tell one table from another.
         if number == 1 && data[0] == b'Z' && before.tables != after.tables {
             self.tables_written[named(data)] += 1;
@@ -605,8 +677,17 @@ impl Reached {
         if from.hour != to.hour {
             self.reach("tick over an hour");
         }
+        if (to.day, to.hour, to.minute, to.second) == (1, 0, 0, 1) {
+            self.reach("tick after the first second of a month");
+        }
         if from.day == to.day {
             return;
+        }
+        if to.day == 1 {
+            self.closed_by_tick[usize::from(before.mode)] += 1;
+            self.closed(before);
+        } else {
+            self.reach("tick to a midnight that closes nothing");
         }
         match (from.month, from.day, days_in_month(from.year, from.month)) {
             (2, 28, 29) => self.reach("tick 28 February, leap year"),
@@ -701,6 +782,13 @@ impl Reached {
         row("tables written", &self.tables_written, 1);
         row("tables used by a pulse", &self.tables_used, 1);
         row("zones counted in", &self.zones, 1);
+        row("periods closed by a tick, by mode", &self.closed_by_tick, 0);
+        row(
+            "periods closed by /C!, by those kept",
+            &self.closed_by_line,
+            0,
+        );
+        row("blocks with so many periods", &self.blocks, 0);
         for (event, counts) in EVENTS.iter().zip(&self.rooms) {
             for (room, &count) in ROOMS.iter().zip(counts) {
                 println!("room {room} lent to {event}: {count}");
@@ -819,5 +907,36 @@ fn broken_ranges(meter: &Meter) -> Vec<&'static str> {
     must(kept || !whole, "total not rolled over");
     let zone = |c: &u8| matches!(c, b'1'..=b'4');
     must(meter.tables.iter().flatten().all(zone), "table");
+    let kept = usize::from(meter.closed);
+    must(kept < 13, "number of periods");
+    let (kept, unused) = meter.periods.split_at(kept.min(12));
+    let all = |good: fn(&Period) -> bool| kept.iter().all(good);
+    must(all(|period| period.year > 1999), "period's year below");
+    must(all(|period| period.year < 2100), "period's year above");
+    must(all(|period| period.month > 0), "period's month 0");
+    must(all(|period| period.month < 13), "period's month above");
+    must(all(|period| period.day > 0), "period's day 0");
+    must(
+        all(|period| {
+            let most = match (period.month, period.year % 4) {
+                (2, 0) => 29,
+                (2, _) => 28,
+                (4 | 6 | 9 | 11, _) => 30,
+                _ => 31,
+            };
+            period.day <= most
+        }),
+        "period's day above",
+    );
+    must(all(|period| period.hour < 24), "period's hour");
+    must(all(|period| period.minute < 60), "period's minute");
+    must(
+        all(|period| period.counters.iter().all(|&wh| wh < COUNTER_END)),
+        "period's counter",
+    );
+    must(
+        unused.iter().all(|&period| period == Period::default()),
+        "period in an unused place",
+    );
     broken
 }

@@ -3,7 +3,9 @@
 use crate::player::{wire, Player};
 use crate::reached::Reached;
 use model::bench::{dump, LINE_MOST};
-use model::meter::{days_in_month, total_of, Clock, Meter, ETX, LF, PLACES, SOH, STX};
+use model::meter::{
+    days_in_month, total_of, Clock, Meter, Period, ETX, LF, PERIODS, PLACES, ROOM, SOH, STX,
+};
 use trials::chance::Chance;
 use trials::program::Played;
 use trials::words::*;
@@ -14,7 +16,7 @@ pub fn all(
     reached: &mut Reached,
     hold: &mut dyn FnMut(Played) -> Result<(), String>,
 ) -> Result<(), String> {
-    let sweeps: [(&str, Sweep); 14] = [
+    let sweeps: [(&str, Sweep); 15] = [
         ("every byte in every receiver", every_byte),
         ("edges of the receiver", receiver_edges),
         ("damage at every place", damage_everywhere),
@@ -28,6 +30,7 @@ pub fn all(
         ("every character of a register", register_characters),
         ("rooms", rooms),
         ("the calendar", calendar),
+        ("closed months", closed_months),
         ("script lines", script_lines),
     ];
     for (place, (name, sweep)) in sweeps.into_iter().enumerate() {
@@ -44,15 +47,18 @@ type Sweep = fn(&mut Chance, &mut Player);
 
 /// Each byte 00 to FF, in states that treat characters differently.
 fn every_byte(chance: &mut Chance, player: &mut Player) {
-    let receivers: [(u8, &[u8], bool); 17] = [
+    let receivers: [(u8, &[u8], bool); 20] = [
         (0, b"", false),
         (0, b"/", false),
         (0, b"/?!\r", false),
         (0, b"/?!\r", true),
+        (0, b"/C!\r", false),
+        (0, b"/C!\r", true),
         (0, b"/234567890123456789012345678901", false),
         (1, b"", false),
         (1, b"\x06051\r", false),
         (1, b"\x06051\r", true),
+        (1, b"\x06056\r", false),
         (2, b"", false),
         (2, b"\x01P1\x02()\x03", false),
         (3, b"", false),
@@ -113,6 +119,7 @@ fn damage_everywhere(chance: &mut Chance, player: &mut Player) {
     let own = &meters[4];
     let mut messages: Vec<(usize, Vec<u8>)> = vec![
         (0, b"/?!\r\n".to_vec()),
+        (0, CLOSING.to_vec()),
         (0, sign_on(&meters[0].serial)),
         (0, sign_on(b"0000000000")),
         (0, b"/234567890123456789012345678\r\n".to_vec()),
@@ -121,6 +128,7 @@ fn damage_everywhere(chance: &mut Chance, player: &mut Player) {
         (1, confirmation(b'0')),
         (1, confirmation(b'1')),
         (1, confirmation(b'7')),
+        (1, confirmation(b'6')),
         (1, confirmation_at(b'0', b'0')),
         (1, confirmation_at(b'0', b'1')),
         (2, password(b"()")),
@@ -194,7 +202,7 @@ fn confirmations(chance: &mut Chance, player: &mut Player) {
         play(&confirmation(choice));
     }
     for speed in 0..128 {
-        for choice in *b"017" {
+        for choice in *b"0167" {
             play(&confirmation_at(speed, choice));
         }
     }
@@ -458,7 +466,7 @@ fn writes(chance: &mut Chance, player: &mut Player) {
 fn every_call(chance: &mut Chance, player: &mut Player) {
     let byte = chance.one_of(&[0x81, 0xAF, 0x0A, 0x03, 0x80, 0x71]);
     player.byte(byte);
-    player.line(format!("byte {byte:02x} 2047"));
+    player.line(format!("byte {byte:02x} 4095"));
     player.line("silence");
     player.line("silence 1");
     player.line("tick");
@@ -470,7 +478,6 @@ fn every_call(chance: &mut Chance, player: &mut Player) {
 
 /// Each range broken alone at each place, by the value next to the range and by another.
 fn broken_states(chance: &mut Chance, player: &mut Player) {
-    type Breaking = Box<dyn Fn(&mut Meter, &mut Chance)>;
     let mut breakings: Vec<(u8, Breaking)> = Vec::new();
     for mode in [5, 6, 127, 255] {
         breakings.push((0, Box::new(move |meter, _| meter.mode = mode)));
@@ -670,6 +677,11 @@ fn broken_states(chance: &mut Chance, player: &mut Player) {
             ));
         }
     }
+    for place in 0..PERIODS {
+        break_period(place, &mut |mode, breaking| {
+            breakings.push((mode, breaking))
+        });
+    }
     for (mode, breaking) in &breakings {
         let mut meter = state(chance, *mode);
         breaking(&mut meter, chance);
@@ -691,7 +703,16 @@ fn broken_states(chance: &mut Chance, player: &mut Player) {
         meter.attempts = 3;
         meter.counters = [999_999_999; 4];
         meter.total = total_of(&meter.counters);
+        meter.closed = PERIODS as u8;
         for (year, month, day) in [(2000, 1, 1), (2099, 12, 31), (2000, 2, 29), (2099, 2, 28)] {
+            meter.periods = [Period {
+                year,
+                month,
+                day,
+                hour: 23,
+                minute: 59,
+                counters: [999_999_999; 4],
+            }; PERIODS];
             meter.clock = Clock {
                 year,
                 month,
@@ -703,6 +724,183 @@ fn broken_states(chance: &mut Chance, player: &mut Player) {
             player.set(&meter);
             every_call(chance, player);
         }
+    }
+}
+
+type Breaking = Box<dyn Fn(&mut Meter, &mut Chance)>;
+
+/// Each range of the period at a place, in an archive that has it, and something where there is none.
+fn break_period(place: usize, add: &mut dyn FnMut(u8, Breaking)) {
+    let mut one = |breaking: fn(&mut Period, &mut Chance)| {
+        add(
+            0,
+            Box::new(move |meter, chance| {
+                meter.closed = chance.between(place + 1, PERIODS) as u8;
+                for (at, kept) in meter.periods.iter_mut().enumerate() {
+                    *kept = match at < usize::from(meter.closed) {
+                        true => period(chance),
+                        false => Period::default(),
+                    };
+                }
+                breaking(&mut meter.periods[place], chance);
+            }),
+        );
+    };
+    one(|period, chance| {
+        period.year = chance.one_of(&[0, 1, 99, 1_999]);
+        period.day = period.day.min(28);
+    });
+    one(|period, chance| {
+        period.year = chance.one_of(&[2_100, 2_101, 65_535]);
+        period.day = period.day.min(28);
+    });
+    one(|period, _| period.month = 0);
+    one(|period, chance| period.month = chance.one_of(&[13, 14, 255]));
+    one(|period, _| period.day = 0);
+    one(|period, chance| {
+        let most = days_in_month(period.year, period.month);
+        period.day = chance.one_of(&[most + 1, most + 2, 32, 255]);
+    });
+    one(|period, chance| period.hour = chance.one_of(&[24, 25, 255]));
+    one(|period, chance| period.minute = chance.one_of(&[60, 61, 255]));
+    one(|period, chance| {
+        let wh = chance.one_of(&[1_000_000_000, 1_000_000_001, u32::MAX]);
+        period.counters[chance.below(4)] = wh;
+    });
+    // A whole period, or one number of it, in an unused place.
+    for number in 0..10 {
+        add(
+            0,
+            Box::new(move |meter, chance| {
+                meter.closed = chance.below(place + 1) as u8;
+                for (at, kept) in meter.periods.iter_mut().enumerate() {
+                    *kept = match at < usize::from(meter.closed) {
+                        true => period(chance),
+                        false => Period::default(),
+                    };
+                }
+                let unused = &mut meter.periods[place];
+                match number {
+                    0 => *unused = period(chance),
+                    1 => unused.year = 2_000,
+                    2 => unused.month = 1,
+                    3 => unused.day = 1,
+                    4 => unused.hour = 1,
+                    5 => unused.minute = 1,
+                    counter => unused.counters[counter - 6] = 1,
+                }
+            }),
+        );
+    }
+    // A number of periods that is not that of the places in use, or none at all.
+    for closed in [13, 14, 127, 128, 255] {
+        add(
+            0,
+            Box::new(move |meter, chance| {
+                meter.periods = [(); PERIODS].map(|()| period(chance));
+                meter.closed = closed;
+            }),
+        );
+    }
+    add(
+        0,
+        Box::new(move |meter, chance| {
+            meter.periods = [Period::default(); PERIODS];
+            for kept in &mut meter.periods[..place] {
+                *kept = period(chance);
+            }
+            meter.closed = place as u8 + 1;
+        }),
+    );
+}
+
+/// Archives of every size: a month closed by a tick in each mode and by the sign-on, what does not
+/// close one, and the block with the periods at either speed.
+fn closed_months(chance: &mut Chance, player: &mut Player) {
+    for count in 0..=PERIODS {
+        for mode in 0..=4 {
+            for (day, hour, minute, second) in [
+                (31, 23, 59, 59),
+                (31, 23, 59, 58),
+                (30, 23, 59, 59),
+                (31, 22, 59, 59),
+                (1, 0, 0, 0),
+            ] {
+                let mut meter = state(chance, mode);
+                meter.closed = count as u8;
+                for (at, kept) in meter.periods.iter_mut().enumerate() {
+                    *kept = match at < count {
+                        true => period(chance),
+                        false => Period::default(),
+                    };
+                }
+                meter.clock = Clock {
+                    year: chance.between(2000, 2099) as u16,
+                    month: chance.one_of(&[1, 3, 5, 7, 8, 10, 12]),
+                    day,
+                    hour,
+                    minute,
+                    second,
+                };
+                player.set(&meter);
+                if mode > 1 && chance.percent(50) {
+                    // With a frame half received, which a tick leaves alone.
+                    player.send(b"\x01R1");
+                }
+                player.line("tick");
+                player.dump();
+                player.line("tick");
+                player.dump();
+                if mode == 4 {
+                    // The first of a month told, which closes nothing, and the second after it.
+                    let first = Clock {
+                        day: 1,
+                        hour: 0,
+                        minute: 0,
+                        second: 0,
+                        ..meter.clock
+                    };
+                    player.send(&write(&clock_data(first)));
+                    player.dump();
+                    player.line("tick");
+                    player.dump();
+                }
+                meter.mode = 0;
+                meter.speed = 0;
+                player.set(&meter);
+                player.send(chance.pick(&NEARLY_CLOSING));
+                player.line("silence");
+                player.send(CLOSING);
+                player.dump();
+                let speed = chance.one_of(b"05");
+                player.send(&confirmation_at(speed, b'6'));
+                player.send(b"/?!\r\n");
+                let choice = chance.one_of(b"067");
+                player.send(&confirmation_at(speed, choice));
+                player.dump();
+                // Damaged at one place, the line closes nothing.
+                let mut line = wire(CLOSING);
+                line[chance.between(1, 3)] ^= 0x80;
+                player.bytes(&line);
+                player.dump();
+            }
+        }
+    }
+    // Twenty months one after the other, the oldest pushed out.
+    let mut meter = state(chance, 4);
+    for _ in 0..40 {
+        player.set(&meter);
+        for _ in 0..20 {
+            let mut now = player.meter().clone();
+            let Clock { year, month, .. } = now.clock;
+            now.clock.day = days_in_month(year, month);
+            (now.clock.hour, now.clock.minute, now.clock.second) = (23, 59, 59);
+            player.send(&write(&clock_data(now.clock)));
+            player.line(format!("pulse {}", chance.below(1_000_001)));
+            player.line("tick");
+        }
+        player.dump();
+        meter = state(chance, 4);
     }
 }
 
@@ -785,9 +983,11 @@ pub fn new_line(serial: &[u8], account: &[u8], password: &[u8], clock: Clock) ->
 
 /// Each room before calls with and without a reply, in each mode.
 fn rooms(chance: &mut Chance, player: &mut Player) {
-    let last: [(&[u8], u8); 9] = [
+    let last: [(&[u8], u8); 11] = [
         (b"", b'/'),
         (b"/?!\r", LF),
+        (b"/C!\r", LF),
+        (b"\x06056\r", LF),
         (b"\x06050\r", LF),
         (b"\x06051\r", LF),
         (b"\x01P1\x02()\x03", 0x61),
@@ -797,7 +997,23 @@ fn rooms(chance: &mut Chance, player: &mut Player) {
         (b"\x01", b'x'),
     ];
     for room in [
-        0, 1, 2, 19, 63, 64, 1_062, 1_063, 2_000, 2_046, 2_047, 2_048, 2_049, 4_096, 8_191, 8_192,
+        0,
+        1,
+        2,
+        19,
+        63,
+        64,
+        1_062,
+        1_063,
+        2_047,
+        2_048,
+        2_671,
+        ROOM - 2,
+        ROOM - 1,
+        ROOM,
+        ROOM + 1,
+        8_191,
+        8_192,
     ] {
         for mode in 0..=4 {
             for (held, next) in last {
@@ -970,15 +1186,15 @@ fn script_lines(chance: &mut Chance, player: &mut Player) {
         b"byte 0g",
         b"byte 0x81",
         b"byte 81 ",
-        b"byte 81  2048",
-        b"byte 81 2048 ",
+        b"byte 81  4096",
+        b"byte 81 4096 ",
         b"byte 81 8193",
         b"byte 81 65536",
         b"byte 81 67584",
         b"byte 81 -1",
         b"byte 81 +1",
         b"byte 81 x",
-        b"byte 81 2048 1",
+        b"byte 81 4096 1",
         b"byte 81 4294969344",
         b"byte  81",
         b"byte\t81",
@@ -991,7 +1207,7 @@ fn script_lines(chance: &mut Chance, player: &mut Player) {
         b"bytes AF",
         b"bytes 81--",
         b"bytes --",
-        b"bytes 81 2048",
+        b"bytes 81 4096",
         b"bytes 8g",
         b"silence ",
         b"silence 8193",
@@ -1010,7 +1226,7 @@ fn script_lines(chance: &mut Chance, player: &mut Player) {
         "bytes -",
         "byte 81 0",
         "byte 81 00",
-        "byte 81 0002048",
+        "byte 81 0004096",
         "byte 80 00000000000000000000000000008192",
         "silence 08192",
         "silence 0",
