@@ -68,8 +68,8 @@ static void try_text(const char *what, const void *text, size_t text_length, siz
     for (size_t at = length; at < room; at++) {
         expect(out[at] == 0x5A, what);
     }
-    free((void *)own);
-    free(out);
+    give_back(own, text_length);
+    give_back(out, room);
 }
 
 /* A meter's card in each room around its length, and read back. */
@@ -92,7 +92,7 @@ static void try_meter(void) {
         for (size_t at = length; at < room; at++) {
             expect(out[at] == 0x5A, "a meter's card: the rest of the buffer");
         }
-        free(out);
+        give_back(out, room);
     }
     meter.mode = 5;
     size_t length = 99;
