@@ -23,12 +23,14 @@ impl Cards for Right {
     }
 }
 
+type Reading = fn(&[u8], &mut [u8]) -> (u8, usize, usize);
+
 /// Cards that are right but for what one of these makes of them.
 #[derive(Clone, Copy)]
 pub struct Wrong {
     pub name: &'static str,
     check: fn(&[u8]) -> (u8, usize),
-    read: fn(&[u8], &mut [u8]) -> (u8, usize, usize),
+    read: Reading,
     write: fn(&Meter, &mut [u8]) -> (u8, usize),
 }
 
@@ -60,7 +62,7 @@ fn checks(name: &'static str, check: fn(&[u8]) -> (u8, usize)) -> Wrong {
     }
 }
 
-fn reads(name: &'static str, read: fn(&[u8], &mut [u8]) -> (u8, usize, usize)) -> Wrong {
+fn reads(name: &'static str, read: Reading) -> Wrong {
     Wrong {
         read,
         ..right(name)
