@@ -21,7 +21,8 @@ use Rattle.post.proofs.Reading.{rising-number, rising-rest, rising-table, risin
 use Rattle.card.specs.Grammar.{accountField, tableField, tableFields, cardText, IsCard}
 use Rattle.card.specs.Columns.{accountColumn, tableColumn, FirstStray, tableStands}
 use Rattle.card.specs.Fields.{Fields, Passed, Scanned}
-use Rattle.card.proofs.Strays.{longest-stray, mixed, length-mixed, same-mixed, mixed-fits}
+use Rattle.post.proofs.Mixing.{mixed, length-mixed, same-mixed, mixed-fits}
+use Rattle.card.proofs.Strays.{longest-stray}
 use Rattle.card.proofs.Fields.{length-account, length-table, account-fits, table-fits, fits-account, fits-good, entryIn, Stands, stands, fits-table, fits-stands, length-first, take-field, drop-field, length-none, length-cons, same-entry, take-account, drop-account, same-account}
 
 -- what stands behind the fields may be nothing
@@ -151,15 +152,15 @@ module _ (tables above : ℕ) (s : List ℕ) (place : ℕ) (f : FirstStray (tabl
       let sample = tableField next in
       let long = length-table next ones-good in
       let fits = table-fits tables above next (omega arith) high ones-good in
-      let u = mixed (tableColumn tables above) 28 place s sample (f .in-text) (f .in-field) long (f .before) fits in
-      let lu = length-mixed (tableColumn tables above) 28 place s sample (f .in-text) (f .in-field) long (f .before) fits in
-      let st = fits-table tables above u (omega arith) (mixed-fits (tableColumn tables above) 28 place s sample (f .in-text) (f .in-field) long (f .before) fits) in
+      let u = mixed place s sample in
+      let lu = length-mixed place s sample (f .in-text) 28 (f .in-field) long in
+      let st = fits-table tables above u (omega arith) (mixed-fits place s sample (f .in-text) (tableColumn tables above) 28 (f .before) fits) in
       record {
         other = tableField (entryIn u) ++ drop 28 u;
         is-whole = put-field tables above (entryIn u) (st .low) (st .high) (st .good-row) (drop 28 u) (rw (nothing-left u lu) (no-fields tables (getD u 3 0)));
         within = f .in-text;
         within-other = rw (← st .front) (omega (arith, f .in-field));
-        same = rw (← st .front) (same-mixed (tableColumn tables above) 28 place s sample (f .in-text) (f .in-field) long (f .before) fits);
+        same = rw (← st .front) (same-mixed place s sample (f .in-text));
       }
     where
       nothing-left : (u : List ℕ) → length u ≡ 28 → drop 28 u ≡ []
@@ -186,16 +187,16 @@ module _ (tables : ℕ) (text : List ℕ) (place : ℕ) (f : FirstStray accountC
       let sample = accountField blank in
       let long = length-account blank blank-good in
       let fits = account-fits blank blank-good in
-      let u = mixed accountColumn 13 place text sample (f .in-text) (f .in-field) long (f .before) fits in
-      let lu = length-mixed accountColumn 13 place text sample (f .in-text) (f .in-field) long (f .before) fits in
-      let all = mixed-fits accountColumn 13 place text sample (f .in-text) (f .in-field) long (f .before) fits in
+      let u = mixed place text sample in
+      let lu = length-mixed place text sample (f .in-text) 13 (f .in-field) long in
+      let all = mixed-fits place text sample (f .in-text) accountColumn 13 (f .before) fits in
       let is : accountField (drop 3 u) ≡ u = sym (fits-account u lu all) in
       record {
         other = accountField (drop 3 u) ++ [];
         is-whole = put-account tables (drop 3 u) (fits-good u lu all) [] (no-fields tables 0);
         within = f .in-text;
         within-other = rw (append-nil (accountField (drop 3 u)), is) (omega (arith, f .in-field));
-        same = rw (append-nil (accountField (drop 3 u)), is) (same-mixed accountColumn 13 place text sample (f .in-text) (f .in-field) long (f .before) fits);
+        same = rw (append-nil (accountField (drop 3 u)), is) (same-mixed place text sample (f .in-text));
       }
 
   pub longest-account : Longest (IsCard tables) text place
