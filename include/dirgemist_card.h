@@ -24,17 +24,17 @@ extern "C" {
 #endif
 
 /* The numbers returned. */
-#define DIRGEMIST_CARD_DONE 1       /* a card; read or written, where that was asked */
-#define DIRGEMIST_CARD_MALFORMED 14 /* the record is no meter's state */
+#define DIRGEMIST_CARD_DONE 1        /* a card; read or written, where that was asked */
+#define DIRGEMIST_CARD_MALFORMED 14  /* the record is no meter's state */
 #define DIRGEMIST_CARD_NOT_A_CARD 40 /* the place says where the text leaves every card */
-#define DIRGEMIST_CARD_NO_ROOM 41   /* the buffer is shorter than what would be written */
+#define DIRGEMIST_CARD_NO_ROOM 41    /* the buffer is shorter than what would be written */
 
 /* Lengths in bytes. */
-#define DIRGEMIST_CARD_ACCOUNT_FIELD 13  /* the account's field */
-#define DIRGEMIST_CARD_TABLE_FIELD 28    /* a table's field */
-#define DIRGEMIST_CARD_ACCOUNT_FRAME 19  /* the frame that sets the account */
-#define DIRGEMIST_CARD_TABLE_FRAME 36    /* the frame that sets a table */
-#define DIRGEMIST_CARD_LONGEST 685       /* a card with all 24 tables */
+#define DIRGEMIST_CARD_ACCOUNT_FIELD 13   /* the account's field */
+#define DIRGEMIST_CARD_TABLE_FIELD 28     /* a table's field */
+#define DIRGEMIST_CARD_ACCOUNT_FRAME 19   /* the frame that sets the account */
+#define DIRGEMIST_CARD_TABLE_FRAME 36     /* the frame that sets a table */
+#define DIRGEMIST_CARD_LONGEST 685        /* a card with all 24 tables */
 #define DIRGEMIST_CARD_FRAMES_LONGEST 883 /* its frames */
 
 /* Tells whether the text_length bytes at text are a card. Returns DIRGEMIST_CARD_DONE if they are, and else
