@@ -4,6 +4,7 @@
  * buffers. */
 #include "script.h"
 
+#include "dirgemist_card.h"
 #include "dirgemist_meter.h"
 
 #define ROOM_MOST 8192
@@ -308,6 +309,23 @@ static bool play_pulse(const struct word *words, size_t count) {
     return answered(dirgemist_meter_pulse(meter, (uint32_t)wh, speed));
 }
 
+/* A card written from the state. */
+static bool play_card(const struct word *words, size_t count) {
+    size_t room;
+    if (!room_of(words, count, &room)) {
+        return false;
+    }
+    unwrite();
+    uint8_t *card = lend(&replies, room);
+    put_number(dirgemist_card_write(meter, card, room, length));
+    put(' ');
+    put_number(*length);
+    put(' ');
+    put_buffer(&replies, *length);
+    put('\n');
+    return true;
+}
+
 /* ---- A command by its first word, with so many words behind it. */
 
 static const struct {
@@ -322,6 +340,7 @@ static const struct {
     {"tick", 0, 0, play_tick},
     {"pulse", 1, 1, play_pulse},
     {"up", 0, 0, play_up},
+    {"card", 1, 1, play_card},
     {"new", NEEDED, COUNT(facts), play_new},
     {"dump", 0, 0, play_dump},
     {"set", COUNT(state), COUNT(state), play_set},

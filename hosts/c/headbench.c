@@ -5,6 +5,7 @@
 #include "script.h"
 
 #include "dirgemist.h"
+#include "dirgemist_card.h"
 #include "dirgemist_head.h"
 #include "dirgemist_mercury.h"
 #include "dirgemist_session.h"
@@ -238,6 +239,12 @@ static void export(const struct given *g) {
     put_written(answer, answer == DIRGEMIST_NOT_A_POST ? *numbers[1] : *numbers[0], *numbers[0]);
 }
 
+static void card(const struct given *g) {
+    uint8_t *out = room_lent(g[0].number);
+    uint8_t answer = dirgemist_card_read(T(1), out, buffer.room, numbers[0], numbers[1]);
+    put_written(answer, answer == DIRGEMIST_CARD_NOT_A_CARD ? *numbers[1] : *numbers[0], *numbers[0]);
+}
+
 static void strip(const struct given *g) {
     uint8_t *out = room_lent(g[0].number);
     size_t *length = numbers[0], *place = numbers[1];
@@ -420,6 +427,7 @@ static const struct call calls[] = {
     {"mercury", "read", 2, {SHORT, TEXT}, mercury_read},
     {"check", "", 1, {TEXT}, check},
     {"export", "", 2, {ROOM, TEXT}, export},
+    {"card", "", 2, {ROOM, TEXT}, card},
     {"strip", "", 2, {ROOM, TEXT}, strip},
     {"part", "", 1, {TEXT}, part},
     {"next", "", 2, {ROOM, TEXT}, next},

@@ -4,7 +4,8 @@ use std::env;
 use std::path::PathBuf;
 
 /// `speed` is no part of this crate: a benchmark links it, if it is there.
-const LIBRARIES: [&str; 7] = [
+const LIBRARIES: [&str; 8] = [
+    "cardlink",
     "keeping",
     "firmware",
     "forum",

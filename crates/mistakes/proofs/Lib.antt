@@ -10,3 +10,4 @@ pub mod Posts
 pub mod Deliveries
 pub mod Mercury
 pub mod Sessions
+pub mod Cards

@@ -10,3 +10,4 @@ pub mod Replying
 pub mod Posts
 pub mod Mercury
 pub mod Sessions
+pub mod Cards

@@ -18,6 +18,7 @@ use Rattle.text.proofs.Beginnings.{le-or-lt, same-at}
 use Rattle.values.specs.Registers.{goodRow}
 use Rattle.post.specs.Grammar.{lineText}
 use Rattle.post.specs.Columns.{lowest, highest, columnFits, tensOf, numberOf, rowOf, Column}
+use Rattle.post.proofs.Mixing.{mixed, length-mixed, same-mixed, mixed-front, mixed-back, mixed-fits}
 use Rattle.post.proofs.Lines.{line-columns, length-line, number-line, line-fits, fits-line, fits-row, between-is, between-low, between-high}
 
 pub same-fits : (s t : List ℕ) (j : ℕ) → getD s j 0 ≡ getD t j 0 → columnFits s j ≡ columnFits t j
@@ -75,67 +76,53 @@ ones-good : goodRow ones ≡ true
 unfolding goodRow every between
 ones-good = refl
 
--- the first k columns of s, and then those of a line for table n
-unfoldable mixed : ℕ → ℕ → List ℕ → List ℕ
-mixed k n s = take k s ++ drop k (lineText n ones)
-
 module _ (tables above k n : ℕ) (s : List ℕ) (few : tables < 100) (in-line : k ≤ 36) (in-text : k ≤ length s)
     (low : above < n) (high : n ≤ tables) (before : (j : ℕ) → j < k → Column tables above s j) (tens : k ≡ 7 → 48 + n / 10 % 10 ≡ getD s 6 0) where
-  taken : length (take k s) ≡ k
-  taken = length-take-le k s in-text
+  -- the first k columns of s, and then those of a line for table n
+  abbrev whole : List ℕ
+  whole = mixed k s (lineText n ones)
 
-  length-mixed : length (mixed k n s) ≡ 36
-  unfolding mixed
-  length-mixed =
-      omega (arith, length-append (take k s) (drop k (lineText n ones)), taken, length-drop k (lineText n ones), length-line n ones ones-good)
+  length-whole : length whole ≡ 36
+  length-whole = length-mixed k s (lineText n ones) in-text 36 in-line (length-line n ones ones-good)
 
-  same-mixed : take k (mixed k n s) ≡ take k s
-  unfolding mixed
-  same-mixed = take-at (take k s) (drop k (lineText n ones)) k taken
+  whole-fits : (j : ℕ) → j < 36 → columnFits whole j ≡ true
+  unfolding columnFits
+  whole-fits =
+      mixed-fits k s (lineText n ones) in-text (λ (j c : ℕ). between (getD lowest j 0) (getD highest j 0) c) 36 (λ j h. before j h .held) (line-fits n ones ones-good)
 
-  mixed-front : (j : ℕ) → j < k → getD (mixed k n s) j 0 ≡ getD s j 0
-  mixed-front = same-at k (mixed k n s) s same-mixed
+  back : (j : ℕ) → k ≤ j → getD whole j 0 ≡ getD (lineText n ones) j 0
+  back = mixed-back k s (lineText n ones) in-text
 
-  mixed-back : (j : ℕ) → k ≤ j → getD (mixed k n s) j 0 ≡ getD (lineText n ones) j 0
-  unfolding mixed
-  mixed-back j h =
-      ap (λ (i : ℕ). getD (take k s ++ drop k (lineText n ones)) i 0) (omega (arith, taken))
-      ∙ getD-append-add (take k s) (drop k (lineText n ones)) (j - k) 0
-      ∙ getD-drop k (lineText n ones) (j - k) 0
-      ∙ ap (λ (i : ℕ). getD (lineText n ones) i 0) (omega arith)
-
-  mixed-fits : (j : ℕ) → j < 36 → columnFits (mixed k n s) j ≡ true
-  mixed-fits j h =
-      ⊎-elim (λ b. same-fits (mixed k n s) (lineText n ones) j (mixed-back j b) ∙ line-fits n ones ones-good j h)
-      (λ f. same-fits (mixed k n s) s j (mixed-front j f) ∙ before j f .held) (le-or-lt k j)
+  front : (j : ℕ) → j < k → getD whole j 0 ≡ getD s j 0
+  front = mixed-front k s (lineText n ones) in-text
 
   line-six : getD (lineText n ones) 6 0 ≡ 48 + n / 10 % 10
   line-six = rw (line-columns n ones)
 
-  mixed-six : k ≤ 7 → getD (mixed k n s) 6 0 ≡ getD (lineText n ones) 6 0
+  mixed-six : k ≤ 7 → getD whole 6 0 ≡ getD (lineText n ones) 6 0
   mixed-six h =
-      ⊎-elim (λ b. mixed-back 6 b) (λ f. mixed-front 6 f ∙ sym (tens (omega arith)) ∙ sym line-six) (le-or-lt k 6)
+      ⊎-elim (λ b. back 6 b) (λ f. front 6 f ∙ sym (tens (omega arith)) ∙ sym line-six) (le-or-lt k 6)
 
   -- its number may come next
-  mixed-number : (above < numberOf (mixed k n s)) × (numberOf (mixed k n s) ≤ tables)
+  mixed-number : (above < numberOf whole) × (numberOf whole ≤ tables)
   mixed-number =
       ⊎-elim
       (λ b.
-      let e : numberOf (mixed k n s) ≡ n = same-number-of (mixed k n s) (lineText n ones) (mixed-six b) (mixed-back 7 b) ∙ number-line n ones (omega arith) in
+      let e : numberOf whole ≡ n = same-number-of whole (lineText n ones) (mixed-six b) (back 7 b) ∙ number-line n ones (omega arith) in
       (omega arith, omega arith))
       (λ f.
-      let e : numberOf (mixed k n s) ≡ numberOf s = same-number-of (mixed k n s) s (mixed-front 6 (omega arith)) (mixed-front 7 f) in
+      let e : numberOf whole ≡ numberOf s = same-number-of whole s (front 6 (omega arith)) (front 7 f) in
       (omega (arith, before 7 f .unit refl), omega (arith, before 7 f .unit refl))) (le-or-lt k 7)
 
   completed-by : Completed tables above s k
   completed-by =
       record {
-        number = numberOf (mixed k n s);
-        row = rowOf (mixed k n s);
+        number = numberOf whole;
+        row = rowOf whole;
         low = mixed-number .0;
         high = mixed-number .1;
-        good-row = fits-row (mixed k n s) length-mixed mixed-fits;
-        same = ap (take k) (sym (fits-line (mixed k n s) length-mixed mixed-fits)) ∙ same-mixed;
+        good-row = fits-row whole length-whole whole-fits;
+        same = ap (take k) (sym (fits-line whole length-whole whole-fits)) ∙ same-mixed k s (lineText n ones) in-text;
       }
 
 tens-digit-small : (s : List ℕ) → columnFits s 6 ≡ true → (48 ≤ getD s 6 0) × (getD s 6 0 ≤ 57)

@@ -1,5 +1,6 @@
 pub mod Lines
 pub mod Reading
+pub mod Mixing
 pub mod Columns
 pub mod Places
 pub mod Answers

@@ -109,7 +109,7 @@ unfolding columnFits among
 line-fits n row e j h = line-among n row e j (omega (arith, length-line n row e))
 
 -- a test that every element of a run passes, each by itself
-every-of : (p : ℕ → Bool) (s : List ℕ) → ((i : ℕ) → i < length s → p (getD s i 0) ≡ true) → every p s ≡ true
+pub every-of : (p : ℕ → Bool) (s : List ℕ) → ((i : ℕ) → i < length s → p (getD s i 0) ≡ true) → every p s ≡ true
 unfolding every
 every-of p [] h = refl
 every-of p (c ∷ s) h = and-both (p c) (every p s) (h 0 (omega arith)) (every-of p s (λ i k. h (suc i) (omega arith)))

@@ -1,3 +1,4 @@
+pub mod fast_card;
 pub mod fast_head;
 pub mod fast_mercury;
 pub mod fast_meter;

@@ -1,5 +1,6 @@
 //! The tester's script over the model: one command a line in, its answer lines out.
 
+use crate::card;
 use crate::meter::{Answer, Clock, Meter, Period, PERIODS, PLACES, ROOM};
 use std::fmt::Write as _;
 use std::io::{self, BufRead, Write};
@@ -22,6 +23,9 @@ pub enum Command {
     },
     Set(Box<Meter>),
     Dump,
+    Card {
+        room: usize,
+    },
     Play(Vec<Event>),
 }
 
@@ -81,6 +85,13 @@ impl Bench {
                 transcript.push_str(&dump(&self.meter));
                 transcript.push('\n');
             }
+            Some(Command::Card { room }) => {
+                let mut buffer = vec![FILLING; room];
+                let (number, length) = card::write(&self.meter, &mut buffer);
+                put(transcript, format_args!("{number} {length} "));
+                put_hex(transcript, &buffer[..shown(length, &buffer)]);
+                transcript.push('\n');
+            }
             Some(Command::Play(events)) => {
                 for event in events {
                     let before = self.meter.clone();
@@ -110,15 +121,19 @@ impl Bench {
             format_args!("{} {}", answer.number, answer.speed),
         );
         if room.is_some() {
-            let changed = buffer.iter().rposition(|&byte| byte != FILLING);
-            let shown = answer.length.max(changed.map_or(0, |place| place + 1));
             put(transcript, format_args!(" {} ", answer.length));
-            put_hex(transcript, &buffer[..shown]);
+            put_hex(transcript, &buffer[..shown(answer.length, &buffer)]);
             put(transcript, format_args!(" {}", answer.place));
         }
         transcript.push('\n');
         answer
     }
+}
+
+/// How much of a buffer is shown: what was written, without the filling that ends it behind that.
+fn shown(length: usize, buffer: &[u8]) -> usize {
+    let changed = buffer.iter().rposition(|&byte| byte != FILLING);
+    length.max(changed.map_or(0, |place| place + 1))
 }
 
 /// Plays a script from start to end; the last line may lack its LF.
@@ -166,6 +181,9 @@ pub fn parse(line: &[u8]) -> Option<Command> {
             room: room_of(room)?,
         }]),
         [b"tick"] => Command::Play(vec![Event::Tick]),
+        [b"card", room] => Command::Card {
+            room: room_of(room)?,
+        },
         [b"up"] => Command::Play(vec![Event::PowerUp]),
         [b"pulse", wh] => Command::Play(vec![Event::Pulse { wh: decimal(wh)? }]),
         _ => return None,

@@ -1,6 +1,7 @@
 //! The head's script over the model: one call a line in, its answer out.
 
 use crate::bench::{decimal, exactly, hex, put_hex, FILLING, LINE_MOST};
+use crate::card;
 use crate::head::{self, answer, Clock, Command, Kind};
 use crate::mercury::{self, Read};
 use crate::post;
@@ -120,6 +121,12 @@ fn call(words: &[&[u8]]) -> Option<String> {
             let (text, mut out) = (hex(text)?, lent(room)?);
             let (number, length, place) = post::export(&text, &mut out);
             let beside = if number == post::DONE { length } else { place };
+            Some(written(number, beside, length, &out))
+        }
+        [b"card", room, text] => {
+            let (text, mut out) = (hex(text)?, lent(room)?);
+            let (number, length, place) = card::export(&text, &mut out);
+            let beside = if number == card::DONE { length } else { place };
             Some(written(number, beside, length, &out))
         }
         [b"strip", room, reply] => {

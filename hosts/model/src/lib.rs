@@ -1,4 +1,5 @@
 pub mod bench;
+pub mod card;
 pub mod head;
 pub mod headbench;
 pub mod line;

@@ -6,6 +6,7 @@
 //!
 //! It is run in the repository's root, with the programs built.
 
+use model::card::{self, Card};
 use model::head;
 use model::meter::{Meter, Period, PERIODS};
 use model::post::{self, Row, Table, HOURS, LAST, LINE, LONGEST, TABLES};
@@ -200,6 +201,30 @@ fn delivering(text: &[u8]) -> Case {
     }
 }
 
+/// The card exporter on a text.
+fn cardexporter(text: &[u8]) -> Case {
+    let (said, status, reaches) = match card::read(text) {
+        Some(card) => {
+            let reaches = format!("cardexporter: {} tables", card.tables.len());
+            (card::frames_of(&card), 0, reaches)
+        }
+        None => {
+            let place = card::place(text);
+            let reaches = format!("cardexporter: place {place}");
+            (pair(card::NOT_A_CARD, place), 1, reaches)
+        }
+    };
+    Case {
+        program: "cardexporter",
+        words: Vec::new(),
+        input: text.to_vec(),
+        pieces: usize::MAX,
+        said,
+        status,
+        reaches,
+    }
+}
+
 /// A table whose row is its own.
 fn table(number: u8) -> Table {
     let row: Row = std::array::from_fn(|hour| b'1' + (hour as u8 * 7 + number) / 3 % 4);
@@ -244,6 +269,28 @@ fn for_the_exporter(cases: &mut Vec<Case>) {
     cases.push(Case {
         reaches: "exporter: 10,000,000 bytes".to_string(),
         ..exporter(&longer)
+    });
+}
+
+/// Texts for the card exporter: cards of none to 24 tables, cut anywhere, with a wrong byte anywhere,
+/// and longer than any card.
+fn for_the_card_exporter(cases: &mut Vec<Case>) {
+    let longest = card::text_of(&Card {
+        account: *b"STUDIO_7  ",
+        tables: (1..=TABLES).map(table).collect(),
+    });
+    assert_eq!(longest.len(), card::LONGEST);
+    let more = [&longest[..], &longest[..13]].concat();
+    cases.extend((0..=more.len()).map(|length| cardexporter(&more[..length])));
+    for place in 0..card::LONGEST {
+        let mut wrong = longest.clone();
+        wrong[place] = 0xFF;
+        cases.push(cardexporter(&wrong));
+    }
+    let long: Vec<u8> = longest.iter().copied().cycle().take(20_000).collect();
+    cases.push(Case {
+        reaches: "cardexporter: a long input".to_string(),
+        ..cardexporter(&long)
     });
 }
 
@@ -481,7 +528,22 @@ fn held(case: &Case) -> Result<(), String> {
 
 /// The programs as a shell starts them: command, exit status, whether something stands on standard
 /// error, and what is reached.
-const STARTED: [(&str, i32, bool, &str); 24] = [
+const STARTED: [(&str, i32, bool, &str); 34] = [
+    ("./export-card examples/studio.card", 0, false, "status 0"),
+    ("./export-card examples/crafted.card", 1, false, "status 1"),
+    ("./export-card examples/none.card", 2, true, "no file"),
+    ("./show-card examples/studio.card", 0, false, "status 0"),
+    ("./show-card <examples/account.card", 0, false, "status 0"),
+    ("./show-card examples/crafted.card", 1, false, "status 1"),
+    ("./show-card examples/none.card", 2, true, "no file"),
+    ("./show-card /", 2, true, "a directory"),
+    ("./show-card <&-", 2, true, "closed input"),
+    (
+        "./show-card examples/studio.card >/dev/full",
+        2,
+        true,
+        "full",
+    ),
     ("./export-post examples/winter.post", 0, false, "status 0"),
     ("./export-post <examples/winter.post", 0, false, "status 0"),
     ("./export-post examples/crafted.post", 1, false, "status 1"),
@@ -603,6 +665,9 @@ fn to_reach() -> BTreeSet<String> {
         .chain([1, 20].map(|number| format!("delivering: {number}")))
         .chain(STARTED.iter().map(|case| case.3.to_string()))
         .collect();
+    all.extend((0..=card::LONGEST).map(|place| format!("cardexporter: place {place}")));
+    all.extend((0..=TABLES).map(|tables| format!("cardexporter: {tables} tables")));
+    all.insert("cardexporter: a long input".to_string());
     all.insert("exporter: a long input in pieces".to_string());
     all.insert("exporter: 10,000,000 bytes".to_string());
     all
@@ -615,6 +680,7 @@ fn main() -> ExitCode {
     }
     let mut cases = Vec::new();
     for_the_exporter(&mut cases);
+    for_the_card_exporter(&mut cases);
     for_the_readout(&mut cases);
     for_one_register(&mut cases);
     for_closed_months(&mut cases);

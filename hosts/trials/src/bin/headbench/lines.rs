@@ -1,6 +1,7 @@
 //! The lines of the trial: some by hand, the rest by chance, good, nearly good and damaged.
 
 use model::bench::{put_hex, LINE_MOST};
+use model::card::{self, Card};
 use model::head::{block, on_the_wire};
 use model::mercury::{closed, energy};
 use model::post::{text_of, Table};
@@ -76,6 +77,14 @@ pub fn fixed() -> Vec<Vec<u8>> {
         "check -",
         "check 31 31",
         "export 0 -",
+        "card",
+        "card 0",
+        "card -",
+        "card 0 -",
+        "card 19 01000a53545544494f5f372020",
+        "card 18 01000a53545544494f5f372020",
+        "card 1 19 01000a53545544494f5f372020",
+        "card 18446744073709551616 -",
         "export 18446744073709551615 -",
         "strip 0 -",
         "strip 1 2a",
@@ -175,7 +184,7 @@ pub fn fixed() -> Vec<Vec<u8>> {
 
 /// A line of some kind, where this session goes on.
 pub fn any(chance: &mut Chance, session: Option<(&Session, &[u8])>) -> Vec<u8> {
-    let line = match chance.weighed(&[40, 12, 6, 12, 18, 6, 8, 10, 10, 8, 60, 2]) {
+    let line = match chance.weighed(&[40, 12, 6, 12, 18, 6, 8, 10, 10, 8, 60, 8, 2]) {
         0 => build(chance),
         1 => strip(chance),
         2 => part(chance),
@@ -187,6 +196,7 @@ pub fn any(chance: &mut Chance, session: Option<(&Session, &[u8])>) -> Vec<u8> {
         8 => mercury(chance),
         9 => start(chance),
         10 => reply(chance, session),
+        11 => card(chance),
         _ => "quiet".into(),
     };
     let mut line = line.into_bytes();
@@ -387,8 +397,8 @@ fn value(chance: &mut Chance) -> String {
     format!("value {kind} {}", hex(&value))
 }
 
-/// A post, mostly a short one, or nearly one.
-fn post(chance: &mut Chance) -> Vec<u8> {
+/// Tables with rising numbers.
+fn tables(chance: &mut Chance) -> Vec<Table> {
     let share = chance.one_of(&[4, 4, 4, 10, 30, 100]);
     let mut tables = Vec::new();
     for number in 1..=24 {
@@ -397,11 +407,29 @@ fn post(chance: &mut Chance) -> Vec<u8> {
             tables.push(Table { number, row });
         }
     }
+    tables
+}
+
+/// A post, mostly a short one, or nearly one.
+fn post(chance: &mut Chance) -> Vec<u8> {
+    let tables = tables(chance);
     let mut text = text_of(&tables);
     if chance.percent(40) {
         chance.hurt(&mut text);
     }
     text
+}
+
+/// A card, read.
+fn card(chance: &mut Chance) -> String {
+    let account = [(); 10].map(|()| chance.one_of(b"azAZ09 _"));
+    let tables = tables(chance);
+    let needed = 19 + 36 * tables.len();
+    let mut text = card::text_of(&Card { account, tables });
+    if chance.percent(40) {
+        chance.hurt(&mut text);
+    }
+    format!("card {} {}", room(chance, needed), hex(&text))
 }
 
 fn export(chance: &mut Chance) -> String {

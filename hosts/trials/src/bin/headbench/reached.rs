@@ -31,6 +31,7 @@ const CALLS: &[(&str, &[u8])] = &[
     ("mercury read", &[1, 50, 51, 52, 53]),
     ("check", &[1, 20]),
     ("export", &[1, 20, 21]),
+    ("card", &[1, 40, 41]),
     ("strip", &[1, 24, 26]),
     ("part", &[1, 22, 23]),
     ("next", &[0, 1, 25]),
@@ -44,6 +45,7 @@ const MORE: &[&str] = &[
     "room of 64 bits and one",
     "room exact: build",
     "room exact: export",
+    "room exact: card",
     "room exact: strip",
     "empty text",
     "empty line",
@@ -59,6 +61,7 @@ const MORE: &[&str] = &[
     "total asked for",
     "table 24",
     "24 lines exported",
+    "a card of 24 tables read",
     "place past the end",
     "a filling byte that was written",
     "a register found behind others",
@@ -176,7 +179,8 @@ impl Reached {
         };
         self.reach(&format!("{call}: {}", told[0]));
         let done = told[0] == "1";
-        let has_room = call.starts_with("build") || call == "export" || call == "strip";
+        let has_room =
+            call.starts_with("build") || matches!(&call[..], "export" | "card" | "strip");
         if has_room {
             let room: u64 = rest[0].parse().expect("it was taken");
             let exact = match (words[0], done) {
@@ -210,6 +214,7 @@ impl Reached {
             ("find", true) if has_star(rest[1], told[3], told[4]) => {
                 self.reach("a period's line found");
             }
+            ("card", true) if told[1] == "883" => self.reach("a card of 24 tables read"),
             ("export", true) if told[1] == "864" => self.reach("24 lines exported"),
             ("find", true) if told[1] != "1" => self.reach("a register found behind others"),
             ("mercury read", true) if told.contains(&"-") => {

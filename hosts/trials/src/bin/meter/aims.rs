@@ -484,13 +484,19 @@ impl Aim<'_> {
         if self.chance.percent(30) {
             self.player.dump();
         }
+        let room = match self.chance.below(3) {
+            0 => self.chance.below(8_193),
+            _ => self.chance.one_of(&[0, 684, 685, 686]),
+        };
+        self.player.line(format!("card {room}"));
     }
 
     /// A good line spoiled by one byte; now and then it stays a command.
     fn no_command(&mut self) {
         let meter = self.player.meter();
-        let mut line = match self.chance.below(8) {
+        let mut line = match self.chance.below(9) {
             0 => "dump".into(),
+            8 => "card 685".into(),
             1 => "tick".into(),
             2 => "bytes 81af8d0a".into(),
             3 => "byte 81 4096".into(),

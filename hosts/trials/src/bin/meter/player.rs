@@ -61,6 +61,7 @@ impl<'a> Player<'a> {
             Some(Command::New { .. }) => self.reached.made(answers),
             Some(Command::Set(_)) => self.reached.reach("set"),
             Some(Command::Dump) => self.reached.reach("dump"),
+            Some(Command::Card { .. }) => self.reached.card(answers),
             Some(Command::Play(_)) => {}
         }
     }

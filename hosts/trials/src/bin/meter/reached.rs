@@ -14,6 +14,9 @@ const AIMS: &[&str] = &[
     "new, bad facts",
     "set",
     "dump",
+    "card written",
+    "card of a malformed state",
+    "card without room",
     "script line that is an error",
     // Mode 0.
     "sign-on by /?!",
@@ -296,6 +299,15 @@ impl Reached {
         } else {
             self.answers[15] += 1;
             self.reach("new, bad facts");
+        }
+    }
+
+    /// A `card` and its answer line.
+    pub fn card(&mut self, answer: &str) {
+        match answer.split(' ').next() {
+            Some("1") => self.reach("card written"),
+            Some("14") => self.reach("card of a malformed state"),
+            _ => self.reach("card without room"),
         }
     }
 

@@ -1,0 +1,5 @@
+pub mod Grammar
+pub mod Place
+pub mod Columns
+pub mod Fields
+pub mod Frames

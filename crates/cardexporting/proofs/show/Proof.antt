@@ -1,0 +1,28 @@
+-- `cardexporting::show` meets its contract: the frames where the card is read, and else 40 and the place. Assumes nothing.
+use native.Mathlib.Omega.{arith}
+use Prim.Native.Nat.{_*_, _≤_}
+use lib.ListN.{length}
+use Rattle.numerals.proofs.Begun.{begun}
+use Rattle.cardexporting.proofs.Answers.{shows-frames, shows-place}
+use borrow.Author.Needs.{needs}
+use Rattle.cardexporting.proofs.show.Statement.{statement}
+use Rattle.cardexporting.proofs.show.Tie as tie
+
+returns : tie.Need-returns
+returns c =
+    let a = c .before .before .before .before .before .before .before .args in
+    let e = c .before .before .before .read .ensures in
+    let s = shows-frames 24 (a .text .now) (a .out .now) _ _ _ _ e (c .if1 .taken) in
+    (s, begun (a .out .now) (s .shown) _ (s .long) _ (s .held))
+
+returns-2 : tie.Need-returns-2
+returns-2 c =
+    let a = c .before .before .before .before .before .before .before .before .before .before .before .args in
+    let room : 883 ≤ length (a .out .now) = c .before .before .before .before .before .before .before .before .before .before .before .pre in
+    let e = c .before .before .before .before .before .before .before .read .ensures in
+    let line = c .before .before .put-line .ensures in
+    let s = shows-place 24 (a .text .now) (a .out .now) _ _ _ _ e (c .before .before .before .before .if1 .left) room (omega arith) _ (line .0) _ (line .1) in
+    (s, begun (a .out .now) (s .shown) _ (s .long) _ (s .held))
+
+pub show-spec : {M : Type 1} → statement M
+show-spec = tie.close (tie.spec (λ c κs. search needs) (λ c. search needs) returns (λ c κs. search needs) (λ c. search needs) returns-2)

@@ -1,0 +1,79 @@
+// A card written from a state: the account, and all of the tables.
+ghost use mathlib.Core.Path.{_≡_};
+ghost use Prim.Native.Nat.{_+_, _*_, _<_, _≤_};
+ghost use lib.ListN.{length};
+ghost use Rattle.text.specs.Writing.{stored};
+ghost use Rattle.card.specs.Grammar.{tableField, tableFields, cardText};
+ghost use Rattle.cardwriting.specs.Writing.{entryAt, entriesFrom, writtenIn, writtenTo};
+use state::Meter;
+use values::ROW_LENGTH;
+use values::TABLES;
+
+// The bytes of a card with all of its tables.
+pub const CARD: usize = 685;
+
+// The writer's answer: 1 with the card's length, 14 or 41.
+pub struct Written {
+    pub number: u8,
+    pub length: usize,
+}
+
+// Puts a table's field in its place, the first of them being 0.
+fn put_field(out: &mut [u8], rows: &[u8], i: usize)
+    requires { ⌜ (i < 255) × (24 * i + 24 ≤ length (now rows)) × (13 + 28 * i + 28 ≤ length (now out)) ⌝ }
+    ensures { λ _. ⌜ now (out .exit) ≡ stored (now (out .entry)) (13 + 28 * i) (tableField (entryAt (now (rows .entry)) (i + 1))) ⌝ }
+{
+    let number = ((i + 1) % 256) as u8;
+    let row = ROW_LENGTH * i;
+    let end = row + ROW_LENGTH;
+    let at = text::put(out, 13 + 28 * i, &[2, 0, 25, number]);
+    text::put(out, at, &rows[row..end]);
+}
+
+// Puts the fields of so many tables behind the account's.
+fn put_fields(out: &mut [u8], rows: &[u8], tables: usize)
+    requires { ⌜ (tables ≤ 255) × (24 * tables ≤ length (now rows)) × (13 + 28 * tables ≤ length (now out)) ⌝ }
+    ensures { λ _. ⌜ now (out .exit) ≡ stored (now (out .entry)) 13 (tableFields (entriesFrom 0 tables (now (rows .entry)))) ⌝ }
+{
+    let mut i = 0;
+    while i < tables {
+        put_field(out, rows, i);
+        i += 1;
+    }
+}
+
+// Puts the account's field, and those of so many tables.
+fn put_card(out: &mut [u8], account: &[u8], rows: &[u8], tables: usize)
+    requires { ⌜ (length (now account) ≡ 10) × (tables ≤ 255) × (24 * tables ≤ length (now rows)) × (13 + 28 * tables ≤ length (now out)) ⌝ }
+    ensures { λ _. ⌜ now (out .exit) ≡ stored (now (out .entry)) 0 (cardText (now (account .entry)) (entriesFrom 0 tables (now (rows .entry)))) ⌝ }
+{
+    let at = text::put(out, 0, &[1, 0, 10]);
+    text::put(out, at, account);
+    put_fields(out, rows, tables);
+}
+
+// The card of a state, or why there is none; a refusal leaves the buffer as it was.
+pub fn write(m: Meter, out: &mut [u8]) -> Written
+    ensures { λ r. ⌜ (r ≡ writtenIn 24 m (now (out .entry))) × (now (out .exit) ≡ writtenTo 24 m (now (out .entry))) ⌝ }
+{
+    if !state::is_well_formed(m) {
+        return Written {
+            number: 14,
+            length: 0,
+        };
+    }
+    if out.len() < CARD {
+        return Written {
+            number: 41,
+            length: 0,
+        };
+    }
+    let g = m.registers;
+    let account = g.account;
+    let rows = g.tables;
+    put_card(out, &account, &rows, TABLES as usize);
+    Written {
+        number: 1,
+        length: CARD,
+    }
+}

@@ -1,0 +1,134 @@
+/* cardlink.c: reads and writes settings cards as a host does, in memory of its exact size, and tries
+ * fixed cases of request [11]. Prints one line, and exits with 1 on any difference. */
+#include "exactly.h"
+
+#include "dirgemist_card.h"
+
+#include <stdio.h>
+
+#define TABLES 24
+
+static int wrong = 0;
+static int texts = 0;
+
+static void expect(int right, const char *what) {
+    if (!right) {
+        printf("cardlink: differs: %s\n", what);
+        wrong = 1;
+    }
+}
+
+/* The card of tables 1 to `tables`, all '1', into text; its length. */
+static size_t card_of(uint8_t *text, int tables) {
+    memcpy(text, "\001\000\012STUDIO_7  ", 13);
+    for (int number = 1; number <= tables; number++) {
+        uint8_t *field = text + 13 + 28 * (number - 1);
+        memcpy(field, "\002\000\031", 3);
+        field[3] = (uint8_t)number;
+        memset(field + 4, '1', 24);
+    }
+    return 13 + 28 * (size_t)tables;
+}
+
+/* A frame with even parity, its BCC put in. */
+static uint8_t *framed(uint8_t *at, const char *frame, size_t size) {
+    uint8_t bcc = 0;
+    for (size_t i = 0; i < size; i++) {
+        uint8_t c = (uint8_t)frame[i];
+        bcc ^= i > 0 ? c : 0;
+        *at++ = (uint8_t)(c | __builtin_parity(c) << 7);
+    }
+    *at++ = (uint8_t)(bcc | __builtin_parity(bcc) << 7);
+    return at;
+}
+
+static void frames_of(uint8_t *frames, int tables) {
+    frames = framed(frames, "\001W1\002K(STUDIO_7  )\003", 18);
+    for (int number = 1; number <= tables; number++) {
+        char frame[64];
+        sprintf(frame, "\001W1\002Z(%02d;111111111111111111111111)\003", number);
+        frames = framed(frames, frame, 35);
+    }
+}
+
+/* One text through check and reader, in a buffer of `room` bytes of 0x5A. */
+static void try_text(const char *what, const void *text, size_t text_length, size_t room,
+                     uint8_t number, size_t length, size_t place, const uint8_t *frames) {
+    const uint8_t *own = lent(text, text_length);
+    uint8_t *out = exactly(room);
+    memset(out, 0x5A, room);
+    texts++;
+    size_t got_place = 99, got_length = 99;
+    uint8_t got = dirgemist_card_check(own, text_length, &got_place);
+    uint8_t no = DIRGEMIST_CARD_NOT_A_CARD;
+    expect(got == (number == no ? no : DIRGEMIST_CARD_DONE) && got_place == place, what);
+    got = dirgemist_card_read(own, text_length, out, room, &got_length, &got_place);
+    expect(got == number && got_length == length && got_place == place, what);
+    expect(length == 0 || memcmp(out, frames, length) == 0, what);
+    for (size_t at = length; at < room; at++) {
+        expect(out[at] == 0x5A, what);
+    }
+    give_back(own, text_length);
+    give_back(out, room);
+}
+
+/* A meter's card in each room around its length, and read back. */
+static void try_meter(void) {
+    struct dirgemist_meter meter;
+    dirgemist_meter_make(&meter, (const uint8_t *)"0123456789", 10, (const uint8_t *)"STUDIO_7  ", 10,
+                         (const uint8_t *)"00000000", 8, 2024, 2, 29, 12, 0, 0);
+    uint8_t card[DIRGEMIST_CARD_LONGEST];
+    expect(card_of(card, TABLES) == sizeof card, "the longest card");
+    for (size_t room = 0; room <= sizeof card + 2; room++) {
+        uint8_t *out = exactly(room);
+        memset(out, 0x5A, room);
+        texts++;
+        size_t length = 99;
+        uint8_t got = dirgemist_card_write(&meter, out, room, &length);
+        int fits = room >= sizeof card;
+        expect(got == (fits ? DIRGEMIST_CARD_DONE : DIRGEMIST_CARD_NO_ROOM), "a meter's card");
+        expect(length == (fits ? sizeof card : 0), "a meter's card: the length");
+        expect(!fits || memcmp(out, card, sizeof card) == 0, "a meter's card: its bytes");
+        for (size_t at = length; at < room; at++) {
+            expect(out[at] == 0x5A, "a meter's card: the rest of the buffer");
+        }
+        give_back(out, room);
+    }
+    meter.mode = 5;
+    size_t length = 99;
+    uint8_t out[1] = {0x5A};
+    expect(dirgemist_card_write(&meter, out, 1, &length) == DIRGEMIST_CARD_MALFORMED, "malformed, before no room");
+    expect(length == 0 && out[0] == 0x5A, "malformed: nothing written");
+}
+
+int main(void) {
+    uint8_t text[1024], frames[1024];
+    frames_of(frames, TABLES);
+    for (int tables = 0; tables <= TABLES; tables++) {
+        size_t length = card_of(text, tables), size = 19 + 36 * (size_t)tables;
+        try_text("a card", text, length, size, DIRGEMIST_CARD_DONE, size, 0, frames);
+        try_text("a card, more room", text, length, size + 5, DIRGEMIST_CARD_DONE, size, 0, frames);
+        try_text("a card, a byte less", text, length, size - 1, DIRGEMIST_CARD_NO_ROOM, 0, 0, frames);
+        text[length] = 1;
+        try_text("a second account", text, length + 1, size, DIRGEMIST_CARD_NOT_A_CARD, 0, length, frames);
+    }
+    size_t all = card_of(text, TABLES);
+    text[all] = 2;
+    try_text("a table behind the last", text, all + 1, 2000, DIRGEMIST_CARD_NOT_A_CARD, 0, all, frames);
+    for (size_t cut = 0; cut < all; cut++) {
+        int whole = cut >= 13 && (cut - 13) % 28 == 0;
+        size_t size = whole ? 19 + 36 * ((cut - 13) / 28) : 0;
+        try_text("a beginning", text, cut, 900, whole ? DIRGEMIST_CARD_DONE : DIRGEMIST_CARD_NOT_A_CARD, size, whole ? 0 : cut, frames);
+    }
+    card_of(text, 2);
+    text[1] = 10, text[2] = 0;
+    try_text("length bytes swapped", text, 69, 0, DIRGEMIST_CARD_NOT_A_CARD, 0, 1, frames);
+    card_of(text, 2);
+    text[13 + 28 + 3] = 1;
+    try_text("equal numbers", text, 69, 0, DIRGEMIST_CARD_NOT_A_CARD, 0, 44, frames);
+    card_of(text, 1);
+    try_text("a length for more than there is", text, 30, 0, DIRGEMIST_CARD_NOT_A_CARD, 0, 30, frames);
+    try_meter();
+    printf("cardlink: %d texts and records\n", texts);
+    return wrong;
+}
