@@ -82,10 +82,11 @@ int main(void) {
     meeting = most(meeting, SAID("/?!\r\n\006050\r\n/?123 4567890!\r\n\006051\r\n"));
     meeting = most(meeting, SAID("\001P1\002(20304050)\003\x61"));
     meeting = most(meeting, SAID("\001W1\002Z(04;111111111111111111111111)\003\003"));
-    meeting = most(meeting, SAID("\001W1\002K(Kiln_8 new)\003\x10\001W1\002T(01-03-2024;00:00:00)\003\x12"));
+    meeting = most(meeting, SAID("\001W1\002K(Kiln_8 new)\003\x36\001W1\002T(29-02-2024;23:59:59)\003\x05"));
     meeting = most(meeting, SAID("\001R1\002E0()\003\x16\001R1\002T()\003\x37\001R1\002Z(07)\003\x3e"));
     meeting = most(meeting, SAID("\001R1\002L()\003\x2f\001R1\002K()\003\x28\001B0\003\x71"));
     meeting = most(meeting, SAID("/C!\r\n\006056\r\n"));
+    /* The last second of February: a month is closed. */
     meeting = most(meeting, happened(DIRGEMIST_TICK, 0));
     meeting = most(meeting, happened(DIRGEMIST_PULSE, 1000000));
     meeting = most(meeting, happened(DIRGEMIST_PULSE, 1000001));

@@ -158,7 +158,7 @@ module _ (t : Told) (work : List ℕ) (o : Opening) (p : PostBegan t work o) (ki
   with-good i =
       let f = formed-registers g good in
       registers-good (with-lines i)
-      (record { facts = f .facts; account = f .account; clock = f .clock; counters = f .counters; tables = after-good (g .tables) 0 es i rise (f .tables) })
+      (record { facts = f .facts; account = f .account; clock = f .clock; counters = f .counters; tables = after-good (g .tables) 0 es i rise (f .tables); archive = f .archive })
 
   fit-with : (i : ℕ) → Fit 4 0 5 (with-lines i)
   fit-with i = record { known = lit≤ tt; attempts = lit≤ tt; speed = unfold speedGood in refl; registers = with-good i }

@@ -18,11 +18,11 @@ use Rattle.values.specs.Registers.{goodDigits, goodSerial}
 use Rattle.values.specs.Texts.{serialText}
 use Rattle.frames.specs.Frames.{closed, frameOf, bareFrame}
 use Rattle.frames.specs.Commands.{bracketed}
-use Rattle.frames.specs.Session.{signOn, signOnTo, confirmation, goodSpeed, enterData, passwordData}
+use Rattle.frames.specs.Session.{signOn, closingSignOn, signOnTo, confirmation, goodSpeed, enterData, passwordData}
 use Rattle.datasets.proofs.Characters.{Within, within}
 use Rattle.commands.specs.Building.{goodChoice}
 use Rattle.commands.specs.Spoken.{Command, enter, password, readClock, readSerial, readAccount, readTotal, readZone, readTable, writeClock, writeAccount, writeTable, goodFields, lettersOf, dataOf, spoken}
-use Rattle.commands.specs.Messages.{Message, call, callTo, confirm, command, leave, textOf, goodMessage}
+use Rattle.commands.specs.Messages.{Message, call, close, callTo, confirm, command, leave, textOf, goodMessage}
 use Rattle.dialogue.specs.Messages.{allowedAt, allowedIn}
 use Rattle.dialogue.proofs.Commands.{bodyOf}
 use Rattle.readback.proofs.Commands.{command-printable, letters-printable}
@@ -89,7 +89,8 @@ speed-mild v h = ⊎-elim (equal-mild v 48 refl) (equal-mild v 53 refl) (or-case
 choice-mild : (y : ℕ) → goodChoice y ≡ true → mild y ≡ true
 unfolding goodChoice mild
 choice-mild y h =
-    ⊎-elim (λ e. ⊎-elim (equal-mild y 48 refl) (equal-mild y 49 refl) (or-cases (eqb y 48) (eqb y 49) e)) (equal-mild y 55 refl) (or-cases (eqb y 48 || eqb y 49) (eqb y 55) h)
+    ⊎-elim (λ e. ⊎-elim (λ f. ⊎-elim (equal-mild y 48 refl) (equal-mild y 54 refl) (or-cases (eqb y 48) (eqb y 54) f)) (equal-mild y 55 refl)
+    (or-cases (eqb y 48 || eqb y 54) (eqb y 55) e)) (equal-mild y 49 refl) (or-cases ((eqb y 48 || eqb y 54) || eqb y 55) (eqb y 49) h)
 
 shape-confirm : (mode v y : ℕ) → goodSpeed v ≡ true → goodChoice y ≡ true → Shape mode (confirmation v y)
 unfolding confirmation every
@@ -160,6 +161,9 @@ unfolding goodMessage allowedIn textOf
 shaped mode call h k =
     unfold signOn in
     (record { first = 47; inside = 63 ∷ 33 ∷ 13 ∷ []; last = 10; is = refl; opens-none = all-mild mode (63 ∷ 33 ∷ 13 ∷ []) (unfold every mild in refl) })
+shaped mode close h k =
+    unfold closingSignOn in
+    (record { first = 47; inside = 67 ∷ 33 ∷ 13 ∷ []; last = 10; is = refl; opens-none = all-mild mode (67 ∷ 33 ∷ 13 ∷ []) (unfold every mild in refl) })
 shaped mode (callTo s) h k = shape-to mode s h
 shaped mode (confirm v y) h k = shape-confirm mode v y (and-left (goodSpeed v) (goodChoice y) h) (and-right (goodSpeed v) (goodChoice y) h)
 shaped mode (command c) h k = shape-command mode c h k
