@@ -3,6 +3,7 @@ use mathlib.Core.Bool.{Bool, true, _&&_}
 use mathlib.Core.List.{List, [], _∷_, _++_}
 use Prim.Native.Nat.{ℕ}
 use lib.ListN.{replicate}
+use Rattle.line.specs.Quoted.{chars}
 use Rattle.text.specs.Writing.{holding}
 use Rattle.clock.specs.Seconds.{realClock}
 use Rattle.values.specs.Registers.{goodSerial, goodPassword, goodAccount, goodRow, goodTable, goodZone}
@@ -26,7 +27,7 @@ room = replicate 64 0
 
 -- 24 characters, the last of them a bracket
 unfoldable pub broken : List ℕ
-broken = replicate 23 49 ++ (41 ∷ [])
+broken = replicate 23 49 ++ (chars ")")
 
 -- of `commands`
 pub record Commands : Type 0 where
@@ -34,10 +35,10 @@ pub record Commands : Type 0 where
   pub «sign_on» : NotLeft room true (onWire signOn) (holding room signOn) × NotAnswered room true (onWire signOn) 1 3
   -- the plain sign-on; `/c!`
   pub close : NotLeft room true (onWire closingSignOn) (holding room (onWire signOn))
-      × NotLeft room true (onWire closingSignOn) (holding room (onWire (47 ∷ 99 ∷ 33 ∷ 13 ∷ 10 ∷ [])))
+      × NotLeft room true (onWire closingSignOn) (holding room (onWire (chars "/c!\r\n")))
   -- nine digits; no space after three of them
   pub «sign_on_to» : NotAnswered room (goodSerial (replicate 9 49)) (onWire (signOnTo (replicate 9 49))) 1 15
-      × NotLeft room (goodSerial serial) (onWire (signOnTo serial)) (holding room (onWire (47 ∷ 63 ∷ (serial ++ (33 ∷ 13 ∷ 10 ∷ [])))))
+      × NotLeft room (goodSerial serial) (onWire (signOnTo serial)) (holding room (onWire (chars "/?" ++ (serial ++ (chars "!\r\n")))))
   -- '8' confirmed; '6' refused
   pub confirm : NotAnswered room (goodSpeed 53 && goodChoice 56) (onWire (confirmation 53 56)) 1 6
       × NotAnswered room (goodSpeed 53 && goodChoice 54) (onWire (confirmation 53 54)) 9 0
@@ -67,7 +68,7 @@ pub record Commands : Type 0 where
       × NotLeft room (goodZone 2) (onWire (frameOf R1 (askEnergy 2))) (holding room (onWire (frameOf R1 (askEnergy 1))))
   -- table 25; one digit for a number below 10
   pub «read_table» : NotAnswered room (goodTable 24 25) (onWire (frameOf R1 (askTable 25))) 1 11
-      × NotLeft room (goodTable 24 7) (onWire (frameOf R1 (askTable 7))) (holding room (onWire (frameOf R1 (90 ∷ bracketed (55 ∷ [])))))
+      × NotLeft room (goodTable 24 7) (onWire (frameOf R1 (askTable 7))) (holding room (onWire (frameOf R1 (90 ∷ bracketed (chars "7")))))
   -- 29-02-2001 taken; the month first
   pub «write_clock» : NotAnswered room (realClock (clockAt 2001 2 29 0 0 0)) (onWire (frameOf W1 (setClock (clockAt 2001 2 29 0 0 0)))) 1 28
       × NotLeft room (realClock (clockAt 2001 2 3 0 0 0)) (onWire (frameOf W1 (setClock (clockAt 2001 2 3 0 0 0))))

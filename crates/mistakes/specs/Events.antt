@@ -2,6 +2,8 @@
 use mathlib.Core.Bool.{true, false}
 use mathlib.Core.List.{[], _∷_}
 use lib.ListN.{length, getD, take, replicate}
+use Rattle.line.specs.Controls.{ACK, SOH}
+use Rattle.line.specs.Quoted.{chars}
 use Rattle.line.specs.Characters.{sent}
 use Rattle.text.specs.Writing.{holding}
 use Rattle.frames.specs.Frames.{frameOf, bareFrame, onWire}
@@ -36,21 +38,21 @@ toldMet = met told replyRoom (eventOf 0 (sent (getD (frameOf W1 (setTable 7 twos
 
 -- a password of three digits, all but its BCC held; and what its BCC comes to
 unfoldable pub shortPassword : Meter
-shortPassword = heldIn 2 (take 10 (frameOf P1 (bracketed (49 ∷ 50 ∷ 51 ∷ []))))
+shortPassword = heldIn 2 (take 10 (frameOf P1 (bracketed (chars "123"))))
 
 unfoldable pub shortTried : Outcome
-shortTried = character shortPassword replyRoom (sent (getD (frameOf P1 (bracketed (49 ∷ 50 ∷ 51 ∷ []))) 10 0))
+shortTried = character shortPassword replyRoom (sent (getD (frameOf P1 (bracketed (chars "123"))) 10 0))
 
 -- /?! CR held, and its LF
 unfoldable pub signedOn : Outcome
-signedOn = character (heldIn 0 (47 ∷ 63 ∷ 33 ∷ 13 ∷ [])) replyRoom (sent 10)
+signedOn = character (heldIn 0 (chars "/?!\r")) replyRoom (sent 10)
 
 -- request [1]: ACK 0 0 1 CR held in mode 1, and its LF; the same with the digit 1
 unfoldable pub slowConfirmed : Outcome
-slowConfirmed = character (heldIn 1 (6 ∷ 48 ∷ 48 ∷ 49 ∷ 13 ∷ [])) replyRoom (sent 10)
+slowConfirmed = character (heldIn 1 (ACK ∷ chars "001\r")) replyRoom (sent 10)
 
 unfoldable pub oddConfirmed : Outcome
-oddConfirmed = character (heldIn 1 (6 ∷ 48 ∷ 49 ∷ 49 ∷ 13 ∷ [])) replyRoom (sent 10)
+oddConfirmed = character (heldIn 1 (ACK ∷ chars "011\r")) replyRoom (sent 10)
 
 -- the right password in a slow session, all but its BCC held, and its BCC
 unfoldable pub slowEntered : Outcome
@@ -76,7 +78,7 @@ hurtLast = character (heldIn 4 (take 4 (bareFrame B0))) replyRoom 193
 -- SOH and three characters, and then SOH, a damaged one, ETX and a BCC
 unfoldable pub hurtAnew : Outcome
 hurtAnew =
-    let begun = character (heldIn 4 (1 ∷ 66 ∷ 48 ∷ 48 ∷ [])) replyRoom (sent 1) .next in
+    let begun = character (heldIn 4 (SOH ∷ chars "B00")) replyRoom (sent 1) .next in
     let damaged = character begun replyRoom 193 .next in
     character (character damaged replyRoom (sent 3) .next) replyRoom (sent 0)
 

@@ -2,6 +2,7 @@
 use mathlib.Core.List.{List, [], _∷_, _++_}
 use Prim.Native.Nat.{ℕ}
 use lib.ListN.{take, replicate}
+use Rattle.line.specs.Quoted.{chars}
 use Rattle.state.specs.declared.Meter.{Meter}
 use Rattle.state.specs.Setting.{inMode, withAttempts}
 use Rattle.post.specs.Grammar.{Entry, lineText, postText}
@@ -32,12 +33,12 @@ unfoldable pub bracketed : List ℕ
 bracketed = postText (entry 7 broken ∷ [])
 
 abbrev pub lastAlone : List ℕ
-lastAlone = 33 ∷ 13 ∷ 10 ∷ []
+lastAlone = chars "!\r\n"
 
 -- of `post`
 pub record Checks : Type 0 where
   -- a post refused, at whatever place; a '1' below table 24 as the beginning of a line
-  pub check : ((place : ℕ) → CheckedAs 24 (postText one) 20 place → ⊥) × (CheckedAs 24 (lineText 24 twos ++ (49 ∷ [])) 20 37 → ⊥)
+  pub check : ((place : ℕ) → CheckedAs 24 (postText one) 20 place → ⊥) × (CheckedAs 24 (lineText 24 twos ++ (chars "1")) 20 37 → ⊥)
   -- equal numbers accepted; a bracket within a row accepted
   pub check-lines : (CheckedAs 24 twice 1 0 → ⊥) × (CheckedAs 24 bracketed 1 0 → ⊥)
   -- table 7 of 6 accepted; table 7 of 7 refused

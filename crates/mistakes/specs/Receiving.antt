@@ -3,6 +3,8 @@ use mathlib.Core.Bool.{true, false}
 use mathlib.Core.List.{[], _∷_, _++_}
 use Prim.Native.Nat.{_*_}
 use lib.ListN.{getD, take, drop, set, replicate}
+use Rattle.line.specs.Controls.{SOH}
+use Rattle.line.specs.Quoted.{chars}
 use Rattle.text.specs.Writing.{stored}
 use Rattle.clock.specs.Seconds.{dateOf}
 use Rattle.frames.specs.Frames.{frameOf}
@@ -27,7 +29,7 @@ pub record Hearings : Type 0 where
   -- a BCC that is SOH as a new frame; a '/' within a line held
   pub hear : RuledOut (hearing 2 5 3 1) Restart × RuledOut (hearing 0 3 63 47) Hold
   -- the first one; one too many back where three are held
-  pub «last_held» : RuledOut (lastHeld (heldIn 2 (1 ∷ 66 ∷ 48 ∷ []) .receiver)) 1 × RuledOut (lastHeld (heldIn 2 (1 ∷ 66 ∷ 48 ∷ []) .receiver)) 66
+  pub «last_held» : RuledOut (lastHeld (heldIn 2 (SOH ∷ chars "B0") .receiver)) 1 × RuledOut (lastHeld (heldIn 2 (SOH ∷ chars "B0") .receiver)) 66
   -- a mark that the next good character takes away; held, and not counted
   pub keep : RuledOut (keptReceiver (keptReceiver (restartedReceiver 1) 0 true) 66 false) (keptReceiver (keptReceiver (restartedReceiver 1) 0 false) 66 false)
       × RuledOut (keptReceiver (restartedReceiver 1) 66 false) (withHeld emptyReceiver (set (restartedReceiver 1 .held) 1 66) 1)
@@ -42,7 +44,7 @@ pub record Hearings : Type 0 where
 -- of `deciding`
 pub record Decisions : Type 0 where
   -- three digits as a password, which would count an attempt; a write in the mode that only reads
-  pub decide : RuledOut (verdict 2 (take 10 (frameOf P1 (bracketed (49 ∷ 50 ∷ 51 ∷ [])))) false (getD (frameOf P1 (bracketed (49 ∷ 50 ∷ 51 ∷ []))) 10 0)) Password
+  pub decide : RuledOut (verdict 2 (take 10 (frameOf P1 (bracketed (chars "123")))) false (getD (frameOf P1 (bracketed (chars "123"))) 10 0)) Password
       × RuledOut (verdict 3 (take 35 (frameOf W1 (setTable 7 twos))) false (getD (frameOf W1 (setTable 7 twos)) 35 0)) (WriteTable (record { 0 = 7 }))
 
 -- of `state::setting`
@@ -66,7 +68,7 @@ pub record Setting : Type 0 where
   pub ten : RuledOut serial (replicate 10 48) × RuledOut serial (drop 1 serial ++ (0 ∷ []))
   -- the row of table 7 in table 8; its first character alone
   pub «with_row» : RuledOut (withRow (newMeter .registers .tables) 7 twos) (withRow (newMeter .registers .tables) 8 twos)
-      × RuledOut (withRow (newMeter .registers .tables) 7 twos) (withRow (newMeter .registers .tables) 7 (50 ∷ []))
+      × RuledOut (withRow (newMeter .registers .tables) 7 twos) (withRow (newMeter .registers .tables) 7 (chars "2"))
   -- a row too far on; a character a table
   pub «row_start» : RuledOut (rowStart 2) 48 × RuledOut (rowStart 2) 1
   -- the old counters; the first of the new ones alone
@@ -94,8 +96,8 @@ pub record Tariff : Type 0 where
   -- a working day's table on a Saturday; a Saturday's on a Monday
   pub «table_for» : RuledOut (tableFor (dateOf 2000 1 1)) 1 × RuledOut (tableFor (dateOf 2000 1 3)) 13
   -- the zone of the hour before; the character for its number
-  pub «zone_in» : RuledOut (zoneIn (withTables used (stored (newMeter .registers .tables) 300 (50 ∷ [])))) 1
-      × RuledOut (zoneIn (withTables used (stored (newMeter .registers .tables) 300 (50 ∷ [])))) 50
+  pub «zone_in» : RuledOut (zoneIn (withTables used (stored (newMeter .registers .tables) 300 (chars "2")))) 1
+      × RuledOut (zoneIn (withTables used (stored (newMeter .registers .tables) 300 (chars "2")))) 50
   -- the next zone's counter; 1,000,000,000 Wh and no return to 0
   pub count : RuledOut (counted noCounters 2 5) (withZones noCounters (0 ∷ 0 ∷ 5 ∷ 0 ∷ []))
       × RuledOut (counted (withZones noCounters (999999999 ∷ 0 ∷ 0 ∷ 0 ∷ [])) 1 1) (withZones noCounters (1000000000 ∷ 0 ∷ 0 ∷ 0 ∷ []))

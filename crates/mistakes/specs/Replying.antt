@@ -4,6 +4,8 @@ use mathlib.Core.List.{List, [], _∷_, _++_}
 use Prim.Native.Nat.{ℕ}
 use denote.Ref.{now}
 use lib.ListN.{take, drop, replicate}
+use Rattle.line.specs.Controls.{ETX, STX}
+use Rattle.line.specs.Quoted.{chars}
 use Rattle.clock.specs.Seconds.{dateOf, timeOf}
 use Rattle.values.specs.Texts.{serialText, dateText, timeText, counterText}
 use Rattle.values.specs.Reading.{dateRead, timeRead, counterRead}
@@ -24,11 +26,11 @@ use Rattle.mistakes.specs.Samples.{serial, account, twos}
 
 -- STX H ETX BCC
 unfoldable pub block : List ℕ
-block = blockOf (72 ∷ [])
+block = blockOf (chars "H")
 
 -- the same with a wrong BCC
 unfoldable pub misSummed : List ℕ
-misSummed = 2 ∷ 72 ∷ 3 ∷ 0 ∷ []
+misSummed = STX ∷ chars "H" ++ ETX ∷ 0 ∷ []
 
 -- what `part` hands back
 abbrev pub partIn : List ℕ → List ℕ
@@ -36,32 +38,32 @@ partIn s = take (partOf s .length) (drop (partOf s .start) s)
 
 -- A(1) CR LF B(22) CR LF ! CR LF: sets at 0 and 6, the end at 13
 unfoldable pub twoSets : List ℕ
-twoSets = dataSet (65 ∷ []) (49 ∷ []) ++ (dataSet (66 ∷ []) (50 ∷ 50 ∷ []) ++ (33 ∷ 13 ∷ 10 ∷ []))
+twoSets = dataSet (chars "A") (chars "1") ++ (dataSet (chars "B") (chars "22") ++ (chars "!\r\n"))
 
 -- of `damage`
 pub record Damage : Type 0 where
   -- the last damaged byte of a run; the number of damaged ones
-  pub «first_damaged» : RuledOut (firstDamaged (65 ∷ 193 ∷ 66 ∷ 193 ∷ [])) 3 × RuledOut (firstDamaged (65 ∷ 193 ∷ 66 ∷ 193 ∷ [])) 2
+  pub «first_damaged» : RuledOut (firstDamaged (0x41 ∷ 0xC1 ∷ 0x42 ∷ 0xC1 ∷ [])) 3 × RuledOut (firstDamaged (0x41 ∷ 0xC1 ∷ 0x42 ∷ 0xC1 ∷ [])) 2
 
 -- of `blocks`
 pub record Blocks : Type 0 where
   -- a damaged byte stripped; the bytes before it written, and then 24
-  pub strip : ((after : List ℕ) → Strips (193 ∷ []) (0 ∷ []) (record { number = 1; length = 1; place = 0 }) after → ⊥)
-      × ((r : Stripped) → Strips (65 ∷ 193 ∷ []) (0 ∷ 0 ∷ []) r (65 ∷ 0 ∷ []) → ⊥)
+  pub strip : ((after : List ℕ) → Strips (0xC1 ∷ []) (0 ∷ []) (record { number = 1; length = 1; place = 0 }) after → ⊥)
+      × ((r : Stripped) → Strips (0x41 ∷ 0xC1 ∷ []) (0 ∷ 0 ∷ []) r (chars "A" ++ 0 ∷ []) → ⊥)
   -- the place of the last damaged byte; no place
-  pub strip-place : ((after : List ℕ) → Strips (65 ∷ 193 ∷ 193 ∷ []) (0 ∷ 0 ∷ 0 ∷ []) (record { number = 24; length = 0; place = 2 }) after → ⊥)
-      × ((after : List ℕ) → Strips (65 ∷ 193 ∷ 193 ∷ []) (0 ∷ 0 ∷ 0 ∷ []) (record { number = 24; length = 0; place = 0 }) after → ⊥)
+  pub strip-place : ((after : List ℕ) → Strips (0x41 ∷ 0xC1 ∷ 0xC1 ∷ []) (0 ∷ 0 ∷ 0 ∷ []) (record { number = 24; length = 0; place = 2 }) after → ⊥)
+      × ((after : List ℕ) → Strips (0x41 ∷ 0xC1 ∷ 0xC1 ∷ []) (0 ∷ 0 ∷ 0 ∷ []) (record { number = 24; length = 0; place = 0 }) after → ⊥)
   -- the ETX in the part; a BCC with its top bit set
-  pub find : (Within block (record { number = 1; start = 1; length = 2 }) → ⊥) × (Within (2 ∷ 72 ∷ 3 ∷ 203 ∷ []) (record { number = 1; start = 1; length = 1 }) → ⊥)
+  pub find : (Within block (record { number = 1; start = 1; length = 2 }) → ⊥) × (Within (STX ∷ chars "H" ++ ETX ∷ 203 ∷ []) (record { number = 1; start = 1; length = 1 }) → ⊥)
   -- no BCC checked; a block without ETX called one with a wrong BCC
-  pub «part_check» : RuledOut (partOf misSummed .number) 1 × RuledOut (partOf (2 ∷ 72 ∷ 72 ∷ 75 ∷ []) .number) 23
+  pub «part_check» : RuledOut (partOf misSummed .number) 1 × RuledOut (partOf (STX ∷ chars "HHK") .number) 23
   -- the ETX in the part; the data of a block with a wrong BCC
-  pub part : RuledOut (partIn block) (72 ∷ 3 ∷ []) × RuledOut (partIn misSummed) (72 ∷ [])
+  pub part : RuledOut (partIn block) (chars "H" ++ ETX ∷ []) × RuledOut (partIn misSummed) (chars "H")
 
 -- of `reading`
 pub record Sets : Type 0 where
   -- on at the end; the next line after a set that does not close
-  pub «next_set» : RuledOut (setRead twoSets 13) (endAt 16) × RuledOut (setRead (65 ∷ 40 ∷ 49 ∷ 13 ∷ 10 ∷ []) 0) (record { number = 25; «address_length» = 0; «value_length» = 0; next = 5; place = 0 })
+  pub «next_set» : RuledOut (setRead twoSets 13) (endAt 16) × RuledOut (setRead (chars "A(1\r\n") 0) (record { number = 25; «address_length» = 0; «value_length» = 0; next = 5; place = 0 })
 
 -- of `reader::Reader`
 pub record Readers : Type 0 where
@@ -73,26 +75,26 @@ pub record Readers : Type 0 where
 pub record Walks : Type 0 where
   -- the set counted without its line end; a value of 33 characters
   pub «read_at» : RuledOut (setRead twoSets 0) (record { number = 1; «address_length» = 1; «value_length» = 1; next = 4; place = 0 })
-      × RuledOut (setRead (dataSet (65 ∷ []) (replicate 33 49)) 0) (setAt 0 1 33)
+      × RuledOut (setRead (dataSet (chars "A") (replicate 33 49)) 0) (setAt 0 1 33)
   -- the first set again; past the last line to the end of the data
   pub «set_after» : RuledOut (setAfter twoSets 1) (record { start = 0; set = setAt 0 1 1 }) × RuledOut (setAfter twoSets 3) (record { start = 16; set = endAt 16 })
 
 -- A(1) CR LF A(22) CR LF: the same address at 0 and 6
 unfoldable pub sameTwice : List ℕ
-sameTwice = dataSet (65 ∷ []) (49 ∷ []) ++ dataSet (65 ∷ []) (50 ∷ 50 ∷ [])
+sameTwice = dataSet (chars "A") (chars "1") ++ dataSet (chars "A") (chars "22")
 
 -- A CR LF B(1) CR LF: a malformed set before a good one
 unfoldable pub badFirst : List ℕ
-badFirst = 65 ∷ 13 ∷ 10 ∷ dataSet (66 ∷ []) (49 ∷ [])
+badFirst = chars "A\r\n" ++ dataSet (chars "B") (chars "1")
 
 -- of `finding`
 pub record Finds : Type 0 where
   -- the position counted from 0; the last of two matches
-  pub find : RuledOut (lookup twoSets (66 ∷ [])) (matchedAt 1 6 (setAt 6 1 2)) × RuledOut (lookup sameTwice (65 ∷ [])) (matchedAt 2 6 (setAt 6 1 2))
+  pub find : RuledOut (lookup twoSets (chars "B")) (matchedAt 1 6 (setAt 6 1 2)) × RuledOut (lookup sameTwice (chars "A")) (matchedAt 2 6 (setAt 6 1 2))
   -- a set whose address only begins with what is asked for; one whose address is only the beginning of it
-  pub find-compared : RuledOut (lookup (dataSet (65 ∷ 66 ∷ []) (49 ∷ [])) (65 ∷ [])) (matchedAt 1 0 (setAt 0 2 1)) × RuledOut (lookup twoSets (65 ∷ 66 ∷ [])) (matchedAt 1 0 (setAt 0 1 1))
+  pub find-compared : RuledOut (lookup (dataSet (chars "AB") (chars "1")) (chars "A")) (matchedAt 1 0 (setAt 0 2 1)) × RuledOut (lookup twoSets (chars "AB")) (matchedAt 1 0 (setAt 0 1 1))
   -- on behind a malformed set; 27 in place of 25
-  pub find-stopped : RuledOut (lookup badFirst (66 ∷ []) .number) 1 × RuledOut (lookup badFirst (66 ∷ []) .number) 27
+  pub find-stopped : RuledOut (lookup badFirst (chars "B") .number) 1 × RuledOut (lookup badFirst (chars "B") .number) 27
 
 -- of `headlink::fields`
 pub record Fields : Type 0 where

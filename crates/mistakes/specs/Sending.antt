@@ -3,6 +3,8 @@ use mathlib.Core.Bool.{true}
 use mathlib.Core.List.{[], _∷_, _++_}
 use Prim.Native.Nat.{_*_}
 use lib.ListN.{take, drop, replicate}
+use Rattle.line.specs.Controls.{ETX, SOH}
+use Rattle.line.specs.Quoted.{chars}
 use Rattle.text.specs.Writing.{stored, holding}
 use Rattle.clock.specs.Seconds.{dateOf, timeOf}
 use Rattle.values.specs.declared.Energy.the-variants.{Total}
@@ -26,11 +28,11 @@ use Rattle.mistakes.specs.Samples.{noon, stampAt, serial, account, passw
 -- of `frames`
 pub record Frames : Type 0 where
   -- SOH summed into the BCC; the byte past the frame cleared
-  pub seal : RuledOut (holding (1 ∷ 66 ∷ 48 ∷ 0 ∷ 0 ∷ 9 ∷ []) (onWire (sealed (take 3 (1 ∷ 66 ∷ 48 ∷ 0 ∷ 0 ∷ 9 ∷ []))))) (129 ∷ 66 ∷ 48 ∷ 3 ∷ 240 ∷ 9 ∷ [])
-      × RuledOut (holding (1 ∷ 66 ∷ 48 ∷ 0 ∷ 0 ∷ 9 ∷ []) (onWire (sealed (take 3 (1 ∷ 66 ∷ 48 ∷ 0 ∷ 0 ∷ 9 ∷ []))))) (129 ∷ 66 ∷ 48 ∷ 3 ∷ 113 ∷ 0 ∷ [])
+  pub seal : RuledOut (holding (SOH ∷ chars "B0" ++ 0 ∷ 0 ∷ 9 ∷ []) (onWire (sealed (take 3 (SOH ∷ chars "B0" ++ 0 ∷ 0 ∷ 9 ∷ []))))) (129 ∷ chars "B0" ++ ETX ∷ 240 ∷ 9 ∷ [])
+      × RuledOut (holding (SOH ∷ chars "B0" ++ 0 ∷ 0 ∷ 9 ∷ []) (onWire (sealed (take 3 (SOH ∷ chars "B0" ++ 0 ∷ 0 ∷ 9 ∷ []))))) (129 ∷ chars "B0" ++ ETX ∷ chars "q" ++ 0 ∷ [])
   -- parity put on what follows as well; no parity
-  pub send : RuledOut (onWire (take 1 (97 ∷ 98 ∷ [])) ++ drop 1 (97 ∷ 98 ∷ [])) (225 ∷ 226 ∷ [])
-      × RuledOut (onWire (take 1 (97 ∷ 98 ∷ [])) ++ drop 1 (97 ∷ 98 ∷ [])) (97 ∷ 98 ∷ [])
+  pub send : RuledOut (onWire (take 1 (chars "ab")) ++ drop 1 (chars "ab")) (0xE1 ∷ 0xE2 ∷ [])
+      × RuledOut (onWire (take 1 (chars "ab")) ++ drop 1 (chars "ab")) (chars "ab")
 
 -- of `state`
 pub record States : Type 0 where
@@ -40,8 +42,8 @@ pub record States : Type 0 where
   pub «is_well_formed» : RuledOut (wellFormed (withRegisters newMeter (withTables (newMeter .registers) (replicate (tables * rowLength) 53)))) true
       × RuledOut (wellFormed (withReceiver newMeter (withMark emptyReceiver 1 0))) true
   -- with a mark a place that nothing is held at; a place without a mark
-  pub is-well-formed-place : RuledOut (wellFormed (withReceiver (heldIn 2 (1 ∷ 66 ∷ [])) (withMark (heldIn 2 (1 ∷ 66 ∷ []) .receiver) 1 2))) true
-      × RuledOut (wellFormed (withReceiver (heldIn 2 (1 ∷ 66 ∷ [])) (withMark (heldIn 2 (1 ∷ 66 ∷ []) .receiver) 0 1))) true
+  pub is-well-formed-place : RuledOut (wellFormed (withReceiver (heldIn 2 (SOH ∷ chars "B")) (withMark (heldIn 2 (SOH ∷ chars "B") .receiver) 1 2))) true
+      × RuledOut (wellFormed (withReceiver (heldIn 2 (SOH ∷ chars "B")) (withMark (heldIn 2 (SOH ∷ chars "B") .receiver) 0 1))) true
   -- a total that is off by one; a sum that is not rolled over
   pub is-well-formed-total : RuledOut (wellFormed (withRegisters newMeter (withCounters (newMeter .registers) (withTotal noCounters 1)))) true
       × RuledOut (wellFormed (withRegisters newMeter (withCounters (newMeter .registers) (withTotal (withZones noCounters (999999999 ∷ 1 ∷ 0 ∷ 0 ∷ [])) 1000000000)))) true
@@ -88,11 +90,11 @@ pub record Replies : Type 0 where
   pub identify : RuledOut (holding (replicate 19 0) (onWire identification)) identification
       × RuledOut (holding (replicate 19 0) (onWire identification)) (holding (replicate 19 0) (onWire (take 17 identification)))
   -- NAK; odd parity
-  pub acknowledge : RuledOut (holding (0 ∷ []) (onWire accepted)) (onWire refused) × RuledOut (holding (0 ∷ []) (onWire accepted)) (134 ∷ [])
+  pub acknowledge : RuledOut (holding (0 ∷ []) (onWire accepted)) (onWire refused) × RuledOut (holding (0 ∷ []) (onWire accepted)) (0x86 ∷ [])
   -- ACK; no parity
   pub refuse : RuledOut (holding (0 ∷ []) (onWire refused)) (onWire accepted) × RuledOut (holding (0 ∷ []) (onWire refused)) refused
   -- P1 for P0; no data
-  pub «ask_password» : RuledOut (holding (replicate 12 0) (onWire passwordAsk)) (onWire (frameOf P1 (bracketed (48 ∷ 48 ∷ 48 ∷ 48 ∷ []))))
+  pub «ask_password» : RuledOut (holding (replicate 12 0) (onWire passwordAsk)) (onWire (frameOf P1 (bracketed (chars "0000"))))
       × RuledOut (holding (replicate 12 0) (onWire passwordAsk)) (holding (replicate 12 0) (onWire (bareFrame P0)))
   -- a total without the fourth counter; the row of the next table
   pub answer : RuledOut (holding (replicate replyRoom 0) (onWire (blockOf (askedData used (Energy Total))))) (holding (replicate replyRoom 0) (onWire (blockOf (lineOf (energySet 0 7)))))

@@ -2,6 +2,7 @@
 use mathlib.Core.Bool.{true, false}
 use mathlib.Core.List.{[], _∷_, _++_}
 use lib.ListN.{replicate}
+use Rattle.line.specs.Quoted.{chars}
 use Rattle.text.specs.Writing.{stored}
 use Rattle.text.specs.Decimal.{decimal}
 use Rattle.clock.specs.Dates.{leap, daysIn, realDate, realTime}
@@ -40,13 +41,13 @@ pub record Clock : Type 0 where
 -- of `values`
 pub record Rules : Type 0 where
   -- any number of digits; ':' among them
-  pub «is_digits» : RuledOut (goodDigits 8 (replicate 7 49)) true × RuledOut (goodDigits 2 (49 ∷ 58 ∷ [])) true
+  pub «is_digits» : RuledOut (goodDigits 8 (replicate 7 49)) true × RuledOut (goodDigits 2 (chars "1:")) true
   -- no underscore; a hyphen
   pub «is_account_character» : RuledOut (isAccountCharacter 95) false × RuledOut (isAccountCharacter 45) true
   -- nine characters; no account of spaces
   pub «is_account» : RuledOut (goodAccount (replicate 9 65)) true × RuledOut (goodAccount (replicate 10 32)) false
   -- a zone 5; a bracket as the last character
-  pub «is_row» : RuledOut (goodRow (replicate 24 53)) true × RuledOut (goodRow (replicate 23 49 ++ (41 ∷ []))) true
+  pub «is_row» : RuledOut (goodRow (replicate 24 53)) true × RuledOut (goodRow (replicate 23 49 ++ (chars ")"))) true
   -- table 25 of 24; table 0
   pub «is_table» : RuledOut (goodTable 24 25) true × RuledOut (goodTable 24 0) true
   -- zone 0, which would be the total; no zone 4
@@ -57,11 +58,11 @@ pub record Rules : Type 0 where
 -- of `values::reading`
 pub record Reading : Type 0 where
   -- 01-02-29 as a date; the year 0 for 00-02-29
-  pub «read_date» : RuledOut (dateRead (48 ∷ 49 ∷ 45 ∷ 48 ∷ 50 ∷ 45 ∷ 50 ∷ 57 ∷ [])) (record { ok = true; date = dateOf 2001 2 29 })
-      × RuledOut (dateRead (48 ∷ 48 ∷ 45 ∷ 48 ∷ 50 ∷ 45 ∷ 50 ∷ 57 ∷ [])) (record { ok = true; date = dateOf 0 2 29 })
+  pub «read_date» : RuledOut (dateRead (chars "01-02-29")) (record { ok = true; date = dateOf 2001 2 29 })
+      × RuledOut (dateRead (chars "00-02-29")) (record { ok = true; date = dateOf 0 2 29 })
   -- 24:00:00 as a time; 23:58:59 with minutes and seconds changed about
-  pub «read_time» : RuledOut (timeRead (50 ∷ 52 ∷ 58 ∷ 48 ∷ 48 ∷ 58 ∷ 48 ∷ 48 ∷ [])) (record { ok = true; time = timeOf 24 0 0 })
-      × RuledOut (timeRead (50 ∷ 51 ∷ 58 ∷ 53 ∷ 56 ∷ 58 ∷ 53 ∷ 57 ∷ [])) (record { ok = true; time = timeOf 23 59 58 })
+  pub «read_time» : RuledOut (timeRead (chars "24:00:00")) (record { ok = true; time = timeOf 24 0 0 })
+      × RuledOut (timeRead (chars "23:58:59")) (record { ok = true; time = timeOf 23 59 58 })
   -- 29-02-2001 as a date; 03-02-2001 with day and month changed about
   pub «read_clock» : RuledOut (clockRead (clockText (clockAt 2001 2 29 0 0 0))) (record { ok = true; clock = clockAt 2001 2 29 0 0 0 })
       × RuledOut (clockRead (clockText (clockAt 2001 2 3 0 0 0))) (record { ok = true; clock = clockAt 2001 3 2 0 0 0 })
@@ -72,8 +73,8 @@ pub record Reading : Type 0 where
   pub «read_counter» : RuledOut (counterRead 9 3 (counterText 9 3 1500)) (record { ok = true; wh = 1 })
       × RuledOut (counterRead 9 3 (counterText 10 4 15000)) (record { ok = true; wh = 15000 })
   -- 25 of 24 tables; table 00
-  pub «read_table» : RuledOut (tableRead 24 (50 ∷ 53 ∷ [])) (record { ok = true; table = record { 0 = 25 } })
-      × RuledOut (tableRead 24 (48 ∷ 48 ∷ [])) (record { ok = true; table = record { 0 = 0 } })
+  pub «read_table» : RuledOut (tableRead 24 (chars "25")) (record { ok = true; table = record { 0 = 25 } })
+      × RuledOut (tableRead 24 (chars "00")) (record { ok = true; table = record { 0 = 0 } })
 
 -- of `values::characters`
 pub record Characters : Type 0 where
@@ -93,8 +94,8 @@ pub record Writing : Type 0 where
   pub «put_serial» : RuledOut (stored (replicate 11 0) 0 (serialText serial)) (serial ++ (0 ∷ []))
       × RuledOut (stored (replicate 11 0) 0 (serialText serial)) (decimal 4 1234 ++ (32 ∷ decimal 6 567890))
   -- one digit for a number below 10; at the front, whatever the place
-  pub «put_table» : RuledOut (stored (replicate 4 0) 2 (tableText 7)) (0 ∷ 0 ∷ 55 ∷ 0 ∷ [])
-      × RuledOut (stored (replicate 4 0) 2 (tableText 7)) (48 ∷ 55 ∷ 0 ∷ 0 ∷ [])
+  pub «put_table» : RuledOut (stored (replicate 4 0) 2 (tableText 7)) (0 ∷ 0 ∷ chars "7" ++ 0 ∷ [])
+      × RuledOut (stored (replicate 4 0) 2 (tableText 7)) (chars "07" ++ 0 ∷ 0 ∷ [])
   -- the day first; hours' colons for the date's hyphens
   pub «put_date» : RuledOut (stored (replicate 8 0) 0 (dateText (dateOf 2001 2 3))) (dateText (dateOf 2003 2 1))
       × RuledOut (stored (replicate 8 0) 0 (dateText (dateOf 2001 2 3))) (timeText (timeOf 1 2 3))

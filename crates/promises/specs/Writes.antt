@@ -5,7 +5,8 @@ use mathlib.Core.List.{List, [], _∷_, _++_}
 use Prim.Native.Nat.{ℕ, _+_, _-_}
 use lib.ListN.{length, take, drop}
 use Rattle.line.specs.Characters.{damagedAt}
-use Rattle.line.specs.Controls.{LF}
+use Rattle.line.specs.Controls.{SOH, STX, LF}
+use Rattle.line.specs.Quoted.{chars}
 use Rattle.clock.specs.Seconds.{realClock}
 use Rattle.clock.specs.declared.Clock.{Clock}
 use Rattle.values.specs.declared.TableNo.{TableNo}
@@ -36,7 +37,7 @@ use Rattle.meter.specs.Character.{symbol}
 
 -- SOH W1 STX
 abbrev pub writeStart : List ℕ
-writeStart = 1 ∷ 87 ∷ 49 ∷ 2 ∷ []
+writeStart = SOH ∷ chars "W1" ++ STX ∷ []
 
 -- what a frame tells between its brackets
 abbrev pub tellsOf : Meter → List ℕ

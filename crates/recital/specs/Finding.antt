@@ -1,7 +1,8 @@
 -- Document 02, [6], end to end: one register of a meter's data block, found by its address.
 use mathlib.Core.Path.{_≡_}
-use mathlib.Core.List.{List, [], _∷_}
+use mathlib.Core.List.{List}
 use Prim.Native.Nat.{ℕ}
+use Rattle.line.specs.Quoted.{chars}
 use Rattle.state.specs.declared.Registers.{Registers}
 use Rattle.state.specs.WellFormed.{total}
 use Rattle.replies.specs.Shown.{rowOf}
@@ -15,13 +16,13 @@ pub record FoundAs (content a : List ℕ) (n : ℕ) (x : Register) : Type 0 wher
   pub count : lookup content a .count ≡ n
   pub reads : ReadsAs x (pointedAt content (lookup content a))
 
--- 15.8.0
+-- of the total
 unfoldable pub totalAddress : List ℕ
-totalAddress = 49 ∷ 53 ∷ 46 ∷ 56 ∷ 46 ∷ 48 ∷ []
+totalAddress = chars "15.8.0"
 
--- 131.0.24
+-- of the last row
 unfoldable pub lastRowAddress : List ℕ
-lastRowAddress = 49 ∷ 51 ∷ 49 ∷ 46 ∷ 48 ∷ 46 ∷ 50 ∷ 52 ∷ []
+lastRowAddress = chars "131.0.24"
 
 -- the total is the ninth set of the data block, the last row the 33rd
 pub record FoundInBlock (g : Registers) : Type 0 where

@@ -44,13 +44,12 @@ loop-holds c = (omega arith, refl, bcc-start _)
 
 loop-again : tie.Need-loop-again Inv-loop μ-loop
 unfolding isContent
-loop-again c =
-    let at-loop = c .before .before .before .before .before in
+loop-again c = let c4 = c .before .before .before .before in let c5 = c4 .before in let at-loop = c5 in
     let s = at-loop .before .before .args .s .now in
     let i = at-loop .loop .i in
     let most = at-loop .loop .most in
     let clear = at-loop .loop .clear in
-    let h = c .before .before .before .before .loop-test .taken in (
+    let h = c4 .loop-test .taken in (
       omega arith,
       rw (c .before .before .larger .ensures, max-leb most (getD s i 0) 127, and-across (leb most 127) (leb (getD s i 0) 127) clear (not (eqb (getD s i 0) 3))) (every-turn isContent s i (leb most 127 && clear) _ h (at-loop .loop .inv .1)),
       bcc-turn s i (at-loop .loop .sum) _ h (at-loop .loop .inv .2),

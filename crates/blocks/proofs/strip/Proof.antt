@@ -19,8 +19,7 @@ returns-2 c =
 
 returns-3 : tie.Need-returns-3
 unfolding strippedOf strippedInto
-returns-3 c =
-    let d = sym (c .before .before .before .before .before .undamaged .ensures) ∙ not-false _ (c .before .before .before .before .if2 .left) in record { answer = rw (le-ltb _ _ (c .before .before .before .before .before .before .if1 .left), d); held = rw (le-ltb _ _ (c .before .before .before .before .before .before .if1 .left), d) (c .before .before .copy-seven .ensures) }
+returns-3 c = let c4 = c .before .before .before .before in let c5 = c4 .before in let c6 = c5 .before in let d = sym (c5 .undamaged .ensures) ∙ not-false _ (c4 .if2 .left) in record { answer = rw (le-ltb _ _ (c6 .if1 .left), d); held = rw (le-ltb _ _ (c6 .if1 .left), d) (c .before .before .copy-seven .ensures) }
 
 pub strip-spec : {M : Type 1} → statement M
 strip-spec = tie.close (tie.spec returns (λ c κs. search needs) (λ c κs. search needs) returns-2 (λ c κs. search needs) (λ c. search needs) returns-3)

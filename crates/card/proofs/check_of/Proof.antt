@@ -30,10 +30,9 @@ add-t8 : tie.Need-add-t8
 add-t8 c = let at = c .before .before .before .scan .ensures .passed .in-text in let k = c .table-place .ensures .in-field in omega arith
 
 returns-3 : tie.Need-returns-3
-returns-3 c =
-    let t = c .before .before .before .before .before .before .before .args .text .now in
-    let r = c .before .before .before .scan .result in
-    answers-field (c .before .before .before .before .before .before .before .args .tables) (r .at) (r .above) t (c .before .before .before .scan .ensures) (c .table-place .result) (c .before .before .if2 .left) (rw (part-is t (r .at)) at (c .table-place .ensures))
+returns-3 c = let c3 = c .before .before .before in let c7 = c3 .before .before .before .before in let t = c7 .args .text .now in
+    let r = c3 .scan .result in
+    answers-field (c7 .args .tables) (r .at) (r .above) t (c3 .scan .ensures) (c .table-place .result) (c .before .before .if2 .left) (rw (part-is t (r .at)) at (c .table-place .ensures))
 
 pub check-of-spec : {M : Type 1} → statement M
 check-of-spec = tie.close (tie.spec (λ c κs. search needs) returns scan-requires returns-2 sub-table-place part-table-place-start (λ c. search needs) (λ c κs. search needs) add-t8 returns-3)

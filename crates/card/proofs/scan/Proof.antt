@@ -32,35 +32,30 @@ loop-holds : tie.Need-loop-holds Inv-loop μ-loop
 loop-holds c = (c .before .pre .in-text, c .before .pre)
 
 returns : tie.Need-returns Inv-loop μ-loop
-returns c =
-    let l = c .before .before .before .before .loop in
-    let t = c .before .before .before .before .before .before .args .text .now in
-    record { passed = l .inv .1; stops = λ h. ap (tableStands (c .before .before .before .before .before .before .args .tables) (l .above)) (sym (part-is t (l .at))) ∙ sym (c .before .table-stands .ensures) ∙ not-true _ (c .if1 .taken) }
+returns c = let c4 = c .before .before .before .before in let c6 = c4 .before .before in let l = c4 .loop in
+    let t = c6 .args .text .now in
+    record { passed = l .inv .1; stops = λ h. ap (tableStands (c6 .args .tables) (l .above)) (sym (part-is t (l .at))) ∙ sym (c .before .table-stands .ensures) ∙ not-true _ (c .if1 .taken) }
 
 add-above : tie.Need-add-above Inv-loop μ-loop
-add-above c =
-    let l = c .before .before .before .before .loop in
-    let t = c .before .before .before .before .before .before .args .text .now in
-    omega (arith, ends (c .before .before .before .before .before .before .args .tables) (l .above) (l .at) t (there (c .before .before .before .before .before .before .args .tables) (l .above) (l .at) t _ (part-is t (l .at)) (sym (c .before .table-stands .ensures) ∙ not-false _ (c .if1 .left))))
+add-above c = let c4 = c .before .before .before .before in let c6 = c4 .before .before in let l = c4 .loop in
+    let t = c6 .args .text .now in
+    omega (arith, ends (c6 .args .tables) (l .above) (l .at) t (there (c6 .args .tables) (l .above) (l .at) t _ (part-is t (l .at)) (sym (c .before .table-stands .ensures) ∙ not-false _ (c .if1 .left))))
 
 shared-slice-read-above : tie.Need-shared-slice-read-above Inv-loop μ-loop
-shared-slice-read-above c =
-    let l = c .before .before .before .before .before .loop in
-    let t = c .before .before .before .before .before .before .before .args .text .now in
-    omega (arith, ends (c .before .before .before .before .before .before .before .args .tables) (l .above) (l .at) t (there (c .before .before .before .before .before .before .before .args .tables) (l .above) (l .at) t _ (part-is t (l .at)) (sym (c .before .before .table-stands .ensures) ∙ not-false _ (c .before .if1 .left))))
+shared-slice-read-above c = let c5 = c .before .before .before .before .before in let c7 = c5 .before .before in let l = c5 .loop in
+    let t = c7 .args .text .now in
+    omega (arith, ends (c7 .args .tables) (l .above) (l .at) t (there (c7 .args .tables) (l .above) (l .at) t _ (part-is t (l .at)) (sym (c .before .before .table-stands .ensures) ∙ not-false _ (c .before .if1 .left))))
 
 add-at : tie.Need-add-at Inv-loop μ-loop
-add-at c =
-    let l = c .before .before .before .before .before .loop in
-    let t = c .before .before .before .before .before .before .before .args .text .now in
-    omega (arith, ends (c .before .before .before .before .before .before .before .args .tables) (l .above) (l .at) t (there (c .before .before .before .before .before .before .before .args .tables) (l .above) (l .at) t _ (part-is t (l .at)) (sym (c .before .before .table-stands .ensures) ∙ not-false _ (c .before .if1 .left))))
+add-at c = let c5 = c .before .before .before .before .before in let c7 = c5 .before .before in let l = c5 .loop in
+    let t = c7 .args .text .now in
+    omega (arith, ends (c7 .args .tables) (l .above) (l .at) t (there (c7 .args .tables) (l .above) (l .at) t _ (part-is t (l .at)) (sym (c .before .before .table-stands .ensures) ∙ not-false _ (c .before .if1 .left))))
 
 loop-again : tie.Need-loop-again Inv-loop μ-loop
-loop-again c =
-    let l = c .before .before .before .before .before .loop in
-    let t = c .before .before .before .before .before .before .before .args .text .now in
-    let st = there (c .before .before .before .before .before .before .before .args .tables) (l .above) (l .at) t _ (part-is t (l .at)) (sym (c .before .before .table-stands .ensures) ∙ not-false _ (c .before .if1 .left)) in
-    (ends (c .before .before .before .before .before .before .before .args .tables) (l .above) (l .at) t st, rw (getD-drop (l .at) t 3 0) at (passed-more (c .before .before .before .before .before .before .before .args .tables) (l .above) (l .at) t (l .inv .1) st))
+loop-again c = let c5 = c .before .before .before .before .before in let c7 = c5 .before .before in let l = c5 .loop in
+    let t = c7 .args .text .now in
+    let st = there (c7 .args .tables) (l .above) (l .at) t _ (part-is t (l .at)) (sym (c .before .before .table-stands .ensures) ∙ not-false _ (c .before .if1 .left)) in
+    (ends (c7 .args .tables) (l .above) (l .at) t st, rw (getD-drop (l .at) t 3 0) at (passed-more (c7 .args .tables) (l .above) (l .at) t (l .inv .1) st))
 
 returns-2 : tie.Need-returns-2 Inv-loop μ-loop
 returns-2 c = let l = c .before .loop in record { passed = l .inv .1; stops = λ h. absurd (omega arith) }

@@ -12,10 +12,9 @@ use Rattle.card.proofs.table_frame.Statement.{statement}
 use Rattle.card.proofs.table_frame.Tie as tie
 
 returns : tie.Need-returns
-returns c =
-    let n = c .before .before .before .before .before .args .number in
-    let row = c .before .before .before .before .before .args .row .now in
-    c .before .put-frame .ensures ∙ ap (λ m. holding (replicate 36 0) (map sent m)) (table-sealed n row) ∙ held-whole (replicate 36 0) (onWire (frameOf W1 (setTable n row))) (length-row-frame n row (c .before .before .before .before .before .pre))
+returns c = let c5 = c .before .before .before .before .before in let n = c5 .args .number in
+    let row = c5 .args .row .now in
+    c .before .put-frame .ensures ∙ ap (λ m. holding (replicate 36 0) (map sent m)) (table-sealed n row) ∙ held-whole (replicate 36 0) (onWire (frameOf W1 (setTable n row))) (length-row-frame n row (c5 .pre))
 
 pub table-frame-spec : {M : Type 1} → statement M
 table-frame-spec = tie.close (tie.spec (λ c. search needs) (λ c. search needs) (λ c. search needs) (λ c. search needs) (λ c κs. search needs) returns)

@@ -21,23 +21,21 @@ unfolding stored fieldFrames
 loop-holds c = (omega arith, refl, refl)
 
 write-frame-requires : tie.Need-write-frame-requires Inv-loop μ-loop
-write-frame-requires c κs = (omega (arith, c .before .before .before .before .before .pre .0), omega (arith, c .before .before .before .before .before .pre .1, c .before .before .loop .inv .1))
+write-frame-requires c κs = let c5 = c .before .before .before .before .before in (omega (arith, c5 .pre .0), omega (arith, c5 .pre .1, c .before .before .loop .inv .1))
 
 loop-again : tie.Need-loop-again Inv-loop μ-loop
-loop-again c =
-    let l = c .before .before .before .before .before .loop in
-    let t = c .before .before .before .before .before .before .before .before .args .text .now in
-    let e = tables-more t (c .before .before .before .before .before .before .before .before .args .out .now) (l .out) (l .i) _ (omega (arith, c .before .before .before .before .before .before .before .before .pre .0)) (l .inv .2) (c .before .before .write-frame .ensures) in
-    (omega arith, ap length e ∙ length-stored (c .before .before .before .before .before .before .before .before .args .out .now) 19 (fieldFrames (drop 13 t) (l .i + 1)), e)
+loop-again c = let c5 = c .before .before .before .before .before in let c8 = c5 .before .before .before in let l = c5 .loop in
+    let t = c8 .args .text .now in
+    let e = tables-more t (c8 .args .out .now) (l .out) (l .i) _ (omega (arith, c8 .pre .0)) (l .inv .2) (c .before .before .write-frame .ensures) in
+    (omega arith, ap length e ∙ length-stored (c8 .args .out .now) 19 (fieldFrames (drop 13 t) (l .i + 1)), e)
 
 same-length : tie.Need-same-length Inv-loop μ-loop
 same-length c = c .before .loop .inv .1
 
 returns : tie.Need-returns Inv-loop μ-loop
-returns c =
-    let l = c .before .loop in
-    let e : l .i ≡ c .before .before .before .before .args .tables = omega arith in
-    l .inv .2 ∙ ap (λ (i : ℕ). stored (c .before .before .before .before .args .out .now) 19 (fieldFrames (drop 13 (c .before .before .before .before .args .text .now)) i)) e
+returns c = let c4 = c .before .before .before .before in let l = c .before .loop in
+    let e : l .i ≡ c4 .args .tables = omega arith in
+    l .inv .2 ∙ ap (λ (i : ℕ). stored (c4 .args .out .now) 19 (fieldFrames (drop 13 (c4 .args .text .now)) i)) e
 
 pub write-tables-spec : {M : Type 1} → statement M
 write-tables-spec = tie.close (tie.spec Inv-loop μ-loop loop-holds write-frame-requires (λ c. omega arith) (λ c. omega arith) loop-again same-length returns)

@@ -16,12 +16,11 @@ returns c =
     (s, begun (a .out .now) (s .shown) _ (s .long) _ (s .held))
 
 returns-2 : tie.Need-returns-2
-returns-2 c =
-    let a = c .before .before .before .before .before .before .before .before .before .before .before .args in
-    let room : 883 ≤ length (a .out .now) = c .before .before .before .before .before .before .before .before .before .before .before .pre in
-    let e = c .before .before .before .before .before .before .before .read .ensures in
+returns-2 c = let c4 = c .before .before .before .before in let c7 = c4 .before .before .before in let c11 = c7 .before .before .before .before in let a = c11 .args in
+    let room : 883 ≤ length (a .out .now) = c11 .pre in
+    let e = c7 .read .ensures in
     let line = c .before .before .put-line .ensures in
-    let s = shows-place 24 (a .text .now) (a .out .now) _ _ _ _ e (c .before .before .before .before .if1 .left) room (omega arith) _ (line .0) _ (line .1) in
+    let s = shows-place 24 (a .text .now) (a .out .now) _ _ _ _ e (c4 .if1 .left) room (omega arith) _ (line .0) _ (line .1) in
     (s, begun (a .out .now) (s .shown) _ (s .long) _ (s .held))
 
 pub show-spec : {M : Type 1} → statement M

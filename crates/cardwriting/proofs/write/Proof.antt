@@ -15,12 +15,11 @@ returns-2 : tie.Need-returns-2
 returns-2 c = answers-41 (c .before .before .before .before .args .m) (c .before .before .before .before .args .out .now) (sym (c .before .before .is-well-formed .ensures) ∙ not-false _ (c .before .if1 .left)) (c .if2 .taken)
 
 put-card-requires : tie.Need-put-card-requires
-put-card-requires c κs =
-    let l = long (c .before .before .before .before .before .before .before .before .before .before .args .m) (sym (c .before .before .before .before .before .before .before .before .is-well-formed .ensures) ∙ not-false _ (c .before .before .before .before .before .before .before .if1 .left)) in
-    (l .account, omega arith, omega (arith, l .tables), c .before .before .before .before .before .before .if2 .left)
+put-card-requires c κs = let c6 = c .before .before .before .before .before .before in let c7 = c6 .before in let c8 = c7 .before in let c10 = c8 .before .before in let l = long (c10 .args .m) (sym (c8 .is-well-formed .ensures) ∙ not-false _ (c7 .if1 .left)) in
+    (l .account, omega arith, omega (arith, l .tables), c6 .if2 .left)
 
 returns-3 : tie.Need-returns-3
-returns-3 c = answers-1 (c .before .before .before .before .before .before .before .before .before .before .before .before .before .args .m) (c .before .before .before .before .before .before .before .before .before .before .before .before .before .args .out .now) _ (sym (c .before .before .before .before .before .before .before .before .before .before .before .is-well-formed .ensures) ∙ not-false _ (c .before .before .before .before .before .before .before .before .before .before .if1 .left)) (c .before .before .before .before .before .before .before .before .before .if2 .left) (c .before .before .put-card .ensures)
+returns-3 c = let c9 = c .before .before .before .before .before .before .before .before .before in let c10 = c9 .before in let c11 = c10 .before in let c13 = c11 .before .before in answers-1 (c13 .args .m) (c13 .args .out .now) _ (sym (c11 .is-well-formed .ensures) ∙ not-false _ (c10 .if1 .left)) (c9 .if2 .left) (c .before .before .put-card .ensures)
 
 pub write-spec : {M : Type 1} → statement M
 write-spec = tie.close (tie.spec (λ c κs. search needs) returns returns-2 (λ c. search needs) (λ c. search needs) (λ c. search needs) put-card-requires (λ c. search needs) returns-3)

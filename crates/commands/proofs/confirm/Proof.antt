@@ -18,8 +18,7 @@ returns-2 c =
 
 returns-3 : tie.Need-returns-3
 unfolding confirmation goodSpeed goodChoice
-returns-3 c =
-    built _ _ _ _ _ (c .before .before .before .before .before .before .before .before .if1 .left) (not-false _ (c .before .before .before .before .before .before .before .if2 .left)) (c .before .before .line-of .ensures)
+returns-3 c = let c7 = c .before .before .before .before .before .before .before in let c8 = c7 .before in built _ _ _ _ _ (c8 .if1 .left) (not-false _ (c7 .if2 .left)) (c .before .before .line-of .ensures)
 
 pub confirm-spec : {M : Type 1} → statement M
 confirm-spec = tie.close (tie.spec (λ c κs. search needs) returns (λ c κs. search needs) returns-2 (λ c. search needs) (λ c. search needs) (λ c. search needs) (λ c κs. search needs) (λ c. search needs) returns-3)

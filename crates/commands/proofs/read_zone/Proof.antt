@@ -24,8 +24,7 @@ add-t11 c =
 
 returns-3 : tie.Need-returns-3
 unfolding frameOf sealed askEnergy bracketed
-returns-3 c =
-    built _ _ _ _ _ (c .before .before .before .before .before .before .before .before .if1 .left) (sym (c .before .before .before .before .before .before .before .is-zone .ensures) ∙ not-false _ (c .before .before .before .before .before .before .if2 .left)) (c .before .before .frame .ensures)
+returns-3 c = let c6 = c .before .before .before .before .before .before in let c7 = c6 .before in let c8 = c7 .before in built _ _ _ _ _ (c8 .if1 .left) (sym (c7 .is-zone .ensures) ∙ not-false _ (c6 .if2 .left)) (c .before .before .frame .ensures)
 
 pub read-zone-spec : {M : Type 1} → statement M
 read-zone-spec = tie.close (tie.spec (λ c κs. search needs) returns (λ c κs. search needs) (λ c κs. search needs) returns-2 add-t11 (λ c. search needs) (λ c. search needs) (λ c κs. search needs) (λ c. search needs) returns-3)

@@ -8,7 +8,7 @@ use Rattle.commands.proofs.write_clock.Tie as tie
 
 returns : tie.Need-returns
 unfolding frameOf sealed setClock bracketed
-returns c = rw (← c .before .before .before .before .shown-clock .ensures) (judged _ _ _ _ _ _ (c .before .before .before .before .before .before .before .is-clock .ensures) (c .before .before .build .ensures))
+returns c = let c4 = c .before .before .before .before in let c7 = c4 .before .before .before in rw (← c4 .shown-clock .ensures) (judged _ _ _ _ _ _ (c7 .is-clock .ensures) (c .before .before .build .ensures))
 
 pub write-clock-spec : {M : Type 1} → statement M
 write-clock-spec = tie.close (tie.spec (λ c κs. search needs) (λ c. search needs) (λ c κs. search needs) (λ c. search needs) (λ c κs. search needs) (λ c. search needs) returns)

@@ -19,13 +19,11 @@ returns-2 c =
     field-refused _ _ _ _ (c .before .before .before .before .if1 .left) (rw (← c .before .before .before .is-table .ensures, ← c .before .before .is-row .ensures) (not-true _ (c .before .if2 .taken))) (c .refused .ensures)
 
 shown-table-requires : tie.Need-shown-table-requires
-shown-table-requires c κs =
-    row-long _ (sym (c .before .before .before .is-row .ensures) ∙ and-right (c .before .before .before .before .is-table .result) (c .before .before .before .is-row .result) (not-false _ (c .before .before .if2 .left)))
+shown-table-requires c κs = let c3 = c .before .before .before in let c4 = c3 .before in row-long _ (sym (c3 .is-row .ensures) ∙ and-right (c4 .is-table .result) (c3 .is-row .result) (not-false _ (c .before .before .if2 .left)))
 
 returns-3 : tie.Need-returns-3
 unfolding frameOf sealed setTable bracketed
-returns-3 c =
-    rw (← c .before .before .before .before .shown-table .ensures) (built _ _ _ _ _ (c .before .before .before .before .before .before .before .before .before .before .if1 .left) (rw (← c .before .before .before .before .before .before .before .before .before .is-table .ensures, ← c .before .before .before .before .before .before .before .before .is-row .ensures) (not-false _ (c .before .before .before .before .before .before .before .if2 .left))) (c .before .before .frame .ensures))
+returns-3 c = let c4 = c .before .before .before .before in let c7 = c4 .before .before .before in let c8 = c7 .before in let c9 = c8 .before in let c10 = c9 .before in rw (← c4 .shown-table .ensures) (built _ _ _ _ _ (c10 .if1 .left) (rw (← c9 .is-table .ensures, ← c8 .is-row .ensures) (not-false _ (c7 .if2 .left))) (c .before .before .frame .ensures))
 
 pub write-table-spec : {M : Type 1} → statement M
 write-table-spec = tie.close (tie.spec (λ c κs. search needs) returns (λ c κs. search needs) (λ c κs. search needs) (λ c κs. search needs) returns-2 (λ c. search needs) shown-table-requires (λ c. search needs) (λ c κs. search needs) (λ c. search needs) returns-3)

@@ -38,9 +38,8 @@ put-requires : tie.Need-put-requires Inv-loop μ-loop
 put-requires c κs = omega (arith, c .before .before .before .loop .inv .1)
 
 returns : tie.Need-returns Inv-loop μ-loop
-returns c =
-    let start = c .before .before .before .before .before .before .before .before .before in
-    let turn = c .before .before .before .before .before .before .loop in
+returns c = let c6 = c .before .before .before .before .before .before in let c9 = c6 .before .before .before in let start = c9 in
+    let turn = c6 .loop in
     let row = start .args .row .now in
     let put = c .before .before .put .ensures in
     let done : turn .copy ≡ row = turn .inv .2 ∙ filled (replicate 24 0) row (turn .i) (omega arith) (omega arith) in

@@ -10,7 +10,7 @@ returns c = rw (← c .before .before .before .before .is-bare .ensures, c .befo
 
 returns-2 : tie.Need-returns-2
 unfolding shapeVerdict
-returns-2 c = rw (← c .before .before .before .before .before .before .before .is-bare .ensures, c .before .before .before .before .before .before .if1 .left, ← c .before .before .before .before .before .is-framed .ensures, c .before .before .before .before .if2 .taken, c .framed .ensures, c .before .content-of .ensures, c .before .before .at4 .ensures, c .before .before .before .at3 .ensures)
+returns-2 c = let c3 = c .before .before .before in let c4 = c3 .before in let c5 = c4 .before in let c6 = c5 .before in let c7 = c6 .before in rw (← c7 .is-bare .ensures, c6 .if1 .left, ← c5 .is-framed .ensures, c4 .if2 .taken, c .framed .ensures, c .before .content-of .ensures, c .before .before .at4 .ensures, c3 .at3 .ensures)
 
 returns-3 : tie.Need-returns-3
 unfolding shapeVerdict

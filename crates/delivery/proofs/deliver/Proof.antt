@@ -20,10 +20,9 @@ slice-aggregate-feed : tie.Need-slice-aggregate-feed
 slice-aggregate-feed c = sym (length-take-le _ _ (omega (arith, frames-bound 24 _ _ _ _ _ _ (c .before .before .before .export .ensures))))
 
 returns-2 : tie.Need-returns-2
-returns-2 c =
-    let a = (c .before .before .before .before .before .before .before .before .args) in
+returns-2 c = let c5 = c .before .before .before .before .before in let c8 = c5 .before .before .before in let a = (c8 .args) in
     let f = c .before .feed in
-    was-delivered (a .m) (a .text .now) _ _ _ _ _ (omega arith) (f .result .acknowledged) (f .result .next) (omega arith) (f .ensures .0) (f .ensures .1) (c .before .before .before .before .before .export .ensures)
+    was-delivered (a .m) (a .text .now) _ _ _ _ _ (omega arith) (f .result .acknowledged) (f .result .next) (omega arith) (f .ensures .0) (f .ensures .1) (c5 .export .ensures)
 
 pub deliver-spec : {M : Type 1} → statement M
 deliver-spec = tie.close (tie.spec (λ c. search needs) (λ c κs. search needs) returns array-share-prefix-out slice-aggregate-feed (λ c κs. search needs) returns-2)

@@ -18,11 +18,10 @@ returns-2 c =
     answers-21 (a .tables) (a .text .now) (a .out .now) p (c .if2 .taken)
 
 returns-3 : tie.Need-returns-3
-returns-3 c =
-    let a = (c .before .before .before .before .before .before .before .before .before .args) in
-    let k = c .before .before .before .before .before .before .check-of .result in
-    let p = post-of (a .tables) (a .text .now) (k .number) (k .place) (c .before .before .before .before .before .before .check-of .ensures) (c .before .before .before .before .before .if1 .left) in
-    answers-1 (a .tables) (a .text .now) (a .out .now) p _ (c .before .before .before .before .if2 .left) (c .before .before .write-frames .ensures)
+returns-3 c = let c4 = c .before .before .before .before in let c5 = c4 .before in let c6 = c5 .before in let c9 = c6 .before .before .before in let a = (c9 .args) in
+    let k = c6 .check-of .result in
+    let p = post-of (a .tables) (a .text .now) (k .number) (k .place) (c6 .check-of .ensures) (c5 .if1 .left) in
+    answers-1 (a .tables) (a .text .now) (a .out .now) p _ (c4 .if2 .left) (c .before .before .write-frames .ensures)
 
 pub export-of-spec : {M : Type 1} → statement M
 export-of-spec = tie.close (tie.spec (λ c κs. search needs) returns (λ c. search needs) returns-2 (λ c κs. search needs) (λ c. search needs) (λ c. search needs) returns-3)

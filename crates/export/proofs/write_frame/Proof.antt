@@ -48,27 +48,24 @@ unfolding stored changedTo
 loop-holds c = (omega arith, refl, refl)
 
 loop-again : tie.Need-loop-again Inv-loop μ-loop
-loop-again c =
-    let l = (c .before .before .before .loop) in
-    let a = (c .before .before .before .before .before .before .before .args) in
-    let copied = c .before .before .before .before .line-at in
-    let w = c .wire .ensures ∙ ap (λ (d : List ℕ). sent (bitXor (getD (copied .result) (l .j) 0) (getD d (l .j) 0))) (c .before .before .before .before .before .before .before .pre .0) in
+loop-again c = let c3 = c .before .before .before in let c4 = c3 .before in let c7 = c4 .before .before .before in let l = (c3 .loop) in
+    let a = (c7 .args) in
+    let copied = c4 .line-at in
+    let w = c .wire .ensures ∙ ap (λ (d : List ℕ). sent (bitXor (getD (copied .result) (l .j) 0) (getD d (l .j) 0))) (c7 .pre .0) in
     (omega arith, simp length-set (l .inv .1), turn (a .out .now) (l .out) (drop (a .at) (a .text .now)) (copied .result) (a .at) (l .j) _ (copied .ensures) (l .inv .2) (omega arith) w)
 
 slice-aggregate-bcc : tie.Need-slice-aggregate-bcc Inv-loop μ-loop
-slice-aggregate-bcc c =
-    let a = (c .before .before .before .before .before .before .args) in
-    let copied = c .before .before .before .line-at in
-    sym (length-take-le 33 (copied .result) (long (a .text .now) (copied .result) (a .at) (c .before .before .before .before .before .before .pre .1) (copied .ensures)))
+slice-aggregate-bcc c = let c3 = c .before .before .before in let c6 = c3 .before .before .before in let a = (c6 .args) in
+    let copied = c3 .line-at in
+    sym (length-take-le 33 (copied .result) (long (a .text .now) (copied .result) (a .at) (c6 .pre .1) (copied .ensures)))
 
 same-length : tie.Need-same-length Inv-loop μ-loop
 same-length c = simp length-set (c .before .before .before .before .loop .inv .1)
 
 returns : tie.Need-returns Inv-loop μ-loop
-returns c =
-    let l = (c .before .before .before .before .loop) in
-    let a = (c .before .before .before .before .before .before .before .before .args) in
-    let copied = c .before .before .before .before .before .line-at in
+returns c = let c4 = c .before .before .before .before in let c5 = c4 .before in let c8 = c5 .before .before .before in let l = (c4 .loop) in
+    let a = (c8 .args) in
+    let copied = c5 .line-at in
     last (a .out .now) (l .out) (drop (a .at) (a .text .now)) (copied .result) (a .at) (l .j) _ (copied .ensures) (l .inv .2) (omega arith) (c .before .bcc .result) (c .before .bcc .ensures) (c .wire2 .ensures)
 
 pub write-frame-spec : {M : Type 1} → statement M

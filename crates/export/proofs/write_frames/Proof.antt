@@ -24,9 +24,8 @@ write-frame-requires : tie.Need-write-frame-requires Inv-loop μ-loop
 write-frame-requires c κs = (c .before .before .before .loop .inv .0, omega arith, omega arith)
 
 loop-again : tie.Need-loop-again Inv-loop μ-loop
-loop-again c =
-    let l = (c .before .before .before .before .before .before .loop) in
-    let a = (c .before .before .before .before .before .before .before .before .before .before .args) in
+loop-again c = let c6 = c .before .before .before .before .before .before in let c10 = c6 .before .before .before .before in let l = (c6 .loop) in
+    let a = (c10 .args) in
     let t = a .text .now in
     let e : c .before .before .write-frame .last .1 .1 .1 .0 ≡ stored (l .out) (36 * l .i) (changedLine (drop (36 * l .i) t)) = c .before .before .write-frame .ensures in (
       l .inv .0,

@@ -23,7 +23,7 @@ returns-4 c = rw (ne-eqb _ _ (c .before .before .before .before .if1 .left), ne-
 
 returns-5 : tie.Need-returns-5
 unfolding tells
-returns-5 c = rw (ne-eqb _ _ (c .before .before .before .before .before .if1 .left), ne-eqb _ _ (c .before .before .before .before .if2 .left), ne-eqb _ _ (c .before .before .before .if3 .left), ne-eqb _ _ (c .before .before .if4 .left), eq-eqb _ _ (c .before .if5 .taken), c .tells-row .ensures)
+returns-5 c = let c3 = c .before .before .before in let c4 = c3 .before in let c5 = c4 .before in rw (ne-eqb _ _ (c5 .if1 .left), ne-eqb _ _ (c4 .if2 .left), ne-eqb _ _ (c3 .if3 .left), ne-eqb _ _ (c .before .before .if4 .left), eq-eqb _ _ (c .before .if5 .taken), c .tells-row .ensures)
 
 returns-6 : tie.Need-returns-6
 unfolding tells

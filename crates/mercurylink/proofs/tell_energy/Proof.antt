@@ -6,8 +6,7 @@ use Rattle.mercurylink.proofs.tell_energy.Tie as tie
 
 returns : tie.Need-returns
 unfolding toldEnergy
-returns c =
-    rw (c .before .before .before .before .before .before .before .flag .ensures, c .before .before .before .before .before .before .flag2 .ensures, c .before .before .before .before .before .flag3 .ensures, c .before .before .before .before .flag4 .ensures, c .before .before .before .count .ensures, c .before .before .count2 .ensures, c .before .count3 .ensures, c .count4 .ensures)
+returns c = let c3 = c .before .before .before in let c4 = c3 .before in let c5 = c4 .before in let c6 = c5 .before in let c7 = c6 .before in rw (c7 .flag .ensures, c6 .flag2 .ensures, c5 .flag3 .ensures, c4 .flag4 .ensures, c3 .count .ensures, c .before .before .count2 .ensures, c .before .count3 .ensures, c .count4 .ensures)
 
 pub tell-energy-spec : {M : Type 1} → statement M
 tell-energy-spec =

@@ -15,15 +15,14 @@ use Rattle.mercuryshow.proofs.show.Tie as tie
 
 returns : tie.Need-returns
 unfolding exchangeRead
-returns c =
-    let start = c .before .before .before .before .before .before .before .before .before .before in
+returns c = let c3 = c .before .before .before in let c5 = c3 .before .before in let c6 = c5 .before in let c7 = c6 .before in let c10 = c7 .before .before .before in let start = c10 in
     let a = start .args in
-    let read = c .before .before .before .before .before .read in
-    let put = c .before .before .before .put-answer .ensures in
+    let read = c5 .read in
+    let put = c3 .put-answer .ensures in
     let is : read .result ≡ readOf (getD (a .capture .now) 0 0) (drop 6 (a .capture .now)) =
-    read .ensures ∙ ap₂ readOf (c .before .before .before .before .before .before .at .ensures) (c .before .before .before .before .before .before .before .rest .ensures .1) in
+    read .ensures ∙ ap₂ readOf (c6 .at .ensures) (c7 .rest .ensures .1) in
     let room = answer-few (exchangeRead (a .capture .now)) in
-    let s : Shows (a .capture .now) (a .out .now) (record { number = c .number-of .result; length = c .before .before .before .put-answer .result }) _ =
+    let s : Shows (a .capture .now) (a .out .now) (record { number = c .number-of .result; length = c3 .put-answer .result }) _ =
     record {
       number = c .number-of .ensures ∙ ap answerNumber is;
       long = put .0 ∙ ap (λ (x : Answer). length (answerText x)) is;

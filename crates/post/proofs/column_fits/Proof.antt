@@ -20,15 +20,13 @@ wrapped text low high at j r l h i k m e =
     rw (l, h, getD-drop at text j 0) (fits-wrapped (getD lowest j 0) (getD highest j 0) (getD text (at + j) 0) r (bounds-order j i) (bounds-small j i) k m (rw l at e))
 
 sub-result : tie.Need-sub-result
-sub-result c =
-    let j = c .before .before .before .before .before .before .args .j in
-    rw (c .before .before .before .before .before .before .pre .0, c .before .before .before .before .before .before .pre .1) (bounds-order j (c .before .before .before .before .before .before .pre .2))
+sub-result c = let c6 = c .before .before .before .before .before .before in let j = c6 .args .j in
+    rw (c6 .pre .0, c6 .pre .1) (bounds-order j (c6 .pre .2))
 
 returns : tie.Need-returns
-returns c =
-    let a = (c .before .before .before .before .before .before .args) in
-    wrapped (a .text .now) (a .low .now) (a .high .now) (a .at) (a .j) (c .before .before .wrapping-sub-u8 .result) (c .before .before .before .before .before .before .pre .0) (c .before .before .before .before .before .before .pre .1) (c .before .before .before .before .before .before .pre .2)
-    (omega (arith, c .before .before .before .before .before .shared-slice-known .given (a .at + a .j))) (omega (arith, c .before .before .wrapping-sub-u8 .ok)) (c .before .before .wrapping-sub-u8 .ensures)
+returns c = let c5 = c .before .before .before .before .before in let c6 = c5 .before in let a = (c6 .args) in
+    wrapped (a .text .now) (a .low .now) (a .high .now) (a .at) (a .j) (c .before .before .wrapping-sub-u8 .result) (c6 .pre .0) (c6 .pre .1) (c6 .pre .2)
+    (omega (arith, c5 .shared-slice-known .given (a .at + a .j))) (omega (arith, c .before .before .wrapping-sub-u8 .ok)) (c .before .before .wrapping-sub-u8 .ensures)
 
 pub column-fits-spec : {M : Type 1} → statement M
 column-fits-spec = tie.close (tie.spec (λ c. search needs) (λ c. search needs) (λ c. search needs) (λ c κs. search needs) (λ c. search needs) (λ c. search needs) sub-result returns)

@@ -62,16 +62,14 @@ returns-3 c =
 
 returns-4 : tie.Need-returns-4
 unfolding lastLine
-returns-4 c =
-    let s = c .before .before .before .before .before .before .args .s .now in
-    let f = first-is s (c .before .before .before .before .before .before .pre) in
-    record { some = omega arith; in-text = omega arith; in-line = omega arith; same = same-two s (omega arith) (f .1) (c .before .before .before .if2 .left); stops = λ a b d. c .if4 .taken (sym d) }
+returns-4 c = let c3 = c .before .before .before in let c6 = c3 .before .before .before in let s = c6 .args .s .now in
+    let f = first-is s (c6 .pre) in
+    record { some = omega arith; in-text = omega arith; in-line = omega arith; same = same-two s (omega arith) (f .1) (c3 .if2 .left); stops = λ a b d. c .if4 .taken (sym d) }
 
 returns-5 : tie.Need-returns-5
-returns-5 c =
-    let s = c .before .before .before .before .before .before .args .s .now in
-    let f = first-is s (c .before .before .before .before .before .before .pre) in
-    record { some = omega arith; in-text = omega arith; in-line = omega arith; same = same-three s (omega arith) (f .1) (c .before .before .before .if2 .left) (c .if4 .left); stops = λ a b d. omega arith }
+returns-5 c = let c3 = c .before .before .before in let c6 = c3 .before .before .before in let s = c6 .args .s .now in
+    let f = first-is s (c6 .pre) in
+    record { some = omega arith; in-text = omega arith; in-line = omega arith; same = same-three s (omega arith) (f .1) (c3 .if2 .left) (c .if4 .left); stops = λ a b d. omega arith }
 
 pub last-place-spec : {M : Type 1} → statement M
 last-place-spec = tie.close (tie.spec returns (λ c. search needs) returns-2 returns-3 (λ c. search needs) returns-4 returns-5)

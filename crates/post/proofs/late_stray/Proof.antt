@@ -16,9 +16,8 @@ close third h = ⊎-elim (λ e. omega arith) (λ e. omega arith) (smaller-one 16
 
 stray-in-requires : tie.Need-stray-in-requires
 unfolding lowest highest
-stray-in-requires c κs =
-    let p = c .before .before .before .before .before .before .pre in
-    let n = length (c .before .before .before .before .before .before .args .s .now) - 16 in
+stray-in-requires c κs = let c6 = c .before .before .before .before .before .before in let p = c6 .pre in
+    let n = length (c6 .args .s .now) - 16 in
     let h : n ≤ 20 = omega (arith, p .1) in (
       refl,
       refl,
@@ -32,9 +31,8 @@ stray-in-requires c κs =
     )
 
 returns : tie.Need-returns
-returns c =
-    let p = c .before .before .before .before .before .before .before .pre in
-    let s = c .before .before .before .before .before .before .before .args .s .now in
+returns c = let c7 = c .before .before .before .before .before .before .before in let p = c7 .pre in
+    let s = c7 .args .s .now in
     first-of s (length s - 16 + 16) (c .stray-in .result) (omega (arith, p .1)) (omega (arith, p .0)) (λ h. omega arith) (c .stray-in .ensures)
 
 pub late-stray-spec : {M : Type 1} → statement M

@@ -56,48 +56,41 @@ returns-4 c =
     place-tens (a .tables) (a .above) (a .s .now) (a .stray) f (omega arith) (omega arith) (λ z. omega (arith, z .0, z .1))
 
 returns-5 : tie.Need-returns-5
-returns-5 c =
-    let a = (c .before .before .before .before .before .before .args) in
-    let f = (c .before .before .before .before .before .before .pre) in
+returns-5 c = let c6 = c .before .before .before .before .before .before in let a = (c6 .args) in
+    let f = (c6 .pre) in
     place-stray (a .tables) (a .above) (a .s .now) (a .stray) f (omega arith) (λ e. (omega arith, omega arith)) (λ e. absurd (omega arith))
 
 shared-slice-read-number : tie.Need-shared-slice-read-number
-shared-slice-read-number c =
-    let a = (c .before .before .before .before .before .before .before .args) in
-    let f = (c .before .before .before .before .before .before .before .pre) in
+shared-slice-read-number c = let c7 = c .before .before .before .before .before .before .before in let a = (c7 .args) in
+    let f = (c7 .pre) in
     omega (arith, f .in-text)
 
 sub-number : tie.Need-sub-number
-sub-number c =
-    let a = (c .before .before .before .before .before .before .before .args) in
-    let f = (c .before .before .before .before .before .before .before .pre) in
+sub-number c = let c7 = c .before .before .before .before .before .before .before in let a = (c7 .args) in
+    let f = (c7 .pre) in
     let w = unit-fits (a .s .now) (f .before 7 (omega arith)) in
     omega (arith, w .0, w .1)
 
 add-number : tie.Need-add-number
-add-number c =
-    let a = (c .before .before .before .before .before .before .before .args) in
-    let f = (c .before .before .before .before .before .before .before .pre) in
+add-number c = let c7 = c .before .before .before .before .before .before .before in let a = (c7 .args) in
+    let f = (c7 .pre) in
     let t = tens-fits (a .s .now) (f .before 6 (omega arith)) in
     let w = unit-fits (a .s .now) (f .before 7 (omega arith)) in
     omega (arith, w .0, w .1, t .0, t .1)
 
 returns-6 : tie.Need-returns-6
-returns-6 c =
-    let a = (c .before .before .before .before .before .before .before .before .args) in
-    let f = (c .before .before .before .before .before .before .before .before .pre) in
+returns-6 c = let c8 = c .before .before .before .before .before .before .before .before in let a = (c8 .args) in
+    let f = (c8 .pre) in
     place-unit (a .tables) (a .above) (a .s .now) (a .stray) f (omega arith) (omega arith) (omega arith, omega arith) (λ z. omega (arith, z .0, z .1))
 
 returns-7 : tie.Need-returns-7
-returns-7 c =
-    let a = (c .before .before .before .before .before .before .before .before .before .args) in
-    let f = (c .before .before .before .before .before .before .before .before .before .pre) in
+returns-7 c = let c9 = c .before .before .before .before .before .before .before .before .before in let a = (c9 .args) in
+    let f = (c9 .pre) in
     place-unit (a .tables) (a .above) (a .s .now) (a .stray) f (omega arith) (omega arith) (omega arith, omega arith) (λ z. omega (arith, z .0, z .1))
 
 returns-8 : tie.Need-returns-8
-returns-8 c =
-    let a = (c .before .before .before .before .before .before .before .before .before .args) in
-    let f = (c .before .before .before .before .before .before .before .before .before .pre) in
+returns-8 c = let c9 = c .before .before .before .before .before .before .before .before .before in let a = (c9 .args) in
+    let f = (c9 .pre) in
     place-stray (a .tables) (a .above) (a .s .now) (a .stray) f (omega arith) (λ e. (omega arith, omega arith)) (λ e. (omega arith, omega arith))
 
 pub line-place-spec : {M : Type 1} → statement M

@@ -34,9 +34,8 @@ take-line-requires c κs =
     (l .inv .0, l .inv .1, l .inv .2, l .inv .3, omega arith, l .inv .6 .long)
 
 loop-again : tie.Need-loop-again Inv-loop μ-loop
-loop-again c =
-    let l = (c .before .before .before .before .before .before .before .before .loop) in
-    let a = (c .before .before .before .before .before .before .before .before .before .before .before .args) in (
+loop-again c = let c8 = c .before .before .before .before .before .before .before .before in let c11 = c8 .before .before .before in let l = (c8 .loop) in
+    let a = (c11 .args) in (
       l .inv .0,
       l .inv .1,
       l .inv .2,

@@ -60,29 +60,24 @@ mul-n c =
     omega (arith, d .1)
 
 sub-n-2 : tie.Need-sub-n-2
-sub-n-2 c =
-    let d = digits (c .before .before .before .args .text .now) (c .before .before .before .args .at) (whole-fits (drop (c .before .before .before .args .at) (c .before .before .before .args .text .now)) (c .before .before .before .args .stray) (c .before .before .before .pre .1) (c .before .before .if1 .left)) in
+sub-n-2 c = let c3 = c .before .before .before in let d = digits (c3 .args .text .now) (c3 .args .at) (whole-fits (drop (c3 .args .at) (c3 .args .text .now)) (c3 .args .stray) (c3 .pre .1) (c .before .before .if1 .left)) in
     omega (arith, d .2)
 
 add-n-3 : tie.Need-add-n-3
-add-n-3 c =
-    let d = digits (c .before .before .before .args .text .now) (c .before .before .before .args .at) (whole-fits (drop (c .before .before .before .args .at) (c .before .before .before .args .text .now)) (c .before .before .before .args .stray) (c .before .before .before .pre .1) (c .before .before .if1 .left)) in
+add-n-3 c = let c3 = c .before .before .before in let d = digits (c3 .args .text .now) (c3 .args .at) (whole-fits (drop (c3 .args .at) (c3 .args .text .now)) (c3 .args .stray) (c3 .pre .1) (c .before .before .if1 .left)) in
     omega (arith, d .0, d .1, d .2, d .3)
 
 returns-2 : tie.Need-returns-2
-returns-2 c =
-    let a = (c .before .before .before .before .args) in
-    too-low (a .tables) (a .above) _ (drop (a .at) (a .text .now)) (whole-fits (drop (c .before .before .before .before .args .at) (c .before .before .before .before .args .text .now)) (c .before .before .before .before .args .stray) (c .before .before .before .before .pre .1) (c .before .before .before .if1 .left)) (number-at (a .text .now) (a .at)) (omega (arith, c .if2 .taken))
+returns-2 c = let c3 = c .before .before .before in let c4 = c3 .before in let a = (c4 .args) in
+    too-low (a .tables) (a .above) _ (drop (a .at) (a .text .now)) (whole-fits (drop (c4 .args .at) (c4 .args .text .now)) (c4 .args .stray) (c4 .pre .1) (c3 .if1 .left)) (number-at (a .text .now) (a .at)) (omega (arith, c .if2 .taken))
 
 returns-3 : tie.Need-returns-3
-returns-3 c =
-    let a = (c .before .before .before .before .before .args) in
-    too-high (a .tables) (a .above) _ (drop (a .at) (a .text .now)) (whole-fits (drop (c .before .before .before .before .before .args .at) (c .before .before .before .before .before .args .text .now)) (c .before .before .before .before .before .args .stray) (c .before .before .before .before .before .pre .1) (c .before .before .before .before .if1 .left)) (number-at (a .text .now) (a .at)) (omega (arith, c .before .if2 .left)) (c .if3 .taken)
+returns-3 c = let c4 = c .before .before .before .before in let c5 = c4 .before in let a = (c5 .args) in
+    too-high (a .tables) (a .above) _ (drop (a .at) (a .text .now)) (whole-fits (drop (c5 .args .at) (c5 .args .text .now)) (c5 .args .stray) (c5 .pre .1) (c4 .if1 .left)) (number-at (a .text .now) (a .at)) (omega (arith, c .before .if2 .left)) (c .if3 .taken)
 
 returns-4 : tie.Need-returns-4
-returns-4 c =
-    let a = (c .before .before .before .before .before .args) in
-    found (a .tables) (a .above) _ (drop (a .at) (a .text .now)) (whole-fits (drop (c .before .before .before .before .before .args .at) (c .before .before .before .before .before .args .text .now)) (c .before .before .before .before .before .args .stray) (c .before .before .before .before .before .pre .1) (c .before .before .before .before .if1 .left)) (number-at (a .text .now) (a .at)) (omega (arith, c .before .if2 .left)) (c .if3 .left)
+returns-4 c = let c4 = c .before .before .before .before in let c5 = c4 .before in let a = (c5 .args) in
+    found (a .tables) (a .above) _ (drop (a .at) (a .text .now)) (whole-fits (drop (c5 .args .at) (c5 .args .text .now)) (c5 .args .stray) (c5 .pre .1) (c4 .if1 .left)) (number-at (a .text .now) (a .at)) (omega (arith, c .before .if2 .left)) (c .if3 .left)
 
 pub next-number-spec : {M : Type 1} → statement M
 next-number-spec = tie.close (tie.spec returns (λ c. search needs) (λ c. search needs) sub-n mul-n (λ c. search needs) (λ c. search needs) sub-n-2 add-n-3 returns-2 returns-3 returns-4)

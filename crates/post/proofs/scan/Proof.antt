@@ -35,14 +35,13 @@ add-l : tie.Need-add-l Inv-loop μ-loop
 add-l c = omega (arith, c .before .before .before .before .loop .inv .0)
 
 loop-again : tie.Need-loop-again Inv-loop μ-loop
-loop-again c =
-    let l = (c .before .before .before .before .loop) in
-    let a = (c .before .before .before .before .before .before .args) in
+loop-again c = let c4 = c .before .before .before .before in let c6 = c4 .before .before in let l = (c4 .loop) in
+    let a = (c6 .args) in
     let t = a .text .now in
     let h : 36 * l .l + 36 ≤ length t = omega (arith, l .inv .0) in
     let st = stands (a .tables) (l .above) _ (drop (36 * l .l) t) (rw (length-drop (36 * l .l) t) (omega arith)) (sym (c .before .next-number .ensures)) (c .if1 .left) in
     let e : 36 * l .l + 36 ≡ 36 * (l .l + 1) = omega arith in
-    (l .inv .0, omega arith, rw e at (passed-more (a .tables) (l .above) (36 * l .l) _ t (c .before .before .before .before .before .before .pre) h (l .inv .2) st))
+    (l .inv .0, omega arith, rw e at (passed-more (a .tables) (l .above) (36 * l .l) _ t (c6 .pre) h (l .inv .2) st))
 
 mul-at-2 : tie.Need-mul-at-2 Inv-loop μ-loop
 mul-at-2 c = omega (arith, c .before .loop .inv .0)

@@ -26,12 +26,11 @@ returns-4 : tie.Need-returns-4
 returns-4 c = λ e. absurd (let z : _≡_ {A = ℕ} 0 1 = cc in omega arith)
 
 returns-5 : tie.Need-returns-5
-returns-5 c =
-    let a = (c .before .before .before .before .before .before .before .before .args) in
+returns-5 c = let c8 = c .before .before .before .before .before .before .before .before in let a = (c8 .args) in
     let t = a .text .now in
     let e = last-is 1 _ (sym (c .before .before .is-last .ensures) ∙ not-false _ (c .before .if4 .left)) in
     λ y.
-    whole-post (a .tables) t (length t / 36) (c .before .before .before .before .before .before .before .before .pre) (omega arith) (c .lines-rise .ensures y) (omega arith) (sym (part-is t (36 * (length t / 36))) ∙ e .1)
+    whole-post (a .tables) t (length t / 36) (c8 .pre) (omega arith) (c .lines-rise .ensures y) (omega arith) (sym (part-is t (36 * (length t / 36))) ∙ e .1)
 
 pub seen-whole-spec : {M : Type 1} → statement M
 seen-whole-spec = tie.close (tie.spec (λ c. search needs) (λ c. search needs) returns returns-2 returns-3 (λ c. search needs) (λ c. search needs) (λ c. search needs) (λ c. search needs) (λ c κs. search needs) returns-4 (λ c κs. search needs) returns-5)

@@ -13,10 +13,9 @@ unfolding lowest highest
 stray-in-requires c κs = (refl, refl, refl, refl, omega arith, omega arith, omega arith, omega (arith, c .before .before .before .before .before .pre), omega arith)
 
 returns : tie.Need-returns
-returns c =
-    let a = (c .before .before .before .before .before .before .args) in
+returns c = let c6 = c .before .before .before .before .before .before in let a = (c6 .args) in
     let s = drop (a .at) (a .text .now) in
-    first-of s 36 (c .stray-in .result) (omega arith) (rw (length-drop (a .at) (a .text .now)) (omega (arith, c .before .before .before .before .before .before .pre))) (λ h. absurd (omega arith)) (c .stray-in .ensures)
+    first-of s 36 (c .stray-in .result) (omega arith) (rw (length-drop (a .at) (a .text .now)) (omega (arith, c6 .pre))) (λ h. absurd (omega arith)) (c .stray-in .ensures)
 
 pub stray-at-spec : {M : Type 1} → statement M
 stray-at-spec = tie.close (tie.spec stray-in-requires returns)

@@ -34,10 +34,10 @@ column-fits-requires-2 c κs =
     (p .0, p .1, omega (arith, p .4, p .5, p .6), omega (arith, p .4, p .5, p .6, p .7, p .8))
 
 add-straying : tie.Need-add-straying Inv-loop μ-loop
-add-straying c = omega (arith, c .before .before .before .before .before .before .pre .4, c .before .before .before .before .before .before .pre .6)
+add-straying c = let c6 = c .before .before .before .before .before .before in omega (arith, c6 .pre .4, c6 .pre .6)
 
 add-column-fits-2 : tie.Need-add-column-fits-2 Inv-loop μ-loop
-add-column-fits-2 c = omega (arith, c .before .before .before .before .before .before .before .pre .4, c .before .before .before .before .before .before .before .pre .6)
+add-column-fits-2 c = let c7 = c .before .before .before .before .before .before .before in omega (arith, c7 .pre .4, c7 .pre .6)
 
 column-fits-requires-3 : tie.Need-column-fits-requires-3 Inv-loop μ-loop
 column-fits-requires-3 c κs =
@@ -45,19 +45,18 @@ column-fits-requires-3 c κs =
     (p .2, p .3, omega (arith, p .4, p .5, p .6), omega (arith, p .4, p .5, p .6, p .7, p .8))
 
 add-straying-2 : tie.Need-add-straying-2 Inv-loop μ-loop
-add-straying-2 c = omega (arith, c .before .before .before .before .before .before .before .before .pre .4, c .before .before .before .before .before .before .before .before .pre .6)
+add-straying-2 c = let c8 = c .before .before .before .before .before .before .before .before in omega (arith, c8 .pre .4, c8 .pre .6)
 
 loop-again : tie.Need-loop-again Inv-loop μ-loop
-loop-again c =
-    let l = c .before .before .before .before .before .before .before .before .before .before .loop in
-    let a = (c .before .before .before .before .before .before .before .before .before .before .before .before .args) in
-    let f = (c .before .before .before .before .before .before .before .before .column-fits) in
-    let g = (c .before .before .before .before .before .before .column-fits2) in
-    let h = (c .before .before .before .before .column-fits3) in
+loop-again c = let c3 = c .before .before .before in let c4 = c3 .before in let c5 = c4 .before in let c6 = c5 .before in let c7 = c6 .before in let c8 = c7 .before in let c9 = c8 .before in let c10 = c9 .before in let c12 = c10 .before .before in let l = c10 .loop in
+    let a = (c12 .args) in
+    let f = (c8 .column-fits) in
+    let g = (c6 .column-fits2) in
+    let h = (c4 .column-fits3) in
     let e : c .smaller3 .result ≡ smaller (smaller (l .column) (straying (f .result) (l .j) (a .third + 16))) (smaller (straying (g .result) (a .second + l .j) (a .third + 16)) (straying (h .result) (a .third + l .j) (a .third + 16))) =
-    rw (c .smaller3 .ensures, c .before .smaller2 .ensures, c .before .before .smaller .ensures, c .before .before .before .before .before .before .before .straying .ensures, c .before .before .before .before .before .straying2 .ensures, c .before .before .before .straying3 .ensures) in (
+    rw (c .smaller3 .ensures, c .before .smaller2 .ensures, c .before .before .smaller .ensures, c7 .straying .ensures, c5 .straying2 .ensures, c3 .straying3 .ensures) in (
       l .inv .0,
-      omega (arith, c .before .before .before .before .before .before .before .before .before .loop-test .taken),
+      omega (arith, c9 .loop-test .taken),
       rw e (least-more (drop (a .at) (a .text .now)) (a .second) (a .third) (l .j) (l .column) (f .result) (g .result) (h .result) (f .ensures) (g .ensures) (h .ensures) (l .inv .2)),
     )
 

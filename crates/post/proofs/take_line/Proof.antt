@@ -30,11 +30,10 @@ column-fits-requires-3 : tie.Need-column-fits-requires-3 Inv-loop μ-loop
 column-fits-requires-3 c κs = (c .before .before .before .before .before .pre .2, c .before .before .before .before .before .pre .3, omega arith, omega arith)
 
 loop-again : tie.Need-loop-again Inv-loop μ-loop
-loop-again c =
-    let l = (c .before .before .before .before .before .loop) in
-    let a = (c .before .before .before .before .before .before .before .args) in
+loop-again c = let c3 = c .before .before .before in let c5 = c3 .before .before in let c7 = c5 .before .before in let l = (c5 .loop) in
+    let a = (c7 .args) in
     let s = drop (a .at) (a .text .now) in
-    (omega arith, simp length-set (l .inv .1), took-more s (a .fits .now) (l .fits) (l .j) _ _ _ (omega arith) (l .inv .2) (c .before .before .before .column-fits .ensures) (c .before .before .column-fits2 .ensures) (c .before .column-fits3 .ensures))
+    (omega arith, simp length-set (l .inv .1), took-more s (a .fits .now) (l .fits) (l .j) _ _ _ (omega arith) (l .inv .2) (c3 .column-fits .ensures) (c .before .before .column-fits2 .ensures) (c .before .column-fits3 .ensures))
 
 returns : tie.Need-returns Inv-loop μ-loop
 returns c =

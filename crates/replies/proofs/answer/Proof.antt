@@ -12,21 +12,19 @@ use Rattle.replies.proofs.answer.Statement.{statement}
 use Rattle.replies.proofs.answer.Tie as tie
 
 seal-requires : tie.Need-seal-requires
-seal-requires c κs =
-    let start = c .before .before .before .before .before .before .before .before .before .before .before in
+seal-requires c κs = let c3 = c .before .before .before in let c7 = c3 .before .before .before .before in let c11 = c7 .before .before .before .before in let start = c11 in
     let a = start .args in
-    let first = c .before .before .before .before .before .before .before .put .ensures in
-    let shown = c .before .before .before .put-asked .ensures in
+    let first = c7 .put .ensures in
+    let shown = c3 .put-asked .ensures in
     let short = asked-short (a .g) (a .a) (start .pre .0) in
-    (omega (arith, first .0, shown .0), rw (shown .1, length-stored (c .before .before .before .before .before .before .before .put .last .0) (c .before .before .before .before .before .before .before .put .result) (askedData (a .g) (a .a)), first .1, length-stored (a .buf .now) 0 (2 ∷ [])) (omega (arith, first .0, shown .0, short, start .pre .1)))
+    (omega (arith, first .0, shown .0), rw (shown .1, length-stored (c7 .put .last .0) (c7 .put .result) (askedData (a .g) (a .a)), first .1, length-stored (a .buf .now) 0 (2 ∷ [])) (omega (arith, first .0, shown .0, short, start .pre .1)))
 
 returns : tie.Need-returns
-returns c =
-    let start = c .before .before .before .before .before .before .before .before .before .before .before .before .before .before in
+returns c = let c6 = c .before .before .before .before .before .before in let c10 = c6 .before .before .before .before in let c14 = c10 .before .before .before .before in let start = c14 in
     let a = start .args in
     let content = askedData (a .g) (a .a) in
-    let first = c .before .before .before .before .before .before .before .before .before .before .put .ensures in
-    let shown = c .before .before .before .before .before .before .put-asked .ensures in
+    let first = c10 .put .ensures in
+    let shown = c6 .put-asked .ensures in
     let shut = c .before .before .seal .ensures in
     let short = asked-short (a .g) (a .a) (start .pre .0) in
     (omega (arith, first .0, shown .0, shut .0, block-length content), blocking (a .buf .now) content _ _ _ _ _ (omega (arith, short, start .pre .1)) (first .0) (first .1) (shown .0) (shown .1) (shut .1))

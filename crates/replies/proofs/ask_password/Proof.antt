@@ -13,9 +13,8 @@ use Rattle.replies.proofs.ask_password.Tie as tie
 
 returns : tie.Need-returns
 unfolding passwordAsk frameOf bracketed sealed
-returns c =
-    let start = c .before .before .before .before .before .before .before .before .before .before in
-    let written = c .before .before .before .before .before .before .put .ensures in
+returns c = let c6 = c .before .before .before .before .before .before in let c10 = c6 .before .before .before .before in let start = c10 in
+    let written = c6 .put .ensures in
     let shut = c .before .before .seal .ensures in
     (omega (arith, written .0, shut .0), sealing (start .args .buf .now) (1 ∷ 80 ∷ 48 ∷ 2 ∷ 40 ∷ 48 ∷ 48 ∷ 48 ∷ 48 ∷ 41 ∷ []) _ _ (omega arith) (written .0) (written .1) _ (omega arith) (shut .1))
 

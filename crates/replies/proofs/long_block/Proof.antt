@@ -14,11 +14,10 @@ put-long-block-requires c κs =
     (start .pre .0, omega (arith, start .pre .1, start .pre .0 .kept, c .before .before .before .put .ensures .0))
 
 returns : tie.Need-returns
-returns c =
-    let start = c .before .before .before .before .before .before .before .before .before .before .before .before .before .before in
+returns c = let c6 = c .before .before .before .before .before .before in let c10 = c6 .before .before .before .before in let c14 = c10 .before .before .before .before in let start = c14 in
     let a = start .args in
-    let first = c .before .before .before .before .before .before .before .before .before .before .put .ensures in
-    let shown = c .before .before .before .before .before .before .put-long-block .ensures in
+    let first = c10 .put .ensures in
+    let shown = c6 .put-long-block .ensures in
     let shut = c .before .before .seal .ensures in
     let long = long-content (a .g) (start .pre .0) in (
       omega (arith, first .0, shown .0, shut .0),

@@ -23,30 +23,27 @@ unfolding stored rowLines
 loop-holds c = (omega arith, omega arith, refl, refl)
 
 put-requires : tie.Need-put-requires Inv-loop μ-loop
-put-requires c κs =
-    let L = c .before .before .before .loop in
-    let p = c .before .before .before .before .before .before .pre in
-    let s = c .before .before .before .before .before .before .args .tables .now in
+put-requires c κs = let c3 = c .before .before .before in let c6 = c3 .before .before .before in let L = c3 .loop in
+    let p = c6 .pre in
+    let s = c6 .args .tables .now in
     omega (arith, p .0, p .1, L .inv .1, L .inv .2, length-take-le (L .i * 24 + 24 - L .i * 24) (drop (L .i * 24) s) (omega (arith, p .1, length-drop (L .i * 24) s)))
 
 put-requires-2 : tie.Need-put-requires-2 Inv-loop μ-loop
-put-requires-2 c κs =
-    let L = c .before .before .before .before .before .before .before .before .loop in
-    let p = c .before .before .before .before .before .before .before .before .before .before .before .pre in
-    let s = c .before .before .before .before .before .before .before .before .before .before .before .args .tables .now in
-    let put = c .before .before .before .before .put in
+put-requires-2 c κs = let c4 = c .before .before .before .before in let c8 = c4 .before .before .before .before in let c11 = c8 .before .before .before in let L = c8 .loop in
+    let p = c11 .pre in
+    let s = c11 .args .tables .now in
+    let put = c4 .put in
     omega (arith, p .0, p .1, L .inv .1, L .inv .2, put .ensures .0, put .kept .0, length-take-le (L .i * 24 + 24 - L .i * 24) (drop (L .i * 24) s) (omega (arith, p .1, length-drop (L .i * 24) s)))
 
 loop-again : tie.Need-loop-again Inv-loop μ-loop
-loop-again c =
-    let L = c .before .before .before .before .before .before .before .before .before .before .before .loop in
-    let p = c .before .before .before .before .before .before .before .before .before .before .before .before .before .before .pre in
-    let a = c .before .before .before .before .before .before .before .before .before .before .before .before .before .before .args in
+loop-again c = let c7 = c .before .before .before .before .before .before .before in let c10 = c7 .before .before .before in let c11 = c10 .before in let c14 = c11 .before .before .before in let L = c11 .loop in
+    let p = c14 .pre in
+    let a = c14 .args in
     let s = a .tables .now in
-    let row = c .before .before .before .before .before .before .before .put in
+    let row = c7 .put in
     let end = c .before .before .put2 in
     let part = ap (λ (n : ℕ). take n (drop (L .i * 24) s)) {x = L .i * 24 + 24 - L .i * 24} {y = 24} (omega arith) in
-    let more = c .before .before .before .before .before .before .before .before .before .before .loop-test .taken in (
+    let more = c10 .loop-test .taken in (
       omega arith,
       row-place (a .out .now) s (a .at) (L .i) (p .1) more (L .out) (L .to) (L .inv .3) (L .inv .1) _ part _ _ (row .ensures .1) (row .ensures .0) _ (end .ensures .1) _ (end .ensures .0),
       omega (arith, end .kept .0, row .kept .0, L .inv .2),

@@ -15,13 +15,12 @@ use Rattle.reporting.proofs.report.Statement.{statement}
 use Rattle.reporting.proofs.report.Tie as tie
 
 returns : tie.Need-returns
-returns c =
-    let a = c .before .before .before .before .before .before .before .before .before .before .before .args in
-    let d = c .before .before .before .before .before .before .before .deliver in
+returns c = let c6 = c .before .before .before .before .before .before in let c7 = c6 .before in let c8 = c7 .before in let c11 = c8 .before .before .before in let a = c11 .args in
+    let d = c7 .deliver in
     let put = c .before .before .put-report .ensures in
-    let behind = c .before .before .before .before .before .before .detail .ensures in
-    let s = shows-report (a .text .now) (a .out .now) (d .result .number) (d .result .place) (d .result .acknowledged) (d .result .next) _ _ (c .before .before .before .before .before .before .before .before .before .before .before .pre) (put .1 .1)
-    (subst (λ (m : Meter). DeliveredAs m (a .text .now) (d .result .number) (d .result .place) (d .result .acknowledged) (d .result .next)) (c .before .before .before .before .before .before .before .before .opened .ensures) (d .ensures))
+    let behind = c6 .detail .ensures in
+    let s = shows-report (a .text .now) (a .out .now) (d .result .number) (d .result .place) (d .result .acknowledged) (d .result .next) _ _ (c11 .pre) (put .1 .1)
+    (subst (λ (m : Meter). DeliveredAs m (a .text .now) (d .result .number) (d .result .place) (d .result .acknowledged) (d .result .next)) (c8 .opened .ensures) (d .ensures))
     (put .0 ∙ ap (λ (n : ℕ). length (numberLine (d .result .number) n) + 600) behind)
     (put .1 .0 ∙ ap (λ (n : ℕ). stored (a .out .now) 0 (numberLine (d .result .number) n ++ rowLines 24 (d .result .next .registers .tables))) behind) in
     (s, begun (a .out .now) (s .shown) _ (s .long) _ (s .held))

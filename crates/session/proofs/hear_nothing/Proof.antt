@@ -11,11 +11,11 @@ returns c = rw (← c .before .before .is-good .ensures, not-true (c .before .be
 
 returns-2 : tie.Need-returns-2
 unfolding silent
-returns-2 c = rw (← c .before .before .before .before .is-good .ensures, not-false (c .before .before .before .before .is-good .result) (c .before .before .before .if1 .left), ne-eqb _ _ (c .before .if2 .taken), c .end .ensures)
+returns-2 c = let c3 = c .before .before .before in let c4 = c3 .before in rw (← c4 .is-good .ensures, not-false (c4 .is-good .result) (c3 .if1 .left), ne-eqb _ _ (c .before .if2 .taken), c .end .ensures)
 
 returns-3 : tie.Need-returns-3
 unfolding silent
-returns-3 c = rw (← c .before .before .before .before .is-good .ensures, not-false (c .before .before .before .before .is-good .result) (c .before .before .before .if1 .left), eq-eqb _ _ (c .before .if2 .left), c .end2 .ensures)
+returns-3 c = let c3 = c .before .before .before in let c4 = c3 .before in rw (← c4 .is-good .ensures, not-false (c4 .is-good .result) (c3 .if1 .left), eq-eqb _ _ (c .before .if2 .left), c .end2 .ensures)
 
 pub hear-nothing-spec : {M : Type 1} → statement M
 hear-nothing-spec = tie.close (tie.spec (λ c κs. search needs) (λ c κs. search needs) returns (λ c κs. search needs) returns-2 (λ c κs. search needs) returns-3)

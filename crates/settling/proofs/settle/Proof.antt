@@ -11,11 +11,11 @@ returns c = rw (← c .before .before .before .event-of .ensures, ← c .before 
 
 returns-2 : tie.Need-returns-2
 unfolding settles
-returns-2 c = rw (← c .before .before .before .before .before .event-of .ensures, ← c .before .before .before .before .refusal-of .ensures, eq-eqb _ _ (c .before .before .before .if1 .left), ← c .before .before .is-well-formed .ensures, c .before .if2 .taken, c .hear-or-leave .ensures)
+returns-2 c = let c3 = c .before .before .before in let c4 = c3 .before in let c5 = c4 .before in rw (← c5 .event-of .ensures, ← c4 .refusal-of .ensures, eq-eqb _ _ (c3 .if1 .left), ← c .before .before .is-well-formed .ensures, c .before .if2 .taken, c .hear-or-leave .ensures)
 
 returns-3 : tie.Need-returns-3
 unfolding settles
-returns-3 c = rw (← c .before .before .before .before .before .event-of .ensures, ← c .before .before .before .before .refusal-of .ensures, eq-eqb _ _ (c .before .before .before .if1 .left), ← c .before .before .is-well-formed .ensures, c .before .if2 .left, c .refuse2 .ensures)
+returns-3 c = let c3 = c .before .before .before in let c4 = c3 .before in let c5 = c4 .before in rw (← c5 .event-of .ensures, ← c4 .refusal-of .ensures, eq-eqb _ _ (c3 .if1 .left), ← c .before .before .is-well-formed .ensures, c .before .if2 .left, c .refuse2 .ensures)
 
 pub settle-spec : {M : Type 1} → statement M
 settle-spec = tie.close (tie.spec (λ c κs. search needs) (λ c κs. search needs) (λ c κs. search needs) returns (λ c κs. search needs) (λ c κs. search needs) returns-2 (λ c κs. search needs) returns-3)

@@ -14,14 +14,13 @@ use Rattle.showing.proofs.put_set.Tie as tie
 
 returns : tie.Need-returns
 unfolding setLine
-returns c =
-    let start = c .before .before .before .before .before .before .before .before .before .before .before .before .before .before .before .before .before .before .before .before .before .before in
+returns c = let c7 = c .before .before .before .before .before .before .before in let c12 = c7 .before .before .before .before .before in let c17 = c12 .before .before .before .before .before in let c22 = c17 .before .before .before .before .before in let start = c22 in
     let a = start .args in
     let s = a .sets .now in
     let inside = start .pre .0 in
-    let address = c .before .before .before .before .before .before .before .before .before .before .before .before .before .before .before .before .before .put .ensures in
-    let space = c .before .before .before .before .before .before .before .before .before .before .before .before .put2 .ensures in
-    let value = c .before .before .before .before .before .before .before .put3 .ensures in
+    let address = c17 .put .ensures in
+    let space = c12 .put2 .ensures in
+    let value = c7 .put3 .ensures in
     let end = c .before .before .put4 .ensures in
     let lent = address-lent s (a .at) (a .address) (a .value) inside in
     let lent' = value-lent s (a .at) (a .address) (a .value) inside in

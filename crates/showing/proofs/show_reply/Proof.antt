@@ -13,13 +13,12 @@ use Rattle.showing.proofs.show_reply.Statement.{statement}
 use Rattle.showing.proofs.show_reply.Tie as tie
 
 returns : tie.Need-returns
-returns c =
-    let a = c .before .before .before .before .before .before .before .before .before .before .before .args in
+returns c = let c4 = c .before .before .before .before in let c6 = c4 .before .before in let c11 = c6 .before .before .before .before .before in let a = c11 .args in
     let shown = wantedShown (a .every) (a .address .now) in
-    let r = c .before .before .before .before .before .before .strip in
+    let r = c6 .strip in
     let said = c .before .before .refuse .ensures in
-    let s = refusal-shows (a .out .now) (r .result .number) (r .result .place) _ _ (omega (arith, c .before .before .before .before .before .before .before .before .before .before .before .pre)) (said .0) (said .1) in
-    rw (reply-refused shown (a .reply .now) (r .result) (r .ensures .answer) (c .before .before .before .before .if1 .taken)) s
+    let s = refusal-shows (a .out .now) (r .result .number) (r .result .place) _ _ (omega (arith, c11 .pre)) (said .0) (said .1) in
+    rw (reply-refused shown (a .reply .now) (r .result) (r .ensures .answer) (c4 .if1 .taken)) s
 
 array-share-prefix-plain : tie.Need-array-share-prefix-plain
 array-share-prefix-plain c =
@@ -30,16 +29,14 @@ slice-aggregate-show-block c =
     sym (length-take-le _ _ (rw (c .before .before .before .strip .ensures .answer, c .before .before .before .strip .kept .1 .0) (stripped-fits _ _)))
 
 show-block-requires : tie.Need-show-block-requires
-show-block-requires c κs =
-    let r = c .before .before .before .before .strip in
-    omega (arith, c .before .before .before .before .before .before .before .before .before .pre, length-take (r .result .length) (r .last .1 .0), r .kept .1 .0)
+show-block-requires c κs = let c4 = c .before .before .before .before in let c9 = c4 .before .before .before .before .before in let r = c4 .strip in
+    omega (arith, c9 .pre, length-take (r .result .length) (r .last .1 .0), r .kept .1 .0)
 
 returns-2 : tie.Need-returns-2
-returns-2 c =
-    let a = c .before .before .before .before .before .before .before .before .before .before .before .before .args in
+returns-2 c = let c5 = c .before .before .before .before .before in let c7 = c5 .before .before in let c12 = c7 .before .before .before .before .before in let a = c12 .args in
     let shown = wantedShown (a .every) (a .address .now) in
-    let r = c .before .before .before .before .before .before .before .strip in
-    let one = c .before .before .before .before .before .if1 .left in
+    let r = c7 .strip in
+    let one = c5 .if1 .left in
     let s = c .before .before .show-block .ensures in
     rw (reply-shown shown (a .reply .now) (r .result) (r .ensures .answer) one, ← stripped-is (a .reply .now) _ (r .result) _ (r .ensures .answer) (r .ensures .held) one) s
 

@@ -15,9 +15,8 @@ held-good-requires c κs =
 
 returns : tie.Need-returns
 unfolding receiverGood markGood
-returns c =
-    let asked = c .before .before .before .before .before .before in
-    rw (← asked .before .limit-of .ensures, le-leb _ _ (asked .if1 .taken), c .before .before .first-good .ensures, c .before .before .before .hurt-good .ensures, c .held-good .ensures)
+returns c = let c3 = c .before .before .before in let c6 = c3 .before .before .before in let asked = c6 in
+    rw (← asked .before .limit-of .ensures, le-leb _ _ (asked .if1 .taken), c .before .before .first-good .ensures, c3 .hurt-good .ensures, c .held-good .ensures)
 
 returns-2 : tie.Need-returns-2
 unfolding receiverGood markGood

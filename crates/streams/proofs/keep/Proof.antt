@@ -15,12 +15,11 @@ put-requires c κs =
     omega (arith, c .before .before .before .before .pre, ap length (c .first .ensures .1), length-take (length (a .buf .now) - a .at) (a .piece .now))
 
 returns : tie.Need-returns
-returns c =
-    let a = c .before .before .before .before .before .before .before .args in
-    let part = c .before .before .before .first .ensures .1 in
+returns c = let c3 = c .before .before .before in let c7 = c3 .before .before .before .before in let a = c7 .args in
+    let part = c3 .first .ensures .1 in
     let put = c .before .before .put .ensures in
     let next = put .0 ∙ ap (λ (l : List ℕ). a .at + length l) part in
-    (next, (omega (arith, c .before .before .before .before .before .before .before .pre, next, length-take (length (a .buf .now) - a .at) (a .piece .now)), put .1 ∙ ap (λ (l : List ℕ). stored (a .buf .now) (a .at) l) part))
+    (next, (omega (arith, c7 .pre, next, length-take (length (a .buf .now) - a .at) (a .piece .now)), put .1 ∙ ap (λ (l : List ℕ). stored (a .buf .now) (a .at) l) part))
 
 pub keep-spec : {M : Type 1} → statement M
 keep-spec = tie.close (tie.spec (λ c. search needs) (λ c κs. search needs) put-requires (λ c. search needs) returns)

@@ -15,11 +15,11 @@ returns-2 c = rw (← c .before .before .before .before .same .ensures, c .befor
 
 returns-3 : tie.Need-returns-3
 unfolding asked askClock askSerial askAccount bracketed
-returns-3 c = rw (← c .before .before .before .before .before .before .before .same .ensures, c .before .before .before .before .before .before .if1 .left, ← c .before .before .before .before .same2 .ensures, c .before .before .before .if2 .left, ← c .before .same3 .ensures, c .if3 .taken)
+returns-3 c = let c3 = c .before .before .before in let c4 = c3 .before in let c6 = c4 .before .before in let c7 = c6 .before in rw (← c7 .same .ensures, c6 .if1 .left, ← c4 .same2 .ensures, c3 .if2 .left, ← c .before .same3 .ensures, c .if3 .taken)
 
 returns-4 : tie.Need-returns-4
 unfolding asked askClock askSerial askAccount bracketed
-returns-4 c = rw (← c .before .before .before .before .before .before .before .before .same .ensures, c .before .before .before .before .before .before .before .if1 .left, ← c .before .before .before .before .before .same2 .ensures, c .before .before .before .before .if2 .left, ← c .before .before .same3 .ensures, c .before .if3 .left, c .energy .ensures)
+returns-4 c = let c4 = c .before .before .before .before in let c5 = c4 .before in let c7 = c5 .before .before in let c8 = c7 .before in rw (← c8 .same .ensures, c7 .if1 .left, ← c5 .same2 .ensures, c4 .if2 .left, ← c .before .before .same3 .ensures, c .before .if3 .left, c .energy .ensures)
 
 pub asks-spec : {M : Type 1} → statement M
 asks-spec = tie.close (tie.spec (λ c. search needs) (λ c κs. search needs) returns (λ c. search needs) (λ c κs. search needs) returns-2 (λ c. search needs) (λ c κs. search needs) returns-3 (λ c κs. search needs) returns-4)

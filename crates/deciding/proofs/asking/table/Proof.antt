@@ -6,11 +6,11 @@ use Rattle.deciding.proofs.asking.table.Tie as tie
 
 returns : tie.Need-returns
 unfolding tableAsked
-returns c = rw (← c .before .before .before .before .before .before .has-form .ensures, c .before .before .before .before .before .if1 .taken, ← c .before .before .before .before .rest .ensures .1, ← c .before .before .before .first .ensures .1, ← c .before .before .read-table .ensures, c .before .if2 .taken)
+returns c = let c3 = c .before .before .before in let c4 = c3 .before in let c5 = c4 .before in let c6 = c5 .before in rw (← c6 .has-form .ensures, c5 .if1 .taken, ← c4 .rest .ensures .1, ← c3 .first .ensures .1, ← c .before .before .read-table .ensures, c .before .if2 .taken)
 
 returns-2 : tie.Need-returns-2
 unfolding tableAsked
-returns-2 c = rw (← c .before .before .before .before .before .has-form .ensures, c .before .before .before .before .if1 .taken, ← c .before .before .before .rest .ensures .1, ← c .before .before .first .ensures .1, ← c .before .read-table .ensures, c .if2 .left)
+returns-2 c = let c3 = c .before .before .before in let c4 = c3 .before in let c5 = c4 .before in rw (← c5 .has-form .ensures, c4 .if1 .taken, ← c3 .rest .ensures .1, ← c .before .before .first .ensures .1, ← c .before .read-table .ensures, c .if2 .left)
 
 returns-3 : tie.Need-returns-3
 unfolding tableAsked

@@ -6,11 +6,11 @@ use Rattle.deciding.proofs.telling.table.Tie as tie
 
 returns : tie.Need-returns
 unfolding tableTold
-returns c = rw (← c .before .before .before .before .before .before .before .at .ensures, ← c .before .before .before .before .before .before .rest .ensures .1, ← c .before .before .before .before .before .is-row .ensures, c .before .before .before .before .if1 .taken, ← c .before .before .before .first .ensures .1, ← c .before .before .read-table .ensures, c .before .if2 .taken)
+returns c = let c3 = c .before .before .before in let c4 = c3 .before in let c5 = c4 .before in let c6 = c5 .before in let c7 = c6 .before in rw (← c7 .at .ensures, ← c6 .rest .ensures .1, ← c5 .is-row .ensures, c4 .if1 .taken, ← c3 .first .ensures .1, ← c .before .before .read-table .ensures, c .before .if2 .taken)
 
 returns-2 : tie.Need-returns-2
 unfolding tableTold
-returns-2 c = rw (← c .before .before .before .before .before .before .at .ensures, ← c .before .before .before .before .before .rest .ensures .1, ← c .before .before .before .before .is-row .ensures, c .before .before .before .if1 .taken, ← c .before .before .first .ensures .1, ← c .before .read-table .ensures, c .if2 .left)
+returns-2 c = let c3 = c .before .before .before in let c4 = c3 .before in let c5 = c4 .before in let c6 = c5 .before in rw (← c6 .at .ensures, ← c5 .rest .ensures .1, ← c4 .is-row .ensures, c3 .if1 .taken, ← c .before .before .first .ensures .1, ← c .before .read-table .ensures, c .if2 .left)
 
 returns-3 : tie.Need-returns-3
 unfolding tableTold

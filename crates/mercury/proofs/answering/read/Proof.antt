@@ -47,11 +47,10 @@ energy-in-requires c κs =
     omega (arith, just-nineteen _ sized (ne-eqb _ _ (c .if4 .left)))
 
 returns-5 : tie.Need-returns-5
-returns-5 c =
-    let at-check = c .before .before .before .before .before .before in
+returns-5 c = let c3 = c .before .before .before in let c6 = c3 .before .before .before in let at-check = c6 in
     let sized = sym (at-check .before .before .good-length .ensures) ∙ not-false _ (at-check .before .if1 .left) in
     ap Data (c .energy-in .ensures)
-    ∙ some-data _ _ sized (sym (at-check .check .ensures) ∙ not-false _ (c .before .before .before .if2 .left)) (not-false _ (c .before .before .if3 .left))
+    ∙ some-data _ _ sized (sym (at-check .check .ensures) ∙ not-false _ (c3 .if2 .left)) (not-false _ (c .before .before .if3 .left))
     (ne-eqb _ _ (c .before .if4 .left))
 
 pub read-spec : {M : Type 1} → statement M

@@ -21,8 +21,7 @@ request-requires : tie.Need-request-requires
 request-requires c κs = fields-le _ _ _ (sym (c .before .before .in-range .ensures) ∙ not-false _ (c .before .if1 .left))
 
 returns-3 : tie.Need-returns-3
-returns-3 c =
-    let at-request = c .before .before .before .before .before in
+returns-3 c = let c5 = c .before .before .before .before .before in let at-request = c5 in
     let good = sym (at-request .before .before .before .in-range .ensures) ∙ not-false _ (at-request .before .before .if1 .left) in
     built _ _ _ good (at-request .before .if2 .left) (six _ _ _ _) _ (c .before .before .put .ensures .1 ∙ ap (stored _ 0) (at-request .request .ensures))
 

@@ -19,12 +19,11 @@ returns c =
 
 returns-2 : tie.Need-returns-2
 unfolding holding
-returns-2 c =
-    let start = c .before .before .before .before .before .before .before .before in
+returns-2 c = let c4 = c .before .before .before .before in let c5 = c4 .before in let c8 = c5 .before .before .before in let start = c8 in
     let a = start .before .before .before .before .before .args in
     let whole = whole-frame (a .m) (a .c) (a .damaged) (start .if1 .left) in
-    let chosen = c .before .before .before .before .decide .ensures in
-    let shown = c .before .before .before .before .before .first .ensures .1 in
+    let chosen = c4 .decide .ensures in
+    let shown = c5 .first .ensures .1 in
     let done = c .before .before .act .ensures in (
       (rw (chosen, shown) at (done .0)) ∙ ap answerOf (sym whole),
       (rw (chosen, shown) at (done .1)) ∙ ap (λ (o : Outcome). holding (a .reply .now) (onWire (o .reply))) (sym whole),

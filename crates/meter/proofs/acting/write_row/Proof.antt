@@ -15,11 +15,11 @@ take-row-requires c κs =
 
 returns : tie.Need-returns
 unfolding acted holding
-returns c = (rw (← c .before .before .before .before .before .before .before .is-table .ensures, c .before .before .before .before .before .before .if1 .taken, c .before .before .accept .ensures .0, c .before .before .before .before .emptied .ensures, c .before .before .before .before .before .take-row .ensures), rw (← c .before .before .before .before .before .before .before .is-table .ensures, c .before .before .before .before .before .before .if1 .taken) (c .before .before .accept .ensures .1))
+returns c = let c4 = c .before .before .before .before in let c5 = c4 .before in let c6 = c5 .before in let c7 = c6 .before in (rw (← c7 .is-table .ensures, c6 .if1 .taken, c .before .before .accept .ensures .0, c4 .emptied .ensures, c5 .take-row .ensures), rw (← c7 .is-table .ensures, c6 .if1 .taken) (c .before .before .accept .ensures .1))
 
 returns-2 : tie.Need-returns-2
 unfolding acted holding
-returns-2 c = (rw (← c .before .before .before .before .before .is-table .ensures, c .before .before .before .before .if1 .left, c .before .before .refuse .ensures .0), rw (← c .before .before .before .before .before .is-table .ensures, c .before .before .before .before .if1 .left) (c .before .before .refuse .ensures .1))
+returns-2 c = let c4 = c .before .before .before .before in let c5 = c4 .before in (rw (← c5 .is-table .ensures, c4 .if1 .left, c .before .before .refuse .ensures .0), rw (← c5 .is-table .ensures, c4 .if1 .left) (c .before .before .refuse .ensures .1))
 
 pub write-row-spec : {M : Type 1} → statement M
 write-row-spec = tie.close (tie.spec (λ c κs. search needs) take-row-requires (λ c κs. search needs) (λ c κs. search needs) (λ c. search needs) returns (λ c κs. search needs) (λ c. search needs) returns-2)

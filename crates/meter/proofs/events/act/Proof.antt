@@ -7,7 +7,7 @@ take-event-requires : tie.Need-take-event-requires
 take-event-requires c κs = rw (c .before .event-of .ensures) (c .before .before .before .pre)
 
 returns : tie.Need-returns
-returns c = (rw (← c .before .before .before .before .event-of .ensures, c .before .before .take-event .ensures .0), rw (← c .before .before .before .before .event-of .ensures) (c .before .before .take-event .ensures .1))
+returns c = let c4 = c .before .before .before .before in (rw (← c4 .event-of .ensures, c .before .before .take-event .ensures .0), rw (← c4 .event-of .ensures) (c .before .before .take-event .ensures .1))
 
 pub act-spec : {M : Type 1} → statement M
 act-spec = tie.close (tie.spec (λ c κs. search needs) take-event-requires (λ c. search needs) returns)

@@ -8,11 +8,11 @@ use Rattle.meter.proofs.events.meet.Tie as tie
 
 returns : tie.Need-returns
 unfolding met holding
-returns c = (rw (c .before .before .before .before .before .e .given .1, c .before .before .receive .ensures .0), rw (c .before .before .before .before .before .e .given .1) (c .before .before .receive .ensures .1))
+returns c = let c5 = c .before .before .before .before .before in (rw (c5 .e .given .1, c .before .before .receive .ensures .0), rw (c5 .e .given .1) (c .before .before .receive .ensures .1))
 
 returns-2 : tie.Need-returns-2
 unfolding met holding
-returns-2 c = (rw (c .before .before .before .before .enum-told .given .1, c .before .before .hear-nothing .ensures .0), rw (c .before .before .before .before .enum-told .given .1) (c .before .before .hear-nothing .ensures .1))
+returns-2 c = let c4 = c .before .before .before .before in (rw (c4 .enum-told .given .1, c .before .before .hear-nothing .ensures .0), rw (c4 .enum-told .given .1) (c .before .before .hear-nothing .ensures .1))
 
 returns-3 : tie.Need-returns-3
 unfolding met holding

@@ -20,11 +20,11 @@ pulse-requires c κs = let known = c .before .before .before .before .pre in (kn
 
 returns : tie.Need-returns
 unfolding happened holding
-returns c = (rw (c .before .before .before .before .before .e .given .1, c .before .before .take .ensures .0), rw (c .before .before .before .before .before .e .given .1) (c .before .before .take .ensures .1))
+returns c = let c5 = c .before .before .before .before .before in (rw (c5 .e .given .1, c .before .before .take .ensures .0), rw (c5 .e .given .1) (c .before .before .take .ensures .1))
 
 returns-2 : tie.Need-returns-2
 unfolding happened holding
-returns-2 c = (rw (c .before .before .before .before .enum-told .given .1, c .before .before .silence .ensures .0), rw (c .before .before .before .before .enum-told .given .1) (c .before .before .silence .ensures .1))
+returns-2 c = let c4 = c .before .before .before .before in (rw (c4 .enum-told .given .1, c .before .before .silence .ensures .0), rw (c4 .enum-told .given .1) (c .before .before .silence .ensures .1))
 
 returns-3 : tie.Need-returns-3
 unfolding happened holding

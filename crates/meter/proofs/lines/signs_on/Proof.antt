@@ -5,7 +5,7 @@ use Rattle.meter.proofs.lines.signs_on.Statement.{statement}
 use Rattle.meter.proofs.lines.signs_on.Tie as tie
 
 returns : tie.Need-returns
-returns c = rw (c .same3 .ensures, c .before .before .same2 .ensures, c .before .before .before .before .same .ensures, c .before .before .before .before .before .before .our-line .ensures) (signs-by-held _ _)
+returns c = let c4 = c .before .before .before .before in let c6 = c4 .before .before in rw (c .same3 .ensures, c .before .before .same2 .ensures, c4 .same .ensures, c6 .our-line .ensures) (signs-by-held _ _)
 
 pub signs-on-spec : {M : Type 1} → statement M
 signs-on-spec = tie.close (tie.spec (λ c κs. search needs) (λ c. search needs) (λ c κs. search needs) (λ c. search needs) (λ c κs. search needs) (λ c. search needs) (λ c κs. search needs) returns)

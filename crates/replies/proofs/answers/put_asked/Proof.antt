@@ -14,17 +14,15 @@ use Rattle.replies.proofs.answers.put_asked.Tie as tie
 
 returns : tie.Need-returns
 unfolding askedSets
-returns c =
-    let start = c .before .before .before .before .before .before .before in
+returns c = let c4 = c .before .before .before .before in let c7 = c4 .before .before .before in let start = c7 in
     let a = start .args in
     let e = c .before .before .put-clock-sets .ensures in
-    asked (a .g) (a .a) _ (a .buf .now) (a .at) _ _ (ap (askedSets (a .g)) (c .before .before .before .before .enum-told .given .1))
+    asked (a .g) (a .a) _ (a .buf .now) (a .at) _ _ (ap (askedSets (a .g)) (c4 .enum-told .given .1))
     (record { next = e .0 ∙ ap (_+_ (a .at)) (sym (clock-long (a .g .clock .time) (a .g .clock .date))); held = e .1 })
 
 returns-2 : tie.Need-returns-2
 unfolding askedSets
-returns-2 c =
-    let met = c .before .before .before .before .before .before .before in
+returns-2 c = let c7 = c .before .before .before .before .before .before .before in let met = c7 in
     let start = met .before .before .before in
     let a = start .args in
     let e = c .before .before .put-serial-set .ensures in
@@ -34,26 +32,23 @@ returns-2 c =
 
 returns-3 : tie.Need-returns-3
 unfolding askedSets
-returns-3 c =
-    let start = c .before .before .before .before .before .before .before .before .before in
+returns-3 c = let c6 = c .before .before .before .before .before .before in let c9 = c6 .before .before .before in let start = c9 in
     let a = start .args in
     let e = c .before .before .put-account-set .ensures in
-    asked (a .g) (a .a) _ (a .buf .now) (a .at) _ _ (ap (askedSets (a .g)) (c .before .before .before .before .before .before .enum-told3 .given .1))
+    asked (a .g) (a .a) _ (a .buf .now) (a .at) _ _ (ap (askedSets (a .g)) (c6 .enum-told3 .given .1))
     (single (accountSet (a .g .account)) 19 _ _ _ _ (account-line (a .g .account) (start .pre .0 .account)) (e .0) (e .1))
 
 returns-4 : tie.Need-returns-4
-returns-4 c =
-    let start = c .before .before .before .before .before .before .before .before .before in
+returns-4 c = let c3 = c .before .before .before in let c6 = c3 .before .before .before in let c9 = c6 .before .before .before in let start = c9 in
     let a = start .args in
     let e = c .before .before .put-energy-set .ensures in
-    asked-energy (a .g) (a .a) (a .buf .now) (a .at) _ _ _ _ (c .before .before .before .before .before .before .a .given .1) (c .before .before .before .energy-of .ensures) (e .0) (e .1)
+    asked-energy (a .g) (a .a) (a .buf .now) (a .at) _ _ _ _ (c6 .a .given .1) (c3 .energy-of .ensures) (e .0) (e .1)
 
 returns-5 : tie.Need-returns-5
-returns-5 c =
-    let start = c .before .before .before .before .before .before .before .before .before .before in
+returns-5 c = let c7 = c .before .before .before .before .before .before .before in let c10 = c7 .before .before .before in let start = c10 in
     let a = start .args in
     let e = c .before .before .put-asked-table .ensures in
-    asked-table (a .g) (a .a) (a .buf .now) (a .at) _ _ _ (c .before .before .before .before .before .before .before .a2 .given .1) (e .0) (e .1)
+    asked-table (a .g) (a .a) (a .buf .now) (a .at) _ _ _ (c7 .a2 .given .1) (e .0) (e .1)
 
 pub put-asked-spec : {M : Type 1} → statement M
 put-asked-spec = tie.close (tie.spec (λ c. search needs) (λ c κs. search needs) (λ c. search needs) returns (λ c. search needs) (λ c. search needs) (λ c κs. search needs) (λ c. search needs) returns-2 (λ c. search needs) (λ c. search needs) (λ c κs. search needs) (λ c. search needs) returns-3 (λ c. search needs) (λ c κs. search needs) (λ c κs. search needs) (λ c. search needs) returns-4 (λ c. search needs) (λ c. search needs) (λ c κs. search needs) (λ c. search needs) returns-5)

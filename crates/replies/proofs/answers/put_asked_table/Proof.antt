@@ -7,7 +7,7 @@ use Rattle.replies.proofs.answers.put_asked_table.Statement.{statement}
 use Rattle.replies.proofs.answers.put_asked_table.Tie as tie
 
 put-table-set-requires : tie.Need-put-table-set-requires
-put-table-set-requires c κs = rw (c .before .row-of .ensures) (omega (arith, c .before .before .before .before .pre, row-short (c .before .before .before .before .args .rows .now) (c .before .before .before .before .args .t .0)))
+put-table-set-requires c κs = let c4 = c .before .before .before .before in rw (c .before .row-of .ensures) (omega (arith, c4 .pre, row-short (c4 .args .rows .now) (c4 .args .t .0)))
 
 returns : tie.Need-returns
 returns c = rw (← c .before .before .before .before .row-of .ensures) (c .before .before .put-table-set .ensures)

@@ -9,10 +9,9 @@ use Rattle.replies.proofs.block.put_block.Tie as tie
 
 returns : tie.Need-returns
 unfolding blockData
-returns c =
-    let start = c .before .before .before .before .before .before .before .before .before .before in
+returns c = let c7 = c .before .before .before .before .before .before .before in let c10 = c7 .before .before .before in let start = c10 in
     let a = start .args in
-    let lines = c .before .before .before .before .before .before .before .put-sets .ensures in
+    let lines = c7 .put-sets .ensures in
     let end = c .before .before .put .ensures in
     let long = sets-long tables (a .g) (start .pre .0) in (
       omega (arith, lines .0, end .0),

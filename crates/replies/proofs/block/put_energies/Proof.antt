@@ -13,8 +13,7 @@ use Rattle.replies.proofs.block.put_energies.Tie as tie
 
 returns : tie.Need-returns
 unfolding energySets energyNo
-returns c =
-    let fourth = c .before .before .before .before .before .before in
+returns c = let c6 = c .before .before .before .before .before .before in let fourth = c6 in
     let third = fourth .before .before .before .before in
     let second = third .before .before .before .before in
     let first = second .before .before .before .before in

@@ -10,12 +10,11 @@ use Rattle.replies.proofs.block.put_facts.Tie as tie
 
 returns : tie.Need-returns
 unfolding factSets
-returns c =
-    let start = c .before .before .before .before .before .before .before .before .before .before .before .before .before .before .before .before .before .before .before in
+returns c = let c6 = c .before .before .before .before .before .before in let c10 = c6 .before .before .before .before in let c14 = c10 .before .before .before .before in let c19 = c14 .before .before .before .before .before in let start = c19 in
     let a = start .args in
-    let first = c .before .before .before .before .before .before .before .before .before .before .before .before .before .before .put-serial-set .ensures in
-    let second = c .before .before .before .before .before .before .before .before .before .before .put-date-set .ensures in
-    let third = c .before .before .before .before .before .before .put-time-set .ensures in
+    let first = c14 .put-serial-set .ensures in
+    let second = c10 .put-date-set .ensures in
+    let third = c6 .put-time-set .ensures in
     let fourth = c .before .before .put-account-set .ensures in
     let one = single (serialSet (a .serial .now)) 20 (a .buf .now) (a .at) _ _ (serial-line (a .serial .now) (start .pre .0)) (first .0) (first .1) in
     let two = joined _ _ _ _ _ _ _ _ one (single (dateSet (a .clock .date)) 17 _ _ _ _ (date-line (a .clock .date)) (second .0) (second .1)) in

@@ -10,17 +10,15 @@ use Rattle.replies.proofs.block.put_long_block.Statement.{statement}
 use Rattle.replies.proofs.block.put_long_block.Tie as tie
 
 put-periods-requires : tie.Need-put-periods-requires
-put-periods-requires c κs =
-    let start = c .before .before .before .before .before .before .before .before .before in
-    (start .pre .0 .kept, omega (arith, start .pre .1, c .before .before .before .before .put-sets .ensures .0))
+put-periods-requires c κs = let c4 = c .before .before .before .before in let c9 = c4 .before .before .before .before .before in let start = c9 in
+    (start .pre .0 .kept, omega (arith, start .pre .1, c4 .put-sets .ensures .0))
 
 returns : tie.Need-returns
 unfolding longData periodsOf
-returns c =
-    let start = c .before .before .before .before .before .before .before .before .before .before .before .before .before .before .before .before .before in
+returns c = let c7 = c .before .before .before .before .before .before .before in let c12 = c7 .before .before .before .before .before in let c17 = c12 .before .before .before .before .before in let start = c17 in
     let a = start .args in
-    let lines = c .before .before .before .before .before .before .before .before .before .before .before .before .put-sets .ensures in
-    let more = c .before .before .before .before .before .before .before .put-periods .ensures in
+    let lines = c12 .put-sets .ensures in
+    let more = c7 .put-periods .ensures in
     let end = c .before .before .put .ensures in (
       omega (arith, lines .0, more .0, end .0),
       ended (longSets tables (a .g)) (a .buf .now) (a .at) _ _ _

@@ -22,18 +22,16 @@ loop-holds : tie.Need-loop-holds Inv-loop μ-loop
 loop-holds c = (omega arith, omega arith, refl, no-table (c .before .before .args .rows .now) (c .before .before .args .buf .now) (c .before .before .args .at))
 
 put-table-set-requires : tie.Need-put-table-set-requires Inv-loop μ-loop
-put-table-set-requires c κs =
-    let start = c .before .before .before .before .before .before in
-    let turn = c .before .before .before .loop in
+put-table-set-requires c κs = let c3 = c .before .before .before in let c6 = c3 .before .before .before in let start = c6 in
+    let turn = c3 .loop in
     let long = part-long (start .args .rows .now) (turn .i) (omega (arith, start .pre .0, turn .inv .0, c .before .before .loop-test .taken)) in
     omega (arith, long, start .pre .1, turn .inv .1, turn .inv .2, c .before .before .loop-test .taken)
 
 loop-again : tie.Need-loop-again Inv-loop μ-loop
-loop-again c =
-    let start = c .before .before .before .before .before .before .before .before .before in
+loop-again c = let c5 = c .before .before .before .before .before in let c6 = c5 .before in let c9 = c6 .before .before .before in let start = c9 in
     let a = start .args in
-    let turn = c .before .before .before .before .before .before .loop in
-    let taken = c .before .before .before .before .before .loop-test .taken in
+    let turn = c6 .loop in
+    let taken = c5 .loop-test .taken in
     let put = c .before .before .put-table-set .ensures in
     let fit : turn .i * rowLength + rowLength ≤ length (a .rows .now) = omega (arith, start .pre .0, taken) in
     let long = part-long (a .rows .now) (turn .i) fit in (

@@ -6,7 +6,7 @@ use Rattle.session.proofs.messages.is_whole.Tie as tie
 
 returns : tie.Need-returns
 unfolding wholeLine
-returns c = rw (c .before .before .before .before .same .ensures, c .before .before .before .before .before .before .first .ensures .1, c .before .before .before .at .ensures, c .same2 .ensures, c .before .before .rest .ensures .1)
+returns c = let c3 = c .before .before .before in let c4 = c3 .before in let c6 = c4 .before .before in rw (c4 .same .ensures, c6 .first .ensures .1, c3 .at .ensures, c .same2 .ensures, c .before .before .rest .ensures .1)
 
 pub is-whole-spec : {M : Type 1} → statement M
 is-whole-spec = tie.close (tie.spec (λ c κs. search needs) (λ c. search needs) (λ c κs. search needs) (λ c κs. search needs) (λ c κs. search needs) (λ c. search needs) (λ c κs. search needs) returns)

@@ -18,26 +18,25 @@ use Rattle.session.proofs.starting.begin.Tie as tie
 
 returns : tie.Need-returns
 unfolding opened holding
-returns c = let g = (c .before .before .before .before .told-good .result && c .before .before .told-good2 .result) && c .before .before .before .before .before .before .before .before .before .args .good in (rw (← c .before .before .before .before .before .is-digits .ensures, ← c .before .before .before .before .told-good .ensures, ← c .before .before .before .is-digits2 .ensures, ← c .before .before .told-good2 .ensures, not-true g (c .before .if1 .taken), c .refuse .ensures), rw (← c .before .before .before .before .before .is-digits .ensures, ← c .before .before .before .before .told-good .ensures, ← c .before .before .before .is-digits2 .ensures, ← c .before .before .told-good2 .ensures, not-true g (c .before .if1 .taken)))
+returns c = let c3 = c .before .before .before in let c4 = c3 .before in let c5 = c4 .before in let c9 = c5 .before .before .before .before in let g = (c4 .told-good .result && c .before .before .told-good2 .result) && c9 .args .good in (rw (← c5 .is-digits .ensures, ← c4 .told-good .ensures, ← c3 .is-digits2 .ensures, ← c .before .before .told-good2 .ensures, not-true g (c .before .if1 .taken), c .refuse .ensures), rw (← c5 .is-digits .ensures, ← c4 .told-good .ensures, ← c3 .is-digits2 .ensures, ← c .before .before .told-good2 .ensures, not-true g (c .before .if1 .taken)))
 
 serial-kept-requires : tie.Need-serial-kept-requires
-serial-kept-requires c κs = serial-long _ _ (rw (c .before .before .before .told-good .ensures, c .before .before .before .before .is-digits .ensures) at (and-left (c .before .before .before .told-good .result) _ (and-left (c .before .before .before .told-good .result && c .before .told-good2 .result) _ (not-false _ (c .if1 .left)))))
+serial-kept-requires c κs = let c3 = c .before .before .before in let c4 = c3 .before in serial-long _ _ (rw (c3 .told-good .ensures, c4 .is-digits .ensures) at (and-left (c3 .told-good .result) _ (and-left (c3 .told-good .result && c .before .told-good2 .result) _ (not-false _ (c .if1 .left)))))
 
 password-kept-requires : tie.Need-password-kept-requires
-password-kept-requires c κs = password-long _ _ (rw (c .before .before .told-good2 .ensures, c .before .before .before .is-digits2 .ensures) at (and-right (c .before .before .before .before .told-good .result) _ (and-left (c .before .before .before .before .told-good .result && c .before .before .told-good2 .result) _ (not-false _ (c .before .if1 .left)))))
+password-kept-requires c κs = let c3 = c .before .before .before in let c4 = c3 .before in password-long _ _ (rw (c .before .before .told-good2 .ensures, c3 .is-digits2 .ensures) at (and-right (c4 .told-good .result) _ (and-left (c4 .told-good .result && c .before .before .told-good2 .result) _ (not-false _ (c .before .if1 .left)))))
 
 returns-2 : tie.Need-returns-2
 unfolding opened sessionOf
-returns-2 c =
-    let a = c .before .before .before .before .before .before .before .before .before .before .before .before .before .before .args in
+returns-2 c = let c4 = c .before .before .before .before in let c5 = c4 .before in let c6 = c5 .before in let c7 = c6 .before in let c8 = c7 .before in let c9 = c8 .before in let c10 = c9 .before in let c14 = c10 .before .before .before .before in let a = c14 .args in
     let t = toldOf (a .named) (a .serial .now) (a .access) (a .password .now) (a .kind) in
-    let all = not-false ((c .before .before .before .before .before .before .before .before .before .told-good .result && c .before .before .before .before .before .before .before .told-good2 .result) && a .good) (c .before .before .before .before .before .before .if1 .left) in
-    let called = rw (c .before .before .before .before .before .before .before .before .before .told-good .ensures, c .before .before .before .before .before .before .before .before .before .before .is-digits .ensures) at (and-left (c .before .before .before .before .before .before .before .before .before .told-good .result) _ (and-left (c .before .before .before .before .before .before .before .before .before .told-good .result && c .before .before .before .before .before .before .before .told-good2 .result) _ all)) in
-    let made : Session = record { serial = c .before .before .before .before .before .serial-kept .result; password = c .before .before .before .before .password-kept .result; named = a .named; access = a .access; work = a .kind; count = a .count; sent = 1; fact = 0 } in
-    let ok : goodMessage editionTables (calling made) ≡ true = rw (c .before .before .before .before .before .serial-kept .ensures, c .before .before .before .before .password-kept .ensures) (call-good t (a .count) called) in
-    let room = c .before .before .before .before .before .before .before .before .before .before .before .before .before .before .pre in (
-      rw (← c .before .before .before .before .before .before .before .before .before .before .is-digits .ensures, ← c .before .before .before .before .before .before .before .before .before .told-good .ensures, ← c .before .before .before .before .before .before .before .before .is-digits2 .ensures, ← c .before .before .before .before .before .before .before .told-good2 .ensures, all, built-long _ _ _ _ _ (c .before .before .call .ensures) room ok, length-map (textOf (calling made)) sent, c .before .before .before .before .before .serial-kept .ensures, c .before .before .before .before .password-kept .ensures),
-      rw (← c .before .before .before .before .before .before .before .before .before .before .is-digits .ensures, ← c .before .before .before .before .before .before .before .before .before .told-good .ensures, ← c .before .before .before .before .before .before .before .before .is-digits2 .ensures, ← c .before .before .before .before .before .before .before .told-good2 .ensures, all, ← c .before .before .before .before .before .serial-kept .ensures, ← c .before .before .before .before .password-kept .ensures) (built-held _ _ _ _ _ (c .before .before .call .ensures) room ok),
+    let all = not-false ((c9 .told-good .result && c7 .told-good2 .result) && a .good) (c6 .if1 .left) in
+    let called = rw (c9 .told-good .ensures, c10 .is-digits .ensures) at (and-left (c9 .told-good .result) _ (and-left (c9 .told-good .result && c7 .told-good2 .result) _ all)) in
+    let made : Session = record { serial = c5 .serial-kept .result; password = c4 .password-kept .result; named = a .named; access = a .access; work = a .kind; count = a .count; sent = 1; fact = 0 } in
+    let ok : goodMessage editionTables (calling made) ≡ true = rw (c5 .serial-kept .ensures, c4 .password-kept .ensures) (call-good t (a .count) called) in
+    let room = c14 .pre in (
+      rw (← c10 .is-digits .ensures, ← c9 .told-good .ensures, ← c8 .is-digits2 .ensures, ← c7 .told-good2 .ensures, all, built-long _ _ _ _ _ (c .before .before .call .ensures) room ok, length-map (textOf (calling made)) sent, c5 .serial-kept .ensures, c4 .password-kept .ensures),
+      rw (← c10 .is-digits .ensures, ← c9 .told-good .ensures, ← c8 .is-digits2 .ensures, ← c7 .told-good2 .ensures, all, ← c5 .serial-kept .ensures, ← c4 .password-kept .ensures) (built-held _ _ _ _ _ (c .before .before .call .ensures) room ok),
     )
 
 pub begin-spec : {M : Type 1} → statement M

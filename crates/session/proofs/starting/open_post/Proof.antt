@@ -12,7 +12,7 @@ returns c = (rw (eq-eqb _ _ (c .before .if1 .taken), c .refuse .ensures), rw (eq
 
 returns-2 : tie.Need-returns-2
 unfolding openedPost
-returns-2 c = (rw (ne-eqb _ _ (c .before .before .before .before .if1 .left), c .before .before .begin .ensures .0), rw (ne-eqb _ _ (c .before .before .before .before .if1 .left)) (c .before .before .begin .ensures .1))
+returns-2 c = let c4 = c .before .before .before .before in (rw (ne-eqb _ _ (c4 .if1 .left), c .before .before .begin .ensures .0), rw (ne-eqb _ _ (c4 .if1 .left)) (c .before .before .begin .ensures .1))
 
 pub open-post-spec : {M : Type 1} → statement M
 open-post-spec = tie.close (tie.spec (λ c κs. search needs) returns (λ c κs. search needs) (λ c. search needs) returns-2)

@@ -25,9 +25,8 @@ returns c =
     reads-odd (c .before .before .before .before .args .work .now) (l .i) (l .good) _ (l .inv .1) (c .before .loop-test .taken) (omega (arith, c .if1 .taken))
 
 loop-again : tie.Need-loop-again Inv-loop μ-loop
-loop-again c =
-    let l = c .before .before .before .before .before .loop in
-    (omega (arith, c .before .before .before .if1 .left), rw (c .read-good .ensures) (reads-turn (c .before .before .before .before .before .before .before .args .work .now) (l .i) (l .good) _ (l .inv .1) (omega (arith, c .before .before .before .if1 .left))))
+loop-again c = let c3 = c .before .before .before in let c5 = c3 .before .before in let c7 = c5 .before .before in let l = c5 .loop in
+    (omega (arith, c3 .if1 .left), rw (c .read-good .ensures) (reads-turn (c7 .args .work .now) (l .i) (l .good) _ (l .inv .1) (omega (arith, c3 .if1 .left))))
 
 returns-2 : tie.Need-returns-2 Inv-loop μ-loop
 returns-2 c =

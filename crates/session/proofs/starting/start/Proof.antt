@@ -15,9 +15,8 @@ unfolding holding
 returns c = record { opening = unopened 19 0; opens = small (c .before .if1 .taken) refl; answer = c .refuse .ensures; held = refl }
 
 returns-2 : tie.Need-returns-2
-returns-2 c =
-    let a = c .before .before .before .before .before .before .before .before .before .before .args in
-    record { opening = openedReads (toldOf (a .named) (a .serial .now) (a .access) (a .password .now) (a .kind)) (a .work .now); opens = reads (c .before .before .before .before .before .if1 .left) (c .before .before .before .before .if2 .taken) refl; answer = c .before .before .open-reads .ensures .0; held = c .before .before .open-reads .ensures .1 }
+returns-2 c = let c4 = c .before .before .before .before in let c5 = c4 .before in let c10 = c5 .before .before .before .before .before in let a = c10 .args in
+    record { opening = openedReads (toldOf (a .named) (a .serial .now) (a .access) (a .password .now) (a .kind)) (a .work .now); opens = reads (c5 .if1 .left) (c4 .if2 .taken) refl; answer = c .before .before .open-reads .ensures .0; held = c .before .before .open-reads .ensures .1 }
 
 returns-3 : tie.Need-returns-3
 unfolding holding
@@ -25,24 +24,22 @@ returns-3 c = record { opening = unopened 9 0; opens = nothing (c .before .befor
 
 returns-4 : tie.Need-returns-4
 unfolding holding
-returns-4 c =
-    let a = c .before .before .before .before .before .before .before .before .before .before .args in
+returns-4 c = let c3 = c .before .before .before in let c5 = c3 .before .before in let c10 = c5 .before .before .before .before .before in let a = c10 .args in
     let r = not-post (a .work .now) _ _ (c .before .before .check .ensures) (c .before .if4 .taken) in
     record {
       opening = unopened 20 (c .before .before .check .result .place);
-      opens = others (c .before .before .before .before .before .if1 .left) (c .before .before .before .if3 .left) (record { no-post = r .no-post; longest = r .longest; refused = refl });
+      opens = others (c5 .if1 .left) (c3 .if3 .left) (record { no-post = r .no-post; longest = r .longest; refused = refl });
       answer = c .refuse3 .ensures;
       held = refl;
     }
 
 returns-5 : tie.Need-returns-5
-returns-5 c =
-    let a = c .before .before .before .before .before .before .before .before .before .before .before .before .before .args in
-    let p = a-post (a .work .now) _ _ (c .before .before .before .before .before .check .ensures) (c .before .before .before .before .if4 .left) in
+returns-5 c = let c4 = c .before .before .before .before in let c5 = c4 .before in let c6 = c5 .before in let c8 = c6 .before .before in let c13 = c8 .before .before .before .before .before in let a = c13 .args in
+    let p = a-post (a .work .now) _ _ (c5 .check .ensures) (c4 .if4 .left) in
     let n = lines-counted (a .work .now) p in
     record {
       opening = openedPost (toldOf (a .named) (a .serial .now) (a .access) (a .password .now) (a .kind)) (length (p .entries));
-      opens = posts (c .before .before .before .before .before .before .before .before .if1 .left) (c .before .before .before .before .before .before .if3 .left) (record { is-post = p; opens = refl });
+      opens = posts (c8 .if1 .left) (c6 .if3 .left) (record { is-post = p; opens = refl });
       answer = c .before .before .open-post .ensures .0 ∙ ap (λ (k : ℕ). startedOf (openedPost (toldOf (a .named) (a .serial .now) (a .access) (a .password .now) (a .kind)) k)) n;
       held = c .before .before .open-post .ensures .1 ∙ ap (λ (k : ℕ). holding (a .buf .now) (onWire (openedPost (toldOf (a .named) (a .serial .now) (a .access) (a .password .now) (a .kind)) k .text))) n;
     }

@@ -15,11 +15,11 @@ is-right-requires c κs = count-most _ (c .before .before .before .before .befor
 
 returns-2 : tie.Need-returns-2
 unfolding answered
-returns-2 c = (rw (← c .before .before .before .before .before .before .before .is-nak .ensures, c .before .before .before .before .before .before .if1 .left, ← c .before .before .before .before .before .is-right .ensures, c .before .before .before .before .if2 .taken, c .before .before .go-on .ensures .0), rw (← c .before .before .before .before .before .before .before .is-nak .ensures, c .before .before .before .before .before .before .if1 .left, ← c .before .before .before .before .before .is-right .ensures, c .before .before .before .before .if2 .taken) (c .before .before .go-on .ensures .1))
+returns-2 c = let c4 = c .before .before .before .before in let c5 = c4 .before in let c6 = c5 .before in let c7 = c6 .before in (rw (← c7 .is-nak .ensures, c6 .if1 .left, ← c5 .is-right .ensures, c4 .if2 .taken, c .before .before .go-on .ensures .0), rw (← c7 .is-nak .ensures, c6 .if1 .left, ← c5 .is-right .ensures, c4 .if2 .taken) (c .before .before .go-on .ensures .1))
 
 returns-3 : tie.Need-returns-3
 unfolding answered holding
-returns-3 c = (rw (← c .before .before .before .before .is-nak .ensures, c .before .before .before .if1 .left, ← c .before .before .is-right .ensures, c .before .if2 .left, c .end2 .ensures), rw (← c .before .before .before .before .is-nak .ensures, c .before .before .before .if1 .left, ← c .before .before .is-right .ensures, c .before .if2 .left))
+returns-3 c = let c3 = c .before .before .before in let c4 = c3 .before in (rw (← c4 .is-nak .ensures, c3 .if1 .left, ← c .before .before .is-right .ensures, c .before .if2 .left, c .end2 .ensures), rw (← c4 .is-nak .ensures, c3 .if1 .left, ← c .before .before .is-right .ensures, c .before .if2 .left))
 
 pub answer-spec : {M : Type 1} → statement M
 answer-spec = tie.close (tie.spec (λ c κs. search needs) (λ c κs. search needs) returns is-right-requires (λ c κs. search needs) (λ c. search needs) returns-2 (λ c κs. search needs) returns-3)

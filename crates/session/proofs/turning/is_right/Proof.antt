@@ -19,11 +19,11 @@ returns-3 c = rw (ne-eqb _ _ (c .before .before .before .if1 .left), ne-eqb _ _ 
 
 returns-4 : tie.Need-returns-4
 unfolding rightAt
-returns-4 c = rw (ne-eqb _ _ (c .before .before .before .before .before .before .if1 .left), ne-eqb _ _ (c .before .before .before .before .before .if2 .left), ne-eqb _ _ (c .before .before .before .before .if3 .left), le-leb _ _ (c .before .before .if4 .taken), c .is-right-work .ensures, c .before .less-four .ensures)
+returns-4 c = let c4 = c .before .before .before .before in let c5 = c4 .before in let c6 = c5 .before in rw (ne-eqb _ _ (c6 .if1 .left), ne-eqb _ _ (c5 .if2 .left), ne-eqb _ _ (c4 .if3 .left), le-leb _ _ (c .before .before .if4 .taken), c .is-right-work .ensures, c .before .less-four .ensures)
 
 returns-5 : tie.Need-returns-5
 unfolding rightAt
-returns-5 c = rw (ne-eqb _ _ (c .before .before .before .before .before .if1 .left), ne-eqb _ _ (c .before .before .before .before .if2 .left), ne-eqb _ _ (c .before .before .before .if3 .left), lt-leb _ _ (c .before .if4 .left), c .is-ack2 .ensures)
+returns-5 c = let c3 = c .before .before .before in let c4 = c3 .before in let c5 = c4 .before in rw (ne-eqb _ _ (c5 .if1 .left), ne-eqb _ _ (c4 .if2 .left), ne-eqb _ _ (c3 .if3 .left), lt-leb _ _ (c .before .if4 .left), c .is-ack2 .ensures)
 
 pub is-right-spec : {M : Type 1} → statement M
 is-right-spec = tie.close (tie.spec (λ c κs. search needs) returns (λ c κs. search needs) returns-2 (λ c κs. search needs) returns-3 (λ c. search needs) (λ c κs. search needs) (λ c κs. search needs) returns-4 (λ c κs. search needs) returns-5)

@@ -13,13 +13,12 @@ use Rattle.state.proofs.closing.archive_good.Tie as tie
 
 returns : tie.Need-returns
 unfolding archiveGood
-returns c =
-    let asked = c .before .before .before .before .before .before .before .before .before .before .before .before .before .before .before in
+returns c = let c5 = c .before .before .before .before .before in let c10 = c5 .before .before .before .before .before in let c15 = c10 .before .before .before .before .before in let asked = c15 in
     let all = asked .before .places .ensures in
     let a = asked .before .before .before .args .a in
     let few : a .count ≤ periodPlaces = omega (arith, asked .if1 .taken, all .1) in
     let long : length (a .periods) ≡ periodPlaces = sym (all .0) ∙ all .1 in
-    rw (le-leb _ _ few, eq-eqb _ _ long, c .before .before .before .before .before .before .before .before .before .before .four-good .ensures, c .before .before .before .before .before .four-good2 .ensures, c .four-good3 .ensures) (twelve-good (a .periods) _ (a .count) long)
+    rw (le-leb _ _ few, eq-eqb _ _ long, c10 .four-good .ensures, c5 .four-good2 .ensures, c .four-good3 .ensures) (twelve-good (a .periods) _ (a .count) long)
 
 returns-2 : tie.Need-returns-2
 unfolding archiveGood

@@ -18,10 +18,9 @@ add-y c =
     omega (arith, c .before .two3 .ensures, c .two4 .ensures, p .year, four-at s 6 (omega (arith, p .long)))
 
 returns : tie.Need-returns
-returns c =
-    let s = c .before .before .before .before .before .before .args .s .now in
-    let p = c .before .before .before .before .before .before .pre in
-    rw (c .before .before .before .before .two .ensures, c .before .before .before .two2 .ensures, c .before .before .two3 .ensures, c .before .two4 .ensures, c .three-at .ensures, four-at s 6 (omega (arith, p .long)))
+returns c = let c3 = c .before .before .before in let c4 = c3 .before in let c6 = c4 .before .before in let s = c6 .args .s .now in
+    let p = c6 .pre in
+    rw (c4 .two .ensures, c3 .two2 .ensures, c .before .before .two3 .ensures, c .before .two4 .ensures, c .three-at .ensures, four-at s 6 (omega (arith, p .long)))
 
 pub clock-in-spec : {M : Type 1} → statement M
 clock-in-spec = tie.close (tie.spec (λ c κs. search needs) (λ c κs. search needs) (λ c κs. search needs) mul-y (λ c κs. search needs) add-y (λ c κs. search needs) (λ c. search needs) (λ c. search needs) returns)
