@@ -101,7 +101,7 @@ restarted-held b h =
     record { count = refl; some = omega arith; last = refl; mark = rw (soh-whole b h); place = λ e. untrue e }
 
 -- what a byte is in a session, once something is held
-hearing-is : (mode count last c : ℕ) → 2 ≤ mode → 1 ≤ count
+pub hearing-is : (mode count last c : ℕ) → 2 ≤ mode → 1 ≤ count
     → hearing mode count last c ≡ cond (eqb last 3) Frame (cond (eqb c 1) Restart (cond (leb 63 count) TooLong Hold))
 unfolding hearing framing
 hearing-is mode count last c m n = rw (ne-eqb mode 0 (λ e. omega arith), ne-eqb mode 1 (λ e. omega arith), ne-eqb count 0 (λ e. omega arith))
@@ -111,7 +111,7 @@ unfolding character
 taken-is k b f = rw f
 
 -- a whole frame is never answered 0, and with 3 only where it is marked
-never-zero : (mark : Bool) (n : ℕ) → FrameNumber mark n → n ≡ 0 → ⊥
+pub never-zero : (mark : Bool) (n : ℕ) → FrameNumber mark n → n ≡ 0 → ⊥
 never-zero mark n (parity m) e = omega arith
 never-zero mark n checksum e = omega arith
 never-zero mark n shape e = omega arith
