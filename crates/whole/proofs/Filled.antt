@@ -5,12 +5,14 @@ use mathlib.Core.List.{List, [], _∷_, _++_, map, append-assoc}
 use Prim.Native.Nat.{ℕ, zero, suc, _+_, _-_, _≤_, _<_}
 use native.Mathlib.Omega.{arith}
 use lib.Dec.{eqb}
-use lib.ListN.{length, getD, set, replicate, length-append, length-replicate}
-use lib.Seq.{set-at, getD-at}
+use lib.ListN.{length, getD, set, drop, replicate, length-append, length-replicate, replicate-append-replicate}
+use lib.Seq.{set-at, getD-at, drop-at}
 use Rattle.line.specs.Characters.{damagedAt, seven, undamagedAll}
 use Rattle.line.specs.Runs.{every}
 use Rattle.damage.specs.First.{firstDamaged}
 use Rattle.damage.proofs.First.{first-append, undamaged-append}
+use Rattle.text.specs.Writing.{stored, holding}
+use Rattle.text.proofs.Writing.{stored-holding}
 use Rattle.state.specs.Sizes.{heldPlaces}
 use Rattle.state.specs.declared.Receiver.{Receiver}
 use Rattle.state.specs.Setting.{withHeld, withMark}
@@ -83,3 +85,38 @@ last-more run b h =
     (ap (λ (l : List ℕ). l ++ replicate (heldPlaces - length (run ++ (b ∷ []))) 0) (map-snoc symbol run b)
     ∙ append-assoc (map symbol run) (symbol b ∷ []) (replicate (heldPlaces - length (run ++ (b ∷ []))) 0)) n
     ∙ getD-at (map symbol run) (symbol b) (replicate (heldPlaces - length (run ++ (b ∷ []))) 0) 0 (length run) (length-map symbol run)
+
+-- the places behind the run hold 0
+zeros-behind : (n : ℕ) → n ≤ 63 → drop {A = ℕ} n (replicate 63 0) ≡ replicate (63 - n) 0
+zeros-behind n h =
+    ap (drop {A = ℕ} n) (ap (λ (k : ℕ). replicate {A = ℕ} k 0) {x = 63} {y = n + (63 - n)} (omega arith) ∙ sym (replicate-append-replicate {A = ℕ} n (63 - n) 0))
+    ∙ drop-at {A = ℕ} (replicate n 0) (replicate (63 - n) 0) n (length-replicate {A = ℕ} n 0)
+
+zeros-same : (n : ℕ) → map symbol (replicate {A = ℕ} n 0) ≡ replicate n 0
+unfolding symbol seven
+zeros-same zero = refl
+zeros-same (suc n) = ap₂ (λ (x : ℕ) (l : List ℕ). x ∷ l) (go (damagedAt 0)) (zeros-same n)
+  where
+    go : (d : Bool) → _≡_ {A = ℕ} (cond d 0 0) 0
+    go true = refl
+    go false = refl
+
+map-append : (f : ℕ → ℕ) (s t : List ℕ) → map f (s ++ t) ≡ map f s ++ map f t
+map-append f [] t = refl
+map-append f (x ∷ s) t = ap (λ (l : List ℕ). f x ∷ l) (map-append f s t)
+
+pub put-in : (run : List ℕ) → length run ≤ 63 → map symbol (stored (replicate 63 0) 0 run) ≡ filled run .held
+unfolding holding
+put-in run h =
+    ap (map symbol) (stored-holding (replicate 63 0) run (omega (arith, length-replicate {A = ℕ} 63 0)) ∙ ap (λ (l : List ℕ). run ++ l) (zeros-behind (length run) h))
+    ∙ map-append symbol run (replicate (63 - length run) 0)
+    ∙ ap (λ (l : List ℕ). map symbol run ++ l) (zeros-same (63 - length run))
+
+-- undamaged, and with a damaged one
+pub filled-good : (run held : List ℕ) → length run ≤ 63 → held ≡ map symbol (stored (replicate 63 0) 0 run) → undamagedAll run ≡ true
+    → _≡_ {A = Receiver} (record { held = held; count = length run; mark = 0; place = 0 }) (filled run)
+filled-good run held h e u = rw (e, put-in run h, u)
+
+pub filled-hurt : (run held : List ℕ) (place : ℕ) → length run ≤ 63 → held ≡ map symbol (stored (replicate 63 0) 0 run) → undamagedAll run ≡ false → place ≡ firstDamaged run
+    → _≡_ {A = Receiver} (record { held = held; count = length run; mark = 1; place = place }) (filled run)
+filled-hurt run held place h e u p = rw (e, put-in run h, u, p)

@@ -5,7 +5,7 @@ use mathlib.Core.Bool.{Bool, true, false, cond, not, _&&_, _||_, and-false}
 use mathlib.Core.List.{List, [], _∷_, _++_, append-assoc}
 use Prim.Native.Nat.{ℕ, zero, suc, _+_, _-_, _≤_, _<_}
 use native.Mathlib.Omega.{arith}
-use borrow.Author.Tests.{eqb-true, ne-eqb, le-ltb, leb-true, leb-false}
+use borrow.Author.Tests.{eqb-true, ne-eqb, le-ltb, le-leb, leb-true, leb-false}
 use lib.Dec.{eqb, leb}
 use lib.ListN.{length, getD, take, drop, length-append}
 use lib.Seq.{take-append-seam, drop-append-add, getD-append-add, getD-append-seam, take-at, take-suc, take-all, length-take-le}
@@ -22,6 +22,7 @@ use Rattle.receiving.specs.Hearing.{framing, hearing}
 use Rattle.receiving.specs.Receivers.{lastHeld}
 use Rattle.meter.specs.Outcomes.{Outcome}
 use Rattle.meter.specs.Character.{symbol, heard, taken, character}
+use Rattle.meter.specs.Life.{eventOf, refusal, happened}
 use Rattle.promises.proofs.Answering.{answered-all}
 use Rattle.promises.proofs.Formed.{character-stays}
 use Rattle.promises.proofs.Hurt.{hearing-is, never-zero}
@@ -206,11 +207,11 @@ module _ (m : Meter) (room : ℕ) (session : 2 ≤ m .mode) (large : replyRoom �
       (λ p. none (next-is run before b h true _ _ p refl refl))
       (λ p q f. none (next-is run before b h false false true p q f))
       (λ p q k.
-          comes-as _ (after 1) (after next) bytes bytes (ap after (sym (next-is run before b h false true _ p q refl))) refl
-          (comes-behind _ (after 1) run (b ∷ rest) (omega (arith, n, last-few (heldAfter 1 b bs) (lastByte b bs) z, after-few 1 b bs .0)) (held-then bs z (b ∷ []) b k)))
+      comes-as _ (after 1) (after next) bytes bytes (ap after (sym (next-is run before b h false true _ p q refl))) refl
+      (comes-behind _ (after 1) run (b ∷ rest) (omega (arith, n, last-few (heldAfter 1 b bs) (lastByte b bs) z, after-few 1 b bs .0)) (held-then bs z (b ∷ []) b k)))
       (λ p q f k.
-          comes-as _ (after (length (run ++ (b ∷ [])))) (after next) ((run ++ (b ∷ [])) ++ rest) bytes
-          (ap after (length-append run (b ∷ []) ∙ sym (next-is run before b h false false false p q f))) (append-assoc run (b ∷ []) rest) (held-then bs z (run ++ (b ∷ [])) b k)))
+      comes-as _ (after (length (run ++ (b ∷ [])))) (after next) ((run ++ (b ∷ [])) ++ rest) bytes
+      (ap after (length-append run (b ∷ []) ∙ sym (next-is run before b h false false false p q f))) (append-assoc run (b ∷ []) rest) (held-then bs z (run ++ (b ∷ [])) b k)))
 
   -- the first byte, which is an SOH, upon an empty receiver
   module _ (formed : wellFormed m ≡ true) (empty : m .receiver .count ≡ 0) (b : ℕ) (soh : is 1 b ≡ true) where
@@ -284,3 +285,34 @@ module _ (m : Meter) (room : ℕ) (large : replyRoom ≤ room) (formed : wellFor
       go : (p : Bool) → is 1 (getD bytes 0 0) ≡ p → Comes m room session large (frameTaken m room bytes) (heldIn bytes) bytes
       go false s = rw (starts e false s) (comes-none m room session large (heldIn bytes) bytes (none-held s))
       go true s = rw (starts e true s) (from bytes s)
+
+  module _ (e : awaits m ≡ true) where
+    await-session : 2 ≤ m .mode
+    unfolding awaits
+    await-session = leb-true 2 (m .mode) (and-left (leb 2 (m .mode)) (eqb (m .receiver .count) 0) e)
+
+    await-empty : m .receiver .count ≡ 0
+    unfolding awaits
+    await-empty = eqb-true (m .receiver .count) 0 (and-right (leb 2 (m .mode)) (eqb (m .receiver .count) 0) e)
+
+    comes : Comes m room await-session large (frameTaken m room bytes) (heldIn bytes) bytes
+    comes = taken-whole await-session await-empty e
+
+    -- no frame is finished at the last byte, or one is
+    pub nothing-whole : heldIn bytes ≡ 0 → frameTaken m room bytes ≡ noFrame m
+    nothing-whole z = comes .outcome ∙ ap (λ (n : ℕ). comesTo m room await-session large n bytes) z
+
+    pub frame-whole : (heldIn bytes ≡ 0 → ⊥) → frameTaken m room bytes ≡ taken (withReceiver m (filled (runOf (heldIn bytes) bytes))) (lastOf bytes)
+    frame-whole some = comes .outcome ∙ ap (λ (b : Bool). cond b (noFrame m) (taken (withReceiver m (filled (runOf (heldIn bytes) bytes))) (lastOf bytes))) (ne-eqb (heldIn bytes) 0 some)
+
+    pub frame-formed : (heldIn bytes ≡ 0 → ⊥) → wellFormed (withReceiver m (filled (runOf (heldIn bytes) bytes))) ≡ true
+    frame-formed some = comes .formed some
+
+-- the last byte, as the meter is told it
+pub told-fits : (room b : ℕ) → replyRoom ≤ room → b < 256 → refusal room (eventOf 0 b) ≡ 0
+unfolding eventOf refusal
+told-fits room b h small = rw (le-leb b 255 (omega arith), le-ltb room replyRoom h)
+
+pub told-is : (m : Meter) (b : ℕ) → b < 256 → happened m (eventOf 0 b) ≡ taken m b
+unfolding eventOf happened
+told-is m b small = rw (le-leb b 255 (omega arith))

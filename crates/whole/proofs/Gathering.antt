@@ -5,8 +5,8 @@ use mathlib.Core.List.{List, [], _∷_, _++_}
 use Prim.Native.Nat.{ℕ, zero, suc, _+_, _-_, _≤_, _<_}
 use native.Mathlib.Omega.{arith}
 use native.Mathlib.Numerals.{add-one}
-use borrow.Author.Tests.{ne-eqb, lt-leb, leb-false, not-true}
-use lib.Dec.{eqb, leb}
+use borrow.Author.Tests.{ne-eqb, ltb-true, ltb-false, lt-leb, leb-false, not-true}
+use lib.Dec.{eqb, leb, ltb}
 use lib.ListN.{length, getD, take, drop, drop-of-length-le}
 use lib.Seq.{length-take-le, getD-take}
 use Rattle.line.specs.Runs.{every}
@@ -134,3 +134,15 @@ in-few bytes h = go (is 1 (getD bytes 0 0))
         let l = last-few (heldOver (front bytes)) (lastOf (front bytes)) (lastOf bytes) in
         (omega (arith, l, few .0), omega (arith, l, few .1))
     go false = (omega arith, omega arith)
+
+-- where a frame is finished, there is a byte more than are held
+pub some-few : (bytes : List ℕ) → (heldIn bytes ≡ 0 → ⊥) → (heldIn bytes + 1 ≤ length bytes) × (heldIn bytes ≤ 63)
+some-few bytes some = go (ltb (length bytes) 2) refl
+  where
+    go : (p : Bool) → ltb (length bytes) 2 ≡ p → (heldIn bytes + 1 ≤ length bytes) × (heldIn bytes ≤ 63)
+    go true e = absurd (some (short-none bytes (ltb-true (length bytes) 2 e)))
+    go false e = in-few bytes (ltb-false (length bytes) 2 e)
+
+pub not-false : (b : Bool) → not b ≡ false → b ≡ true
+not-false true e = refl
+not-false false e = sym e

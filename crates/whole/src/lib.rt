@@ -10,9 +10,10 @@ ghost use Rattle.text.specs.Writing.{holding};
 ghost use Rattle.frames.specs.Frames.{onWire};
 ghost use Rattle.state.specs.Sizes.{heldPlaces, replyRoom};
 ghost use Rattle.state.specs.WellFormed.{wellFormed};
+ghost use Rattle.state.specs.Setting.{withReceiver};
 ghost use Rattle.meter.specs.Outcomes.{answerOf, silent, unheard};
-ghost use Rattle.meter.specs.Character.{symbol};
-ghost use Rattle.whole.specs.Whole.{noFrame, frameTaken, frameAt};
+ghost use Rattle.meter.specs.Character.{symbol, taken};
+ghost use Rattle.whole.specs.Whole.{noFrame, awaits, frameTaken, frameAt};
 ghost use Rattle.whole.specs.Gathering.{is, isNot, heldNext, heldAtLast, heldOver, heldIn, filled};
 use meter::Answer;
 use state::HELD_PLACES;
@@ -100,7 +101,8 @@ fn held_over(run: &[u8]) -> usize
 {
     let n = run.len();
     if n <= HELD_PLACES as usize {
-        let plain = has_no(line::SOH, text::rest(run, 1)) & has_no(line::ETX, text::first(run, n - 1));
+        let plain = has_no(line::SOH, text::rest(run, 1))
+            & has_no(line::ETX, text::first(run, n - 1));
         if plain {
             return n;
         }
@@ -121,4 +123,105 @@ fn held_in(frame: &[u8]) -> usize
         return hold_at_last(held, frame[n - 2], frame[n - 1]);
     }
     0
+}
+
+// Each byte of a run becomes its character.
+fn to_characters(s: &mut [u8])
+    ensures { λ _. ⌜ now (s .exit) ≡ map symbol (now (s .entry)) ⌝ }
+{
+    let mut i = 0;
+    while i < s.len() {
+        s[i] = meter::symbol_of(s[i]);
+        i += 1;
+    }
+}
+
+// The receiver that holds a run, filled at once.
+fn fill(run: &[u8]) -> Receiver
+    requires { ⌜ length (now run) ≤ heldPlaces ⌝ }
+    ensures { λ r. ⌜ r ≡ filled (now (run .entry)) ⌝ }
+{
+    let r = empty_receiver();
+    let mut held = r.held;
+    text::put(&mut held, 0, run);
+    to_characters(&mut held);
+    let next = with_held(r, held, run.len() as u8);
+    if line::undamaged(run) {
+        return next;
+    }
+    with_mark(next, 1, damage::first_damaged(run) as u8)
+}
+
+// Nothing changed, and no reply, at the state's speed.
+fn no_frame(m: Meter) -> Answer
+    ensures { λ r. ⌜ r ≡ answerOf (noFrame m) ⌝ }
+{
+    Answer {
+        number: 17,
+        length: 0,
+        speed: m.speed,
+        place: 0,
+        next: m,
+    }
+}
+
+fn unheard_with(number: u8, m: Meter) -> Answer
+    ensures { λ r. ⌜ r ≡ answerOf (unheard number m) ⌝ }
+{
+    Answer {
+        number,
+        length: 0,
+        speed: 0,
+        place: 0,
+        next: m,
+    }
+}
+
+// Modes 2 to 4 with an empty receiver.
+fn awaits_frame(m: Meter) -> bool
+    ensures { λ r. ⌜ r ≡ awaits m ⌝ }
+{
+    let r = m.receiver;
+    (2 <= m.mode) & (r.count == 0)
+}
+
+// The last byte, upon the receiver that holds the run before it: the meter's own step.
+fn finish(m: Meter, run: &[u8], last: u8, reply: &mut [u8]) -> Answer
+    requires { ⌜ (length (now run) ≤ heldPlaces) × ((wellFormed (withReceiver m (filled (now run))) ≡ true) × (replyRoom ≤ length (now reply))) ⌝ }
+    ensures result { λ r. ⌜ r ≡ answerOf (taken (withReceiver m (filled (now (run .entry)))) last) ⌝ }
+    ensures held { λ _. ⌜ now (reply .exit) ≡ holding (now (reply .entry)) (onWire (taken (withReceiver m (filled (now (run .entry)))) last .reply)) ⌝ }
+{
+    meter::events::act(with_receiver(m, fill(run)), 0, last as u32, reply)
+}
+
+// A slice, taken by a well-formed meter with room for any reply.
+fn take_frame(m: Meter, frame: &[u8], reply: &mut [u8]) -> Answer
+    requires { ⌜ (wellFormed m ≡ true) × (replyRoom ≤ length (now reply)) ⌝ }
+    ensures result { λ r. ⌜ r ≡ answerOf (frameTaken m (length (now (reply .entry))) (now (frame .entry))) ⌝ }
+    ensures held { λ _. ⌜ now (reply .exit) ≡ holding (now (reply .entry)) (onWire (frameTaken m (length (now (reply .entry))) (now (frame .entry)) .reply)) ⌝ }
+{
+    if !awaits_frame(m) {
+        return no_frame(m);
+    }
+    let held = held_in(frame);
+    if held == 0 {
+        return no_frame(m);
+    }
+    let last = frame.len() - 1;
+    let run = text::first(text::rest(frame, last - held), held);
+    finish(m, run, frame[last], reply)
+}
+
+// A frame that comes whole, to any meter with any buffer.
+pub fn receive_frame(m: Meter, frame: &[u8], reply: &mut [u8]) -> Answer
+    ensures result { λ r. ⌜ r ≡ answerOf (frameAt m (length (now (reply .entry))) (now (frame .entry))) ⌝ }
+    ensures held { λ _. ⌜ now (reply .exit) ≡ holding (now (reply .entry)) (onWire (frameAt m (length (now (reply .entry))) (now (frame .entry)) .reply)) ⌝ }
+{
+    if reply.len() < REPLY_ROOM {
+        return unheard_with(12, m);
+    }
+    if state::is_well_formed(m) {
+        return take_frame(m, frame, reply);
+    }
+    unheard_with(14, m)
 }
