@@ -4,7 +4,14 @@ use std::env;
 use std::path::PathBuf;
 
 /// `speed` is no part of this crate: a benchmark links it, if it is there.
-const LIBRARIES: [&str; 5] = ["firmware", "forum", "headlink", "mercurylink", "speed"];
+const LIBRARIES: [&str; 6] = [
+    "firmware",
+    "forum",
+    "gateway",
+    "headlink",
+    "mercurylink",
+    "speed",
+];
 
 fn main() {
     let here = PathBuf::from(env::var_os("CARGO_MANIFEST_DIR").expect("cargo sets it"));

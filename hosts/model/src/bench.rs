@@ -23,6 +23,10 @@ pub enum Command {
     Set(Box<Meter>),
     Dump,
     Play(Vec<Event>),
+    Frame {
+        bytes: Vec<u8>,
+        room: usize,
+    },
 }
 
 /// What can happen to a meter; rooms are those of the reply buffer.
@@ -88,6 +92,11 @@ impl Bench {
                     watch(&before, event, answer, &self.meter);
                 }
             }
+            Some(Command::Frame { bytes, room }) => {
+                let mut buffer = vec![FILLING; room];
+                let answer = self.meter.frame(&bytes, &mut buffer);
+                put_answer(transcript, answer, Some(&buffer));
+            }
         }
     }
 
@@ -105,20 +114,25 @@ impl Bench {
             Event::PowerUp => self.meter.power_up(),
             Event::Pulse { wh } => self.meter.pulse(wh),
         };
-        put(
-            transcript,
-            format_args!("{} {}", answer.number, answer.speed),
-        );
-        if room.is_some() {
-            let changed = buffer.iter().rposition(|&byte| byte != FILLING);
-            let shown = answer.length.max(changed.map_or(0, |place| place + 1));
-            put(transcript, format_args!(" {} ", answer.length));
-            put_hex(transcript, &buffer[..shown]);
-            put(transcript, format_args!(" {}", answer.place));
-        }
-        transcript.push('\n');
+        put_answer(transcript, answer, room.map(|_| &buffer[..]));
         answer
     }
+}
+
+/// An answer line, with the reply buffer where the call has one.
+fn put_answer(transcript: &mut String, answer: Answer, buffer: Option<&[u8]>) {
+    put(
+        transcript,
+        format_args!("{} {}", answer.number, answer.speed),
+    );
+    if let Some(buffer) = buffer {
+        let changed = buffer.iter().rposition(|&byte| byte != FILLING);
+        let shown = answer.length.max(changed.map_or(0, |place| place + 1));
+        put(transcript, format_args!(" {} ", answer.length));
+        put_hex(transcript, &buffer[..shown]);
+        put(transcript, format_args!(" {}", answer.place));
+    }
+    transcript.push('\n');
 }
 
 /// Plays a script from start to end; the last line may lack its LF.
@@ -161,6 +175,14 @@ pub fn parse(line: &[u8]) -> Option<Command> {
                 .map(|byte| Event::Character { byte, room: ROOM })
                 .collect(),
         ),
+        [b"frame", bytes] => Command::Frame {
+            bytes: hex(bytes)?,
+            room: ROOM,
+        },
+        [b"frame", bytes, room] => Command::Frame {
+            bytes: hex(bytes)?,
+            room: room_of(room)?,
+        },
         [b"silence"] => Command::Play(vec![Event::Silence { room: ROOM }]),
         [b"silence", room] => Command::Play(vec![Event::Silence {
             room: room_of(room)?,
