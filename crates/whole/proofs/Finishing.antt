@@ -25,7 +25,8 @@ use Rattle.meter.specs.Character.{symbol, heard, taken, character}
 use Rattle.meter.specs.Life.{eventOf, refusal, happened}
 use Rattle.promises.proofs.Answering.{answered-all}
 use Rattle.promises.proofs.Formed.{character-stays}
-use Rattle.promises.proofs.Hurt.{hearing-is, never-zero}
+use Rattle.promises.proofs.Hurt.{hearing-is}
+use Rattle.promises.proofs.Verdicts.{never-zero}
 use Rattle.whole.specs.Whole.{ends, finishesAt, noFrame, atTheLast, awaits, startsAnew, frameTaken}
 use Rattle.whole.specs.Gathering.{is, heldNext, heldAfter, heldAtLast, front, lastOf, heldOver, heldIn, runOf, filled}
 use Rattle.whole.proofs.Gathering.{zero-none, short-none, after-few, last-few, after-dead, last-dead}
