@@ -9,3 +9,4 @@ pub mod Replying
 pub mod Posts
 pub mod Deliveries
 pub mod Mercury
+pub mod Whole

@@ -9,3 +9,4 @@ pub mod Commands
 pub mod Replying
 pub mod Posts
 pub mod Mercury
+pub mod Whole

@@ -185,8 +185,16 @@ impl Aim<'_> {
             self.hurt(message)
         };
         let chance = &mut self.chance;
-        match chance.weighed(&[70, 14, 6, 4]) {
+        match chance.weighed(&[70, 14, 6, 4, 10]) {
             0 => self.player.bytes(&bytes),
+            4 => {
+                // Whole, as a gateway has it; where it is no frame, it comes again.
+                let room = chance.one_of(&["", "", "", " 2047", " 2048", " 4096"]);
+                self.player.frame(&bytes, room);
+                if self.chance.percent(50) {
+                    self.player.bytes(&bytes);
+                }
+            }
             1 => {
                 let cut = chance.below(bytes.len() + 1);
                 self.player.bytes(&bytes[..cut]);
@@ -448,8 +456,9 @@ impl Aim<'_> {
     /// A good line spoiled by one byte; now and then it stays a command.
     fn no_command(&mut self) {
         let meter = self.player.meter();
-        let mut line = match self.chance.below(8) {
+        let mut line = match self.chance.below(9) {
             0 => "dump".into(),
+            8 => "frame 8142300371 2048".into(),
             1 => "tick".into(),
             2 => "bytes 81af8d0a".into(),
             3 => "byte 81 2048".into(),

@@ -726,13 +726,7 @@ fn frames() -> Vec<Fixed> {
             .dump(PROGRAMMING),
         Fixed::programming("a damaged 64th is too long, or the BCC")
             .wire(&format!("{}80", wire(&format!("\x01{x62}"))), 5, 5, 5, NAK)
-            .wire(
-                &format!("{}80", wire(&format!("\x01{x61}\x03"))),
-                5,
-                3,
-                5,
-                NAK,
-            )
+            .hurt(&format!("{}80", wire(&format!("\x01{x61}\x03"))), 63)
             .dump(PROGRAMMING),
         Fixed::programming("a 64th while marked is too long")
             .wire(&format!("8180{}", wire(&x62)), 5, 5, 5, NAK)
@@ -1024,7 +1018,7 @@ fn events() -> Vec<Fixed> {
             .quiet("?!\r", 0)
             .line(
                 "byte 0a 8192",
-                "1 0 19 af5a5a5a355355422d565030b12e3030aa8d0a",
+                "1 0 19 af5a5a5a355355422d565030b12e3030aa8d0a 0",
             )
             .line("silence 1", "12 0 0 - 0")
             .dump(Shown { mode: 1, ..MADE })
@@ -1039,10 +1033,10 @@ fn states() -> Vec<Fixed> {
     };
     vec![
         Fixed::empty("a malformed state is kept by every call")
-            .kept(broken, "byte 81", "14 0 0 -")
-            .kept(broken, "byte 81 2047", "12 0 0 -")
-            .kept(broken, "silence", "14 0 0 -")
-            .kept(broken, "silence 0", "12 0 0 -")
+            .kept(broken, "byte 81", "14 0 0 - 0")
+            .kept(broken, "byte 81 2047", "12 0 0 - 0")
+            .kept(broken, "silence", "14 0 0 - 0")
+            .kept(broken, "silence 0", "12 0 0 - 0")
             .kept(broken, "tick", "14 0")
             .kept(broken, "up", "14 0")
             .kept(broken, "pulse 1000000", "14 0")
@@ -1173,7 +1167,14 @@ fn script_rules() -> Vec<Fixed> {
             .line(&format!("set {shown} 31"), "error")
             .line(&format!("set {shown}4294967296"), "error")
             .line(&format!("set {}256 0", &shown[..shown.len() - 2]), "error")
-            .line(&format!("set {}31 0 0", &shown[..shown.len() - 4]), "error")
+            .line(
+                &format!("set {}256 0 0", &shown[..shown.len() - 4]),
+                "error",
+            )
+            .line(
+                &format!("set {}31 0 0 0", &shown[..shown.len() - 6]),
+                "error",
+            )
             .line(&format!("set {} 0", &shown[..shown.len() - 4]), "error")
             .line(&format!("set 256{}", &shown[1..]), "error")
             .line(&format!("set 0 0 256{}", &shown[5..]), "error")

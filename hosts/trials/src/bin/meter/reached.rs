@@ -13,6 +13,7 @@ const AIMS: &[&str] = &[
     "new, bad facts",
     "set",
     "dump",
+    "frame",
     "script line that is an error",
     // Mode 0.
     "sign-on by /?!",
