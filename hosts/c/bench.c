@@ -5,6 +5,7 @@
 #include "script.h"
 
 #include "dirgemist_card.h"
+#include "dirgemist_gateway.h"
 #include "dirgemist_meter.h"
 
 #define ROOM_MOST 8192
@@ -202,6 +203,7 @@ static bool play_dump(const struct word *words, size_t count) {
 #define UNWRITTEN 0xA5
 
 static struct buffer replies;
+static struct buffer frames;
 static size_t *length;
 static uint8_t *speed;
 static uint8_t *place;
@@ -264,6 +266,22 @@ static bool play_bytes(const struct word *words, size_t count) {
     for (size_t at = 0; at < size; at++) {
         receive(bytes[at], DIRGEMIST_REPLY_ROOM);
     }
+    return true;
+}
+
+/* The slice lies in memory of its own size, as the reply does. */
+static bool play_frame(const struct word *words, size_t count) {
+    size_t size, room;
+    if (!size_of(words[0], &size)) {
+        return false;
+    }
+    uint8_t *frame = lend(&frames, size);
+    if (!bytes_of(words[0], frame, size) || !room_of(words + 1, count - 1, &room)) {
+        return false;
+    }
+    unwrite();
+    uint8_t *reply = lend(&replies, room);
+    put_reply(dirgemist_meter_frame(meter, frame, size, reply, room, length, speed, place));
     return true;
 }
 
@@ -336,6 +354,7 @@ static const struct {
 } commands[] = {
     {"byte", 1, 2, play_byte},
     {"bytes", 1, 1, play_bytes},
+    {"frame", 1, 2, play_frame},
     {"silence", 0, 1, play_silence},
     {"tick", 0, 0, play_tick},
     {"pulse", 1, 1, play_pulse},
@@ -364,6 +383,7 @@ int main(void) {
     speed = placed(guarded(sizeof *speed), sizeof *speed, false);
     place = placed(guarded(sizeof *place), sizeof *place, false);
     replies = buffer_for(ROOM_MOST);
+    frames = buffer_for(BYTES_MOST);
     meter = places[0];
     struct facts blank = usual();
     make(meter, &blank);

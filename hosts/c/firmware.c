@@ -324,7 +324,7 @@ static void closes(struct dirgemist_meter *meter) {
             SAY(meter, "closing sign-on", "/C!\r\n", 1, "/ZZZ5SUB-VP01.00*\r\n", 0);
             before.registers.clock = meter->registers.clock;
             close_by_hand(&before);
-            expect(dirgemist_meter_silence(meter, reply, ROOM, length, speed) == 1, "back to listening");
+            expect(dirgemist_meter_silence(meter, reply, ROOM, length, speed, place) == 1, "back to listening");
         }
         expect(meter->registers.archive.count == (n < 12 ? n : 12), "how many periods are kept");
         expect(same(meter, &before), "a period closed");

@@ -62,7 +62,7 @@ static bool take_text(struct word word, struct given *given) {
 }
 
 static bool take_byte(struct word word, struct given *given) {
-    uint8_t byte;
+    uint8_t byte = 0;
     bool good = bytes_of(word, &byte, 1);
     given->number = byte;
     return good;

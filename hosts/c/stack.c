@@ -1,8 +1,8 @@
-/* stack.c: how much stack the calls of dirgemist_meter.h take. Each event runs on a stack of its own,
+/* stack.c: how much stack the calls of dirgemist_meter.h and dirgemist_gateway.h take. Each event runs on a stack of its own,
  * painted before; what was written over is what it took, less what the switch to that stack takes.
  * Prints the most for each call, and exits with 1 where one takes more than its header says. */
 #define _GNU_SOURCE
-#include "dirgemist_meter.h"
+#include "dirgemist_gateway.h"
 
 #include <stdio.h>
 #include <stdlib.h>
@@ -23,6 +23,13 @@ static uint32_t value;
 static void nothing(void) {}
 static void meet(void) { dirgemist_meter_meet(&meter, kind, value, reply, sizeof reply, &length, &speed, &place); }
 static void check(void) { dirgemist_meter_check(&meter); }
+
+static uint8_t slice[64];
+static size_t size;
+
+static void take_whole(void) {
+    dirgemist_meter_frame(&meter, slice, size, reply, sizeof reply, &length, &speed, &place);
+}
 
 static void total(void) {
     uint32_t shown;
@@ -65,6 +72,16 @@ static size_t said(const char *message, size_t count) {
     return took;
 }
 
+/* What a frame that comes whole takes. */
+static size_t came(const char *message, size_t count) {
+    for (size = 0; size < count; size++) {
+        uint8_t c = (uint8_t)message[size];
+        slice[size] = (uint8_t)(c | __builtin_parity(c) << 7);
+    }
+    return deep(take_whole);
+}
+
+#define CAME(message) came(message, sizeof(message) - 1)
 #define SAID(message) said(message, sizeof(message) - 1)
 
 static size_t happened(uint8_t what, uint32_t with) {
@@ -94,8 +111,19 @@ int main(void) {
     meeting = most(meeting, happened(DIRGEMIST_POWER_UP, 0));
     meeting = most(meeting, happened(99, 0));
     meeting -= bare;
-    printf("stack: meet %zu, make %zu, check %zu, total %zu bytes; the record has %zu\n", meeting, making,
+    size_t coming = 0;
+    meter.mode = 2;
+    coming = most(coming, CAME("\001P1\002(20304050)\003\x61"));
+    coming = most(coming, CAME("\001W1\002Z(04;111111111111111111111111)\003\003"));
+    coming = most(coming, CAME("\001W1\002K(Kiln_8 new)\003\x10"));
+    coming = most(coming, CAME("\001W1\002T(01-03-2024;00:00:00)\003\x12"));
+    coming = most(coming, CAME("\001R1\002E0()\003\x16"));
+    coming = most(coming, CAME("\001\001R1\002Z(07)\003\x3e"));
+    coming = most(coming, CAME("\001R1"));
+    coming = most(coming, CAME("\001B0\003\x71"));
+    coming -= bare;
+    printf("stack: meet %zu, frame %zu, make %zu, check %zu, total %zu bytes; the record has %zu\n", meeting, coming, making,
            checking, showing, sizeof meter);
-    return meeting > DIRGEMIST_STACK || making > DIRGEMIST_STACK || checking > DIRGEMIST_STACK
+    return meeting > DIRGEMIST_STACK || coming > DIRGEMIST_STACK || making > DIRGEMIST_STACK || checking > DIRGEMIST_STACK
            || showing > DIRGEMIST_STACK;
 }

@@ -4,11 +4,12 @@ use std::env;
 use std::path::PathBuf;
 
 /// `speed` is no part of this crate: a benchmark links it, if it is there.
-const LIBRARIES: [&str; 8] = [
+const LIBRARIES: [&str; 9] = [
     "cardlink",
     "keeping",
     "firmware",
     "forum",
+    "gateway",
     "headlink",
     "mercurylink",
     "sessionlink",

@@ -101,7 +101,7 @@ restarted-held b h =
     record { count = refl; some = omega arith; last = refl; mark = rw (soh-whole b h); place = λ e. untrue e }
 
 -- what a byte is in a session, once something is held
-hearing-is : (mode count last c : ℕ) → 2 ≤ mode → 1 ≤ count
+pub hearing-is : (mode count last c : ℕ) → 2 ≤ mode → 1 ≤ count
     → hearing mode count last c ≡ cond (eqb last 3) Frame (cond (eqb c 1) Restart (cond (leb 63 count) TooLong Hold))
 unfolding hearing framing
 hearing-is mode count last c m n = rw (ne-eqb mode 0 (λ e. omega arith), ne-eqb mode 1 (λ e. omega arith), ne-eqb count 0 (λ e. omega arith))

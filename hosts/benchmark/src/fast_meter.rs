@@ -78,6 +78,9 @@ const PERIOD: &[u8; PERIOD_LINES] = b"0.1.2*kk(yy-mm-dd hh:nn)\r\n\
 const PERIOD_TIME: usize = 26;
 const PERIOD_ENERGY: usize = 27;
 
+/// SOH on the wire; ETX is the same there.
+const WIRE_SOH: u8 = 0x81;
+
 const fn put(mut block: [u8; BLOCK - 1], at: usize, text: &[u8]) -> [u8; BLOCK - 1] {
     let mut place = 0;
     while place < text.len() {
@@ -367,6 +370,88 @@ fn confirmation_character(
             answer(1, speed, ask.len())
         }
         _ => answer(2, 0, 0),
+    }
+}
+
+/// How many bytes before the last are held when it finishes a frame, else 0; one by one.
+fn held_slowly(run: &[u8], last: u8) -> usize {
+    let mut held = 1;
+    for pair in run.windows(2) {
+        if pair[0] == ETX {
+            return 0;
+        }
+        if pair[1] == WIRE_SOH {
+            held = 1;
+        } else if held == PLACES {
+            return 0;
+        } else {
+            held += 1;
+        }
+    }
+    let ends = run[run.len() - 1] == ETX || (held == PLACES && last != WIRE_SOH);
+    if ends {
+        held
+    } else {
+        0
+    }
+}
+
+/// The same: most slices have no control character but the SOH and the ETX.
+fn held_in(frame: &[u8]) -> usize {
+    let [first, between @ .., etx, last] = frame else {
+        return 0;
+    };
+    if *first != WIRE_SOH {
+        return 0;
+    }
+    let mut plain = *etx == ETX;
+    for &byte in between {
+        plain &= byte != WIRE_SOH && byte != ETX;
+    }
+    if plain && frame.len() <= PLACES + 1 {
+        return frame.len() - 1;
+    }
+    held_slowly(&frame[..frame.len() - 1], *last)
+}
+
+/// A frame that comes whole.
+pub fn frame(meter: &mut Meter, frame: &[u8], buffer: &mut [u8]) -> Answer {
+    if buffer.len() < ROOM {
+        return answer(12, 0, 0);
+    }
+    if !well_formed(meter) {
+        return answer(14, 0, 0);
+    }
+    let held = held_in(frame);
+    if meter.mode < 2 || meter.count != 0 || held == 0 {
+        return answer(17, meter.speed, 0);
+    }
+    let part = &frame[frame.len() - 1 - held..];
+    let mut hurt = 0;
+    for &byte in part {
+        hurt |= byte.count_ones() as u8;
+    }
+    if hurt % 2 == 1 || part[held - 1] != ETX {
+        let place = part.iter().position(|byte| byte.count_ones() % 2 == 1);
+        if part[held - 1] != ETX {
+            return refuse(meter, 5, buffer);
+        }
+        return Answer {
+            place: place.unwrap_or(0) as u8,
+            ..refuse(meter, 3, buffer)
+        };
+    }
+    for (place, byte) in meter.held.iter_mut().zip(&part[..held]) {
+        *place = byte & 0x7F;
+    }
+    meter.count = held as u8;
+    let speed = meter.speed;
+    match decide(meter, held, part[held] & 0x7F, buffer) {
+        Ok(length) => {
+            empty(meter);
+            answer(1, speed, length)
+        }
+        Err(number) => refuse(meter, number, buffer),
     }
 }
 

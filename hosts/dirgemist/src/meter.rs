@@ -203,6 +203,20 @@ extern "C" {
     fn dirgemist_meter_total(meter: *const Meter, total: *mut u32) -> u8;
 }
 
+#[link(name = "gateway", kind = "static")]
+extern "C" {
+    fn dirgemist_meter_frame(
+        meter: *mut Meter,
+        frame: *const u8,
+        frame_length: usize,
+        reply: *mut u8,
+        room: usize,
+        length: *mut usize,
+        speed: *mut u8,
+        place: *mut u8,
+    ) -> u8;
+}
+
 impl Meter {
     /// A new meter with 1, or the blank one with 15 where a field lies outside its rule.
     pub fn make(serial: &[u8], account: &[u8], password: &[u8], clock: Clock) -> (u8, Meter) {
@@ -257,6 +271,24 @@ impl Meter {
         let number = unsafe {
             let out = (&mut length, &mut speed, &mut place);
             dirgemist_meter_meet(self, kind, value, to, room, out.0, out.1, out.2)
+        };
+        Answer {
+            number,
+            length,
+            speed,
+            place,
+        }
+    }
+
+    /// Takes a frame that comes whole; the record becomes the next state.
+    pub fn frame(&mut self, frame: &[u8], reply: &mut [u8]) -> Answer {
+        let (mut length, mut speed, mut place) = (UNWRITTEN, UNWRITTEN_BYTE, UNWRITTEN_BYTE);
+        let (from, size) = (frame.as_ptr(), frame.len());
+        let (to, room) = (reply.as_mut_ptr(), reply.len());
+        // SAFETY: the record has the library's layout, and the borrows do not overlap.
+        let number = unsafe {
+            let out = (&mut length, &mut speed, &mut place);
+            dirgemist_meter_frame(self, from, size, to, room, out.0, out.1, out.2)
         };
         Answer {
             number,

@@ -27,6 +27,10 @@ pub enum Command {
         room: usize,
     },
     Play(Vec<Event>),
+    Frame {
+        bytes: Vec<u8>,
+        room: usize,
+    },
 }
 
 /// What can happen to a meter; rooms are those of the reply buffer.
@@ -99,6 +103,11 @@ impl Bench {
                     watch(&before, event, answer, &self.meter);
                 }
             }
+            Some(Command::Frame { bytes, room }) => {
+                let mut buffer = vec![FILLING; room];
+                let answer = self.meter.frame(&bytes, &mut buffer);
+                put_answer(transcript, answer, Some(&buffer));
+            }
         }
     }
 
@@ -116,16 +125,7 @@ impl Bench {
             Event::PowerUp => self.meter.power_up(),
             Event::Pulse { wh } => self.meter.pulse(wh),
         };
-        put(
-            transcript,
-            format_args!("{} {}", answer.number, answer.speed),
-        );
-        if room.is_some() {
-            put(transcript, format_args!(" {} ", answer.length));
-            put_hex(transcript, &buffer[..shown(answer.length, &buffer)]);
-            put(transcript, format_args!(" {}", answer.place));
-        }
-        transcript.push('\n');
+        put_answer(transcript, answer, room.map(|_| &buffer[..]));
         answer
     }
 }
@@ -134,6 +134,20 @@ impl Bench {
 fn shown(length: usize, buffer: &[u8]) -> usize {
     let changed = buffer.iter().rposition(|&byte| byte != FILLING);
     length.max(changed.map_or(0, |place| place + 1))
+}
+
+/// An answer line, with the reply buffer where the call has one.
+fn put_answer(transcript: &mut String, answer: Answer, buffer: Option<&[u8]>) {
+    put(
+        transcript,
+        format_args!("{} {}", answer.number, answer.speed),
+    );
+    if let Some(buffer) = buffer {
+        put(transcript, format_args!(" {} ", answer.length));
+        put_hex(transcript, &buffer[..shown(answer.length, buffer)]);
+        put(transcript, format_args!(" {}", answer.place));
+    }
+    transcript.push('\n');
 }
 
 /// Plays a script from start to end; the last line may lack its LF.
@@ -176,6 +190,14 @@ pub fn parse(line: &[u8]) -> Option<Command> {
                 .map(|byte| Event::Character { byte, room: ROOM })
                 .collect(),
         ),
+        [b"frame", bytes] => Command::Frame {
+            bytes: hex(bytes)?,
+            room: ROOM,
+        },
+        [b"frame", bytes, room] => Command::Frame {
+            bytes: hex(bytes)?,
+            room: room_of(room)?,
+        },
         [b"silence"] => Command::Play(vec![Event::Silence { room: ROOM }]),
         [b"silence", room] => Command::Play(vec![Event::Silence {
             room: room_of(room)?,

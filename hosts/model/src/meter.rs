@@ -17,6 +17,8 @@ pub const ROOM: usize = 4_096;
 pub const PULSE_MOST: u32 = 1_000_000;
 /// Counters and their sum are taken modulo this.
 pub const COUNTER_END: u32 = 1_000_000_000;
+/// The number of a slice that is no frame.
+pub const NO_FRAME: u8 = 17;
 /// Characters of the data block.
 pub const BLOCK: usize = 1_063;
 /// The most closed periods that are kept.
@@ -468,6 +470,43 @@ impl Meter {
             _ => self.frame_character(got),
         };
         self.answer(step, buffer)
+    }
+
+    /// A frame that comes whole: the character call at its last byte, if a frame is finished there and
+    /// all bytes before it are answered 0.
+    pub fn frame(&mut self, frame: &[u8], buffer: &mut [u8]) -> Answer {
+        if buffer.len() < ROOM {
+            return Answer::turned_away(12);
+        }
+        if !self.well_formed() {
+            return Answer::turned_away(14);
+        }
+        let none = Answer {
+            speed: self.speed,
+            ..Answer::turned_away(NO_FRAME)
+        };
+        let awaits = self.mode >= PASSWORD && self.count == 0;
+        let starts = frame.first().and_then(|&first| data_bits(first)) == Some(SOH);
+        let Some((&last, before)) = frame.split_last().filter(|_| awaits && starts) else {
+            return none;
+        };
+        let mut next = self.clone();
+        let mut nowhere = [0; ROOM];
+        if before
+            .iter()
+            .any(|&byte| next.character(byte, &mut nowhere).number != 0)
+        {
+            return none;
+        }
+        let whole = next.held().last() == Some(&ETX);
+        let mut sent = buffer.to_vec();
+        let answer = next.character(last, &mut sent);
+        if !whole && answer.number != 5 {
+            return none;
+        }
+        *self = next;
+        buffer.copy_from_slice(&sent);
+        answer
     }
 
     /// Sends what there is to send; bytes past it are kept.

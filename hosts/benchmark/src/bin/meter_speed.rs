@@ -15,6 +15,9 @@ const BATCHES: usize = 401;
 /// Times that a batch plays its messages.
 const TURNS: u32 = 50;
 
+/// Bytes of a table's write.
+const WRITE: usize = 36;
+
 /// A meter that is changed in place: the model's record, or the one that the library lays out.
 trait Side {
     fn of(meter: &Meter) -> Self;
@@ -167,6 +170,39 @@ fn stream(bytes: &[u8]) -> (f64, f64) {
     times
 }
 
+/// Nanoseconds for a table write of 36 bytes that comes whole.
+fn whole(bytes: &[u8]) -> (f64, f64) {
+    let start = meter(4);
+    let (mut rust, mut library) = (start.clone(), record_of(&start));
+    let (mut one, mut other) = ([0xAA; ROOM], [0xAA; ROOM]);
+    let times = medians(
+        TURNS as usize * bytes.len() / WRITE,
+        || {
+            for frame in bytes
+                .chunks(WRITE)
+                .cycle()
+                .take(TURNS as usize * bytes.len() / WRITE)
+            {
+                let answer = fast_meter::frame(black_box(&mut rust), black_box(frame), &mut one);
+                assert_eq!(black_box(answer).number, 1);
+            }
+        },
+        || {
+            for frame in bytes
+                .chunks(WRITE)
+                .cycle()
+                .take(TURNS as usize * bytes.len() / WRITE)
+            {
+                let answer = black_box(&mut library).frame(black_box(frame), &mut other);
+                assert_eq!(black_box(answer).number, 1);
+            }
+        },
+    );
+    assert_eq!(library, record_of(&rust));
+    assert_eq!(one, other);
+    times
+}
+
 /// Answers a confirmation by a block of some length, so many times; the five characters before the LF are
 /// put back.
 fn send(side: &mut impl Side, held: &[u8; 5], length: usize, buffer: &mut [u8]) {
@@ -258,6 +294,7 @@ fn main() {
     for (name, (rust, library)) in [
         ("a character of table writes", stream(&writes)),
         ("a character of mixed frames", stream(&mixed)),
+        ("a table write that comes whole", whole(&writes)),
         (
             "the call that sends the data block",
             block(b"\x06050\r", BLOCK),

@@ -280,6 +280,49 @@ fn equal_on_random_events() {
 }
 
 #[test]
+fn frames_that_come_whole() {
+    let mut chance = Chance::new(17);
+    let mut numbers = [0; 18];
+    for _ in 0..20_000 {
+        let mode = chance.between(1, 4) as u8;
+        let mut slow = state(&mut chance, mode);
+        let mut characters = message(&mut chance, &slow);
+        if chance.percent(30) {
+            let again = message(&mut chance, &slow);
+            characters.splice(0..0, again[..chance.below(again.len())].to_vec());
+        }
+        if chance.percent(20) {
+            characters = vec![SOH];
+            let count = chance.between(61, 64);
+            characters.extend((0..count).map(|_| b'7'));
+        }
+        if chance.percent(10) {
+            if let Some(check) = characters.last_mut() {
+                *check ^= 1 << chance.below(7);
+            }
+        }
+        let mut bytes: Vec<u8> = characters.iter().map(|&c| parity(c)).collect();
+        if chance.percent(20) && !bytes.is_empty() {
+            let place = chance.below(bytes.len());
+            bytes[place] ^= 1 << chance.below(8);
+        }
+        let mut fast = slow.clone();
+        let (mut one, mut other) = ([0xAA; ROOM], [0xAA; ROOM]);
+        let told = slow.frame(&bytes, &mut one);
+        assert_eq!(
+            super::frame(&mut fast, &bytes, &mut other),
+            told,
+            "{bytes:?}"
+        );
+        assert_eq!((fast, other), (slow, one), "{bytes:?}");
+        numbers[usize::from(told.number)] += 1;
+    }
+    for number in [1, 3, 4, 5, 8, 9, 17] {
+        assert!(numbers[number] > 0, "number {number} never came");
+    }
+}
+
+#[test]
 fn data_block_of_any_state() {
     let mut chance = Chance::new(63);
     for _ in 0..200 {

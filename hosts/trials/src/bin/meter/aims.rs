@@ -189,8 +189,16 @@ impl Aim<'_> {
             self.hurt(message)
         };
         let chance = &mut self.chance;
-        match chance.weighed(&[70, 14, 6, 4]) {
+        match chance.weighed(&[70, 14, 6, 4, 10]) {
             0 => self.player.bytes(&bytes),
+            4 => {
+                // Whole, as a gateway has it; where it is no frame, it comes again.
+                let room = chance.one_of(&["", "", "", " 4095", " 4096", " 8192"]);
+                self.player.frame(&bytes, room);
+                if self.chance.percent(50) {
+                    self.player.bytes(&bytes);
+                }
+            }
             1 => {
                 let cut = chance.below(bytes.len() + 1);
                 self.player.bytes(&bytes[..cut]);
@@ -494,9 +502,10 @@ impl Aim<'_> {
     /// A good line spoiled by one byte; now and then it stays a command.
     fn no_command(&mut self) {
         let meter = self.player.meter();
-        let mut line = match self.chance.below(9) {
+        let mut line = match self.chance.below(10) {
             0 => "dump".into(),
             8 => "card 685".into(),
+            9 => "frame 8142300371 4096".into(),
             1 => "tick".into(),
             2 => "bytes 81af8d0a".into(),
             3 => "byte 81 4096".into(),

@@ -63,7 +63,16 @@ impl<'a> Player<'a> {
             Some(Command::Dump) => self.reached.reach("dump"),
             Some(Command::Card { .. }) => self.reached.card(answers),
             Some(Command::Play(_)) => {}
+            Some(Command::Frame { .. }) => self.reached.reach("frame"),
         }
+    }
+
+    /// A slice that comes whole, with what says its room.
+    pub fn frame(&mut self, bytes: &[u8], room: &str) {
+        let mut line = String::from("frame ");
+        put_hex(&mut line, bytes);
+        line.push_str(room);
+        self.line(line);
     }
 
     pub fn dump(&mut self) {

@@ -17,6 +17,7 @@ const AIMS: &[&str] = &[
     "card written",
     "card of a malformed state",
     "card without room",
+    "frame",
     "script line that is an error",
     // Mode 0.
     "sign-on by /?!",

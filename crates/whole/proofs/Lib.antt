@@ -1,0 +1,4 @@
+pub mod Gathering
+pub mod Filled
+pub mod Finishing
+pub mod Promised
