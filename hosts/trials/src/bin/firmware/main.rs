@@ -19,7 +19,7 @@ use trials::record::record_of;
 use wrong::{Wrong, FAULTS};
 
 const SEED: u64 = 1;
-const EVENTS: u64 = 3_000_000;
+const EVENTS: u64 = 7_000_000;
 /// The events that a wrong meter may pass at most before it is found out.
 const PATIENCE: u64 = 400_000;
 
