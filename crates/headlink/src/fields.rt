@@ -112,10 +112,10 @@ pub extern "C" fn dirgemist_head_value_period(
 {
     let v = values::reading::read_stamp(value);
     let t = v.stamp;
-    let d = t.date;
-    *year = d.year;
-    *month = d.month;
-    *day = d.day;
+    let on = t.date;
+    *year = on.year;
+    *month = on.month;
+    *day = on.day;
     *hour = t.hour;
     *minute = t.minute;
     number(v.ok)
