@@ -8,7 +8,12 @@ use Rattle.card.proofs.put_frame.Statement.{statement}
 use Rattle.card.proofs.put_frame.Tie as tie
 
 returns : tie.Need-returns
-returns c = let c6 = c .before .before .before .before .before .before in let c11 = c6 .before .before .before .before .before in let c15 = c11 .before .before .before .before in let c20 = c15 .before .before .before .before .before in let a = c20 .args in
+returns c =
+    let c6 = c .before .before .before .before .before .before in
+    let c11 = c6 .before .before .before .before .before in
+    let c15 = c11 .before .before .before .before in
+    let c20 = c15 .before .before .before .before .before in
+    let a = c20 .args in
     let p = c20 .pre in
     let u : List ℕ = 41 ∷ [] in
     let k = three (a .out .now) (a .start .now) (a .content .now) u _ _ _ _ _ _ (c15 .put .ensures .0) (c15 .put .ensures .1) (c11 .put2 .ensures .0) (c11 .put2 .ensures .1) (c6 .put3 .ensures .0) (c6 .put3 .ensures .1) in

@@ -7,7 +7,11 @@ use Rattle.card.proofs.write_frames.Statement.{statement}
 use Rattle.card.proofs.write_frames.Tie as tie
 
 returns : tie.Need-returns
-returns c = let c6 = c .before .before .before .before .before .before in let c9 = c6 .before .before .before in let c13 = c9 .before .before .before .before in let t = c13 .args .text .now in
+returns c =
+    let c6 = c .before .before .before .before .before .before in
+    let c9 = c6 .before .before .before in
+    let c13 = c9 .before .before .before .before in
+    let t = c13 .args .text .now in
     let out = c13 .args .out .now in
     frames-whole t out _ (c13 .args .tables) _ (c13 .pre .0) (c6 .put .ensures .1 ∙ ap (stored out 0) (c9 .account-frame .ensures)) (c .before .before .write-tables .ensures)
 

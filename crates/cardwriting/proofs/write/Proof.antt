@@ -19,7 +19,12 @@ put-card-requires c κs = let c6 = c .before .before .before .before .before .be
     (l .account, omega arith, omega (arith, l .tables), c6 .if2 .left)
 
 returns-3 : tie.Need-returns-3
-returns-3 c = let c9 = c .before .before .before .before .before .before .before .before .before in let c10 = c9 .before in let c11 = c10 .before in let c13 = c11 .before .before in answers-1 (c13 .args .m) (c13 .args .out .now) _ (sym (c11 .is-well-formed .ensures) ∙ not-false _ (c10 .if1 .left)) (c9 .if2 .left) (c .before .before .put-card .ensures)
+returns-3 c =
+    let c9 = c .before .before .before .before .before .before .before .before .before in
+    let c10 = c9 .before in
+    let c11 = c10 .before in
+    let c13 = c11 .before .before in
+    answers-1 (c13 .args .m) (c13 .args .out .now) _ (sym (c11 .is-well-formed .ensures) ∙ not-false _ (c10 .if1 .left)) (c9 .if2 .left) (c .before .before .put-card .ensures)
 
 pub write-spec : {M : Type 1} → statement M
 write-spec = tie.close (tie.spec (λ c κs. search needs) returns returns-2 (λ c. search needs) (λ c. search needs) (λ c. search needs) put-card-requires (λ c. search needs) returns-3)

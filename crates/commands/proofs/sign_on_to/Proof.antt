@@ -22,7 +22,12 @@ shown-serial-requires c κs =
 
 returns-3 : tie.Need-returns-3
 unfolding signOnTo
-returns-3 c = let c5 = c .before .before .before .before .before in let c8 = c5 .before .before .before in let c9 = c8 .before in let c10 = c9 .before in rw (← c5 .shown-serial .ensures) (built _ _ _ _ _ (c10 .if1 .left) (sym (c9 .is-digits .ensures) ∙ not-false _ (c8 .if2 .left)) (c .before .before .line-of .ensures))
+returns-3 c =
+    let c5 = c .before .before .before .before .before in
+    let c8 = c5 .before .before .before in
+    let c9 = c8 .before in
+    let c10 = c9 .before in
+    rw (← c5 .shown-serial .ensures) (built _ _ _ _ _ (c10 .if1 .left) (sym (c9 .is-digits .ensures) ∙ not-false _ (c8 .if2 .left)) (c .before .before .line-of .ensures))
 
 pub sign-on-to-spec : {M : Type 1} → statement M
 sign-on-to-spec = tie.close (tie.spec (λ c κs. search needs) returns (λ c κs. search needs) (λ c κs. search needs) returns-2 (λ c. search needs) shown-serial-requires (λ c. search needs) (λ c. search needs) (λ c κs. search needs) (λ c. search needs) returns-3)

@@ -23,7 +23,13 @@ shown-table-requires c κs = let c3 = c .before .before .before in let c4 = c3 .
 
 returns-3 : tie.Need-returns-3
 unfolding frameOf sealed setTable bracketed
-returns-3 c = let c4 = c .before .before .before .before in let c7 = c4 .before .before .before in let c8 = c7 .before in let c9 = c8 .before in let c10 = c9 .before in rw (← c4 .shown-table .ensures) (built _ _ _ _ _ (c10 .if1 .left) (rw (← c9 .is-table .ensures, ← c8 .is-row .ensures) (not-false _ (c7 .if2 .left))) (c .before .before .frame .ensures))
+returns-3 c =
+    let c4 = c .before .before .before .before in
+    let c7 = c4 .before .before .before in
+    let c8 = c7 .before in
+    let c9 = c8 .before in
+    let c10 = c9 .before in
+    rw (← c4 .shown-table .ensures) (built _ _ _ _ _ (c10 .if1 .left) (rw (← c9 .is-table .ensures, ← c8 .is-row .ensures) (not-false _ (c7 .if2 .left))) (c .before .before .frame .ensures))
 
 pub write-table-spec : {M : Type 1} → statement M
 write-table-spec = tie.close (tie.spec (λ c κs. search needs) returns (λ c κs. search needs) (λ c κs. search needs) (λ c κs. search needs) returns-2 (λ c. search needs) shown-table-requires (λ c. search needs) (λ c κs. search needs) (λ c. search needs) returns-3)

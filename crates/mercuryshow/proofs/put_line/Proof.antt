@@ -9,11 +9,19 @@ use Rattle.mercuryshow.proofs.put_line.Statement.{statement}
 use Rattle.mercuryshow.proofs.put_line.Tie as tie
 
 put-requires-2 : tie.Need-put-requires-2
-put-requires-2 c κs = let c4 = c .before .before .before .before in let c8 = c4 .before .before .before .before in let c12 = c8 .before .before .before .before in omega (arith, quantity-few (c12 .args .q), c8 .put .ensures .0, c4 .put-quantity .ensures .0, c12 .pre .0)
+put-requires-2 c κs =
+    let c4 = c .before .before .before .before in
+    let c8 = c4 .before .before .before .before in
+    let c12 = c8 .before .before .before .before in
+    omega (arith, quantity-few (c12 .args .q), c8 .put .ensures .0, c4 .put-quantity .ensures .0, c12 .pre .0)
 
 returns : tie.Need-returns
 unfolding quantityLine
-returns c = let c7 = c .before .before .before .before .before .before .before in let c11 = c7 .before .before .before .before in let c15 = c11 .before .before .before .before in let a = c15 .args in
+returns c =
+    let c7 = c .before .before .before .before .before .before .before in
+    let c11 = c7 .before .before .before .before in
+    let c15 = c11 .before .before .before .before in
+    let a = c15 .args in
     let first = c11 .put .ensures in
     let second = c7 .put-quantity .ensures in
     let third = c .before .before .put2 .ensures in (

@@ -20,31 +20,73 @@ returns c = let c3 = c .before .before .before in let c4 = c3 .before in let c6 
 
 returns-2 : tie.Need-returns-2
 unfolding taken heard holding
-returns-2 c = let c3 = c .before .before .before in let c5 = c3 .before .before in let c6 = c5 .before in let c8 = c6 .before .before in let c9 = c8 .before in (rw (← c9 .damaged .ensures, ← c8 .symbol-of .ensures, ← c6 .last-held .ensures, ← c5 .hear .ensures, c3 .enum-told2 .given .1, c .quiet2 .ensures, c .before .with-receiver .ensures, c .before .before .keep .ensures), rw (← c9 .damaged .ensures, ← c8 .symbol-of .ensures, ← c6 .last-held .ensures, ← c5 .hear .ensures, c3 .enum-told2 .given .1))
+returns-2 c =
+    let c3 = c .before .before .before in
+    let c5 = c3 .before .before in
+    let c6 = c5 .before in
+    let c8 = c6 .before .before in
+    let c9 = c8 .before in
+    (rw (← c9 .damaged .ensures, ← c8 .symbol-of .ensures, ← c6 .last-held .ensures, ← c5 .hear .ensures, c3 .enum-told2 .given .1, c .quiet2 .ensures, c .before .with-receiver .ensures, c .before .before .keep .ensures), rw (← c9 .damaged .ensures, ← c8 .symbol-of .ensures, ← c6 .last-held .ensures, ← c5 .hear .ensures, c3 .enum-told2 .given .1))
 
 returns-3 : tie.Need-returns-3
 unfolding taken heard holding
-returns-3 c = let c3 = c .before .before .before in let c5 = c3 .before .before in let c6 = c5 .before in let c8 = c6 .before .before in let c9 = c8 .before in (rw (← c9 .damaged .ensures, ← c8 .symbol-of .ensures, ← c6 .last-held .ensures, ← c5 .hear .ensures, c3 .enum-told3 .given .1, c .quiet3 .ensures, c .before .with-receiver2 .ensures, c .before .before .restart .ensures), rw (← c9 .damaged .ensures, ← c8 .symbol-of .ensures, ← c6 .last-held .ensures, ← c5 .hear .ensures, c3 .enum-told3 .given .1))
+returns-3 c =
+    let c3 = c .before .before .before in
+    let c5 = c3 .before .before in
+    let c6 = c5 .before in
+    let c8 = c6 .before .before in
+    let c9 = c8 .before in
+    (rw (← c9 .damaged .ensures, ← c8 .symbol-of .ensures, ← c6 .last-held .ensures, ← c5 .hear .ensures, c3 .enum-told3 .given .1, c .quiet3 .ensures, c .before .with-receiver2 .ensures, c .before .before .restart .ensures), rw (← c9 .damaged .ensures, ← c8 .symbol-of .ensures, ← c6 .last-held .ensures, ← c5 .hear .ensures, c3 .enum-told3 .given .1))
 
 returns-4 : tie.Need-returns-4
 unfolding taken heard holding
-returns-4 c = let c3 = c .before .before .before in let c5 = c3 .before .before in let c6 = c5 .before in let c8 = c6 .before .before in let c9 = c8 .before in (rw (← c9 .damaged .ensures, ← c8 .symbol-of .ensures, ← c6 .last-held .ensures, ← c5 .hear .ensures, c3 .enum-told4 .given .1, c .quiet4 .ensures, c .before .with-receiver3 .ensures, c .before .before .empty-receiver .ensures), rw (← c9 .damaged .ensures, ← c8 .symbol-of .ensures, ← c6 .last-held .ensures, ← c5 .hear .ensures, c3 .enum-told4 .given .1))
+returns-4 c =
+    let c3 = c .before .before .before in
+    let c5 = c3 .before .before in
+    let c6 = c5 .before in
+    let c8 = c6 .before .before in
+    let c9 = c8 .before in
+    (rw (← c9 .damaged .ensures, ← c8 .symbol-of .ensures, ← c6 .last-held .ensures, ← c5 .hear .ensures, c3 .enum-told4 .given .1, c .quiet4 .ensures, c .before .with-receiver3 .ensures, c .before .before .empty-receiver .ensures), rw (← c9 .damaged .ensures, ← c8 .symbol-of .ensures, ← c6 .last-held .ensures, ← c5 .hear .ensures, c3 .enum-told4 .given .1))
 
 returns-5 : tie.Need-returns-5
 unfolding taken heard holding
-returns-5 c = let c4 = c .before .before .before .before in let c6 = c4 .before .before in let c7 = c6 .before in let c9 = c7 .before .before in let c10 = c9 .before in (rw (← c10 .damaged .ensures, ← c9 .symbol-of .ensures, ← c7 .last-held .ensures, ← c6 .hear .ensures, c4 .enum-told5 .given .1, c .before .before .end-line .ensures .0), rw (← c10 .damaged .ensures, ← c9 .symbol-of .ensures, ← c7 .last-held .ensures, ← c6 .hear .ensures, c4 .enum-told5 .given .1) (c .before .before .end-line .ensures .1))
+returns-5 c =
+    let c4 = c .before .before .before .before in
+    let c6 = c4 .before .before in
+    let c7 = c6 .before in
+    let c9 = c7 .before .before in
+    let c10 = c9 .before in
+    (rw (← c10 .damaged .ensures, ← c9 .symbol-of .ensures, ← c7 .last-held .ensures, ← c6 .hear .ensures, c4 .enum-told5 .given .1, c .before .before .end-line .ensures .0), rw (← c10 .damaged .ensures, ← c9 .symbol-of .ensures, ← c7 .last-held .ensures, ← c6 .hear .ensures, c4 .enum-told5 .given .1) (c .before .before .end-line .ensures .1))
 
 returns-6 : tie.Need-returns-6
 unfolding taken heard holding
-returns-6 c = let c4 = c .before .before .before .before in let c6 = c4 .before .before in let c7 = c6 .before in let c9 = c7 .before .before in let c10 = c9 .before in (rw (← c10 .damaged .ensures, ← c9 .symbol-of .ensures, ← c7 .last-held .ensures, ← c6 .hear .ensures, c4 .enum-told6 .given .1, c .before .before .confirm .ensures .0), rw (← c10 .damaged .ensures, ← c9 .symbol-of .ensures, ← c7 .last-held .ensures, ← c6 .hear .ensures, c4 .enum-told6 .given .1) (c .before .before .confirm .ensures .1))
+returns-6 c =
+    let c4 = c .before .before .before .before in
+    let c6 = c4 .before .before in
+    let c7 = c6 .before in
+    let c9 = c7 .before .before in
+    let c10 = c9 .before in
+    (rw (← c10 .damaged .ensures, ← c9 .symbol-of .ensures, ← c7 .last-held .ensures, ← c6 .hear .ensures, c4 .enum-told6 .given .1, c .before .before .confirm .ensures .0), rw (← c10 .damaged .ensures, ← c9 .symbol-of .ensures, ← c7 .last-held .ensures, ← c6 .hear .ensures, c4 .enum-told6 .given .1) (c .before .before .confirm .ensures .1))
 
 returns-7 : tie.Need-returns-7
 unfolding taken heard holding
-returns-7 c = let c4 = c .before .before .before .before in let c6 = c4 .before .before in let c7 = c6 .before in let c9 = c7 .before .before in let c10 = c9 .before in (rw (← c10 .damaged .ensures, ← c9 .symbol-of .ensures, ← c7 .last-held .ensures, ← c6 .hear .ensures, c4 .enum-told7 .given .1, c .before .before .act-on-frame .ensures .0), rw (← c10 .damaged .ensures, ← c9 .symbol-of .ensures, ← c7 .last-held .ensures, ← c6 .hear .ensures, c4 .enum-told7 .given .1) (c .before .before .act-on-frame .ensures .1))
+returns-7 c =
+    let c4 = c .before .before .before .before in
+    let c6 = c4 .before .before in
+    let c7 = c6 .before in
+    let c9 = c7 .before .before in
+    let c10 = c9 .before in
+    (rw (← c10 .damaged .ensures, ← c9 .symbol-of .ensures, ← c7 .last-held .ensures, ← c6 .hear .ensures, c4 .enum-told7 .given .1, c .before .before .act-on-frame .ensures .0), rw (← c10 .damaged .ensures, ← c9 .symbol-of .ensures, ← c7 .last-held .ensures, ← c6 .hear .ensures, c4 .enum-told7 .given .1) (c .before .before .act-on-frame .ensures .1))
 
 returns-8 : tie.Need-returns-8
 unfolding taken heard holding
-returns-8 c = let c4 = c .before .before .before .before in let c6 = c4 .before .before in let c7 = c6 .before in let c9 = c7 .before .before in let c10 = c9 .before in (rw (← c10 .damaged .ensures, ← c9 .symbol-of .ensures, ← c7 .last-held .ensures, ← c6 .hear .ensures, c4 .enum-told8 .given .1, c .before .before .refuse .ensures .0), rw (← c10 .damaged .ensures, ← c9 .symbol-of .ensures, ← c7 .last-held .ensures, ← c6 .hear .ensures, c4 .enum-told8 .given .1) (c .before .before .refuse .ensures .1))
+returns-8 c =
+    let c4 = c .before .before .before .before in
+    let c6 = c4 .before .before in
+    let c7 = c6 .before in
+    let c9 = c7 .before .before in
+    let c10 = c9 .before in
+    (rw (← c10 .damaged .ensures, ← c9 .symbol-of .ensures, ← c7 .last-held .ensures, ← c6 .hear .ensures, c4 .enum-told8 .given .1, c .before .before .refuse .ensures .0), rw (← c10 .damaged .ensures, ← c9 .symbol-of .ensures, ← c7 .last-held .ensures, ← c6 .hear .ensures, c4 .enum-told8 .given .1) (c .before .before .refuse .ensures .1))
 
 pub take-spec : {M : Type 1} → statement M
 take-spec = tie.close (tie.spec (λ c κs. search needs) (λ c κs. search needs) (λ c κs. search needs) (λ c κs. search needs) (λ c. search needs) (λ c κs. search needs) (λ c. search needs) keep-requires (λ c κs. search needs) (λ c κs. search needs) (λ c. search needs) (λ c κs. search needs) (λ c κs. search needs) (λ c κs. search needs) (λ c. search needs) (λ c κs. search needs) (λ c κs. search needs) (λ c κs. search needs) (λ c. search needs) (λ c κs. search needs) (λ c. search needs) (λ c κs. search needs) (λ c. search needs) (λ c κs. search needs) (λ c. search needs) (λ c κs. search needs) returns returns-2 returns-3 returns-4 (λ c. search needs) returns-5 (λ c. search needs) returns-6 (λ c. search needs) returns-7 (λ c. search needs) returns-8)

@@ -19,12 +19,22 @@ put-requires-3 c κs = let c3 = c .before .before .before in let c8 = c3 .before
     omega (arith, digits-few (a .n), digits-few (a .m), c8 .put .ensures .0, c3 .put2 .ensures .0)
 
 put-requires-4 : tie.Need-put-requires-4
-put-requires-4 c κs = let c4 = c .before .before .before .before in let c8 = c4 .before .before .before .before in let c13 = c8 .before .before .before .before .before in let c16 = c13 .before .before .before in let a = c16 .args in
+put-requires-4 c κs =
+    let c4 = c .before .before .before .before in
+    let c8 = c4 .before .before .before .before in
+    let c13 = c8 .before .before .before .before .before in
+    let c16 = c13 .before .before .before in
+    let a = c16 .args in
     omega (arith, digits-few (a .n), digits-few (a .m), c13 .put .ensures .0, c8 .put2 .ensures .0, c4 .put3 .ensures .0)
 
 returns : tie.Need-returns
 unfolding numberLine
-returns c = let c7 = c .before .before .before .before .before .before .before in let c11 = c7 .before .before .before .before in let c16 = c11 .before .before .before .before .before in let c19 = c16 .before .before .before in let a = c19 .args in
+returns c =
+    let c7 = c .before .before .before .before .before .before .before in
+    let c11 = c7 .before .before .before .before in
+    let c16 = c11 .before .before .before .before .before in
+    let c19 = c16 .before .before .before in
+    let a = c19 .args in
     let number = c16 .put .ensures in
     let space = c11 .put2 .ensures in
     let other = c7 .put3 .ensures in

@@ -48,7 +48,17 @@ add-straying-2 : tie.Need-add-straying-2 Inv-loop μ-loop
 add-straying-2 c = let c8 = c .before .before .before .before .before .before .before .before in omega (arith, c8 .pre .4, c8 .pre .6)
 
 loop-again : tie.Need-loop-again Inv-loop μ-loop
-loop-again c = let c3 = c .before .before .before in let c4 = c3 .before in let c5 = c4 .before in let c6 = c5 .before in let c7 = c6 .before in let c8 = c7 .before in let c9 = c8 .before in let c10 = c9 .before in let c12 = c10 .before .before in let l = c10 .loop in
+loop-again c =
+    let c3 = c .before .before .before in
+    let c4 = c3 .before in
+    let c5 = c4 .before in
+    let c6 = c5 .before in
+    let c7 = c6 .before in
+    let c8 = c7 .before in
+    let c9 = c8 .before in
+    let c10 = c9 .before in
+    let c12 = c10 .before .before in
+    let l = c10 .loop in
     let a = (c12 .args) in
     let f = (c8 .column-fits) in
     let g = (c6 .column-fits2) in

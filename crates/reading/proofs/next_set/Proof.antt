@@ -44,16 +44,40 @@ add-close : tie.Need-add-close
 add-close c = let c6 = c .before .before .before .before .before .before in let c9 = c6 .before .before .before in record { fits = omega (arith, c .value-run .ensures .there, length-drop (c9 .args .at + c6 .run .result + 1) (c9 .args .«data» .now)) }
 
 returns-7 : tie.Need-returns-7
-returns-7 c = let c3 = c .before .before .before in let c6 = c3 .before .before .before in let c7 = c6 .before in let c8 = c7 .before in let c9 = c8 .before in let c11 = c9 .before .before in let s = c11 .args .«data» .now in let at = c11 .args .at in let a = c8 .run .result in let one : 1 ≤ a = omega (arith, c7 .if2 .left) in c .malformed5 .ensures ∙ by-value s at (c9 .if1 .left) a (c8 .run .ensures .is) (no-end 17 (drop at s) (λ z. c7 .if2 .left (c8 .run .ensures .is ∙ z))) (rw (le-leb 1 a one, le-leb a 16 (c6 .if4 .left), eq-eqb _ _ (c3 .if6 .left))) (c .before .before .value-run .result) false (c .before .before .value-run .ensures .is) (rw (lt-leb (c .before .before .value-run .result) 32 (c .before .if7 .taken)))
+returns-7 c =
+    let c3 = c .before .before .before in
+    let c6 = c3 .before .before .before in
+    let c7 = c6 .before in
+    let c8 = c7 .before in
+    let c9 = c8 .before in
+    let c11 = c9 .before .before in
+    let s = c11 .args .«data» .now in let at = c11 .args .at in let a = c8 .run .result in let one : 1 ≤ a = omega (arith, c7 .if2 .left) in c .malformed5 .ensures ∙ by-value s at (c9 .if1 .left) a (c8 .run .ensures .is) (no-end 17 (drop at s) (λ z. c7 .if2 .left (c8 .run .ensures .is ∙ z))) (rw (le-leb 1 a one, le-leb a 16 (c6 .if4 .left), eq-eqb _ _ (c3 .if6 .left))) (c .before .before .value-run .result) false (c .before .before .value-run .ensures .is) (rw (lt-leb (c .before .before .value-run .result) 32 (c .before .if7 .taken)))
 
 three-requires-2 : tie.Need-three-requires-2
 three-requires-2 c κs = let c7 = c .before .before .before .before .before .before .before in let c10 = c7 .before .before .before in omega (arith, c .before .value-run .ensures .there, length-drop (c10 .args .at + c7 .run .result + 1) (c10 .args .«data» .now))
 
 returns-8 : tie.Need-returns-8
-returns-8 c = let c3 = c .before .before .before in let c4 = c3 .before in let c5 = c4 .before in let c8 = c5 .before .before .before in let c9 = c8 .before in let c10 = c9 .before in let c11 = c10 .before in let c13 = c11 .before .before in let s = c13 .args .«data» .now in let at = c13 .args .at in let a = c10 .run .result in let one : 1 ≤ a = omega (arith, c9 .if2 .left) in c .malformed6 .ensures ∙ by-value s at (c11 .if1 .left) a (c10 .run .ensures .is) (no-end 17 (drop at s) (λ z. c9 .if2 .left (c10 .run .ensures .is ∙ z))) (rw (le-leb 1 a one, le-leb a 16 (c8 .if4 .left), eq-eqb _ _ (c5 .if6 .left))) (c4 .value-run .result) false (c4 .value-run .ensures .is) (rw (le-leb (c4 .value-run .result) 32 (c3 .if7 .left), ← c .before .before .three2 .ensures) (not-true _ (c .before .if8 .taken)))
+returns-8 c =
+    let c3 = c .before .before .before in
+    let c4 = c3 .before in
+    let c5 = c4 .before in
+    let c8 = c5 .before .before .before in
+    let c9 = c8 .before in
+    let c10 = c9 .before in
+    let c11 = c10 .before in
+    let c13 = c11 .before .before in
+    let s = c13 .args .«data» .now in let at = c13 .args .at in let a = c10 .run .result in let one : 1 ≤ a = omega (arith, c9 .if2 .left) in c .malformed6 .ensures ∙ by-value s at (c11 .if1 .left) a (c10 .run .ensures .is) (no-end 17 (drop at s) (λ z. c9 .if2 .left (c10 .run .ensures .is ∙ z))) (rw (le-leb 1 a one, le-leb a 16 (c8 .if4 .left), eq-eqb _ _ (c5 .if6 .left))) (c4 .value-run .result) false (c4 .value-run .ensures .is) (rw (le-leb (c4 .value-run .result) 32 (c3 .if7 .left), ← c .before .before .three2 .ensures) (not-true _ (c .before .if8 .taken)))
 
 returns-9 : tie.Need-returns-9
-returns-9 c = let c3 = c .before .before .before in let c4 = c3 .before in let c7 = c4 .before .before .before in let c8 = c7 .before in let c9 = c8 .before in let c10 = c9 .before in let c12 = c10 .before .before in let s = c12 .args .«data» .now in let at = c12 .args .at in let a = c9 .run .result in let one : 1 ≤ a = omega (arith, c8 .if2 .left) in by-value s at (c10 .if1 .left) a (c9 .run .ensures .is) (no-end 17 (drop at s) (λ z. c8 .if2 .left (c9 .run .ensures .is ∙ z))) (rw (le-leb 1 a one, le-leb a 16 (c7 .if4 .left), eq-eqb _ _ (c4 .if6 .left))) (c3 .value-run .result) true (c3 .value-run .ensures .is) (rw (le-leb (c3 .value-run .result) 32 (c .before .before .if7 .left), ← c .before .three2 .ensures) (not-false _ (c .if8 .left)))
+returns-9 c =
+    let c3 = c .before .before .before in
+    let c4 = c3 .before in
+    let c7 = c4 .before .before .before in
+    let c8 = c7 .before in
+    let c9 = c8 .before in
+    let c10 = c9 .before in
+    let c12 = c10 .before .before in
+    let s = c12 .args .«data» .now in let at = c12 .args .at in let a = c9 .run .result in let one : 1 ≤ a = omega (arith, c8 .if2 .left) in by-value s at (c10 .if1 .left) a (c9 .run .ensures .is) (no-end 17 (drop at s) (λ z. c8 .if2 .left (c9 .run .ensures .is ∙ z))) (rw (le-leb 1 a one, le-leb a 16 (c7 .if4 .left), eq-eqb _ _ (c4 .if6 .left))) (c3 .value-run .result) true (c3 .value-run .ensures .is) (rw (le-leb (c3 .value-run .result) 32 (c .before .before .if7 .left), ← c .before .three2 .ensures) (not-false _ (c .if8 .left)))
 
 pub next-set-spec : {M : Type 1} → statement M
 next-set-spec = tie.close (tie.spec (λ c κs. search needs) returns run-requires (λ c κs. search needs) (λ c κs. search needs) returns-2 (λ c κs. search needs) returns-3 add-open (λ c κs. search needs) returns-4 (λ c κs. search needs) returns-5 (λ c. search needs) (λ c κs. search needs) returns-6 (λ c. search needs) (λ c κs. search needs) add-close (λ c κs. search needs) returns-7 three-requires-2 (λ c κs. search needs) returns-8 (λ c. search needs) returns-9)

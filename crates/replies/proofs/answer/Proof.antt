@@ -20,7 +20,11 @@ seal-requires c κs = let c3 = c .before .before .before in let c7 = c3 .before 
     (omega (arith, first .0, shown .0), rw (shown .1, length-stored (c7 .put .last .0) (c7 .put .result) (askedData (a .g) (a .a)), first .1, length-stored (a .buf .now) 0 (2 ∷ [])) (omega (arith, first .0, shown .0, short, start .pre .1)))
 
 returns : tie.Need-returns
-returns c = let c6 = c .before .before .before .before .before .before in let c10 = c6 .before .before .before .before in let c14 = c10 .before .before .before .before in let start = c14 in
+returns c =
+    let c6 = c .before .before .before .before .before .before in
+    let c10 = c6 .before .before .before .before in
+    let c14 = c10 .before .before .before .before in
+    let start = c14 in
     let a = start .args in
     let content = askedData (a .g) (a .a) in
     let first = c10 .put .ensures in

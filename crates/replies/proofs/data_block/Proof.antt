@@ -11,7 +11,11 @@ use Rattle.replies.proofs.data_block.Statement.{statement}
 use Rattle.replies.proofs.data_block.Tie as tie
 
 returns : tie.Need-returns
-returns c = let c6 = c .before .before .before .before .before .before in let c10 = c6 .before .before .before .before in let c14 = c10 .before .before .before .before in let start = c14 in
+returns c =
+    let c6 = c .before .before .before .before .before .before in
+    let c10 = c6 .before .before .before .before in
+    let c14 = c10 .before .before .before .before in
+    let start = c14 in
     let a = start .args in
     let first = c10 .put .ensures in
     let shown = c6 .put-block .ensures in

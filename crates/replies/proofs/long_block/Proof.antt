@@ -14,7 +14,11 @@ put-long-block-requires c κs =
     (start .pre .0, omega (arith, start .pre .1, start .pre .0 .kept, c .before .before .before .put .ensures .0))
 
 returns : tie.Need-returns
-returns c = let c6 = c .before .before .before .before .before .before in let c10 = c6 .before .before .before .before in let c14 = c10 .before .before .before .before in let start = c14 in
+returns c =
+    let c6 = c .before .before .before .before .before .before in
+    let c10 = c6 .before .before .before .before in
+    let c14 = c10 .before .before .before .before in
+    let start = c14 in
     let a = start .args in
     let first = c10 .put .ensures in
     let shown = c6 .put-long-block .ensures in

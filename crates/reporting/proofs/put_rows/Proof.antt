@@ -36,7 +36,12 @@ put-requires-2 c κs = let c4 = c .before .before .before .before in let c8 = c4
     omega (arith, p .0, p .1, L .inv .1, L .inv .2, put .ensures .0, put .kept .0, length-take-le (L .i * 24 + 24 - L .i * 24) (drop (L .i * 24) s) (omega (arith, p .1, length-drop (L .i * 24) s)))
 
 loop-again : tie.Need-loop-again Inv-loop μ-loop
-loop-again c = let c7 = c .before .before .before .before .before .before .before in let c10 = c7 .before .before .before in let c11 = c10 .before in let c14 = c11 .before .before .before in let L = c11 .loop in
+loop-again c =
+    let c7 = c .before .before .before .before .before .before .before in
+    let c10 = c7 .before .before .before in
+    let c11 = c10 .before in
+    let c14 = c11 .before .before .before in
+    let L = c11 .loop in
     let p = c14 .pre in
     let a = c14 .args in
     let s = a .tables .now in

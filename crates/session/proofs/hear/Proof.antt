@@ -13,7 +13,9 @@ returns c = (rw (lt-ltb _ _ (c .before .if1 .taken), c .refuse .ensures), rw (lt
 
 returns-2 : tie.Need-returns-2
 unfolding replied holding
-returns-2 c = let c3 = c .before .before .before in (rw (le-ltb _ _ (c3 .if1 .left), ← c .before .before .is-good .ensures, not-true (c .before .before .is-good .result) (c .before .if2 .taken), c .refuse2 .ensures), rw (le-ltb _ _ (c3 .if1 .left), ← c .before .before .is-good .ensures, not-true (c .before .before .is-good .result) (c .before .if2 .taken)))
+returns-2 c =
+    let c3 = c .before .before .before in
+    (rw (le-ltb _ _ (c3 .if1 .left), ← c .before .before .is-good .ensures, not-true (c .before .before .is-good .result) (c .before .if2 .taken), c .refuse2 .ensures), rw (le-ltb _ _ (c3 .if1 .left), ← c .before .before .is-good .ensures, not-true (c .before .before .is-good .result) (c .before .if2 .taken)))
 
 returns-3 : tie.Need-returns-3
 unfolding replied holding
@@ -24,7 +26,12 @@ answer-requires c κs = let c3 = c .before .before .before in let c4 = c3 .befor
 
 returns-4 : tie.Need-returns-4
 unfolding replied
-returns-4 c = let c4 = c .before .before .before .before in let c6 = c4 .before .before in let c7 = c6 .before in let c8 = c7 .before in (rw (le-ltb _ _ (c8 .if1 .left), ← c7 .is-good .ensures, not-false (c7 .is-good .result) (c6 .if2 .left), eq-eqb _ _ (c4 .if3 .left), c .before .before .answer .ensures .0), rw (le-ltb _ _ (c8 .if1 .left), ← c7 .is-good .ensures, not-false (c7 .is-good .result) (c6 .if2 .left), eq-eqb _ _ (c4 .if3 .left)) (c .before .before .answer .ensures .1))
+returns-4 c =
+    let c4 = c .before .before .before .before in
+    let c6 = c4 .before .before in
+    let c7 = c6 .before in
+    let c8 = c7 .before in
+    (rw (le-ltb _ _ (c8 .if1 .left), ← c7 .is-good .ensures, not-false (c7 .is-good .result) (c6 .if2 .left), eq-eqb _ _ (c4 .if3 .left), c .before .before .answer .ensures .0), rw (le-ltb _ _ (c8 .if1 .left), ← c7 .is-good .ensures, not-false (c7 .is-good .result) (c6 .if2 .left), eq-eqb _ _ (c4 .if3 .left)) (c .before .before .answer .ensures .1))
 
 pub hear-spec : {M : Type 1} → statement M
 hear-spec = tie.close (tie.spec (λ c κs. search needs) returns (λ c κs. search needs) (λ c κs. search needs) returns-2 (λ c κs. search needs) returns-3 answer-requires (λ c. search needs) returns-4)

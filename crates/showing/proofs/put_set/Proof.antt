@@ -14,7 +14,12 @@ use Rattle.showing.proofs.put_set.Tie as tie
 
 returns : tie.Need-returns
 unfolding setLine
-returns c = let c7 = c .before .before .before .before .before .before .before in let c12 = c7 .before .before .before .before .before in let c17 = c12 .before .before .before .before .before in let c22 = c17 .before .before .before .before .before in let start = c22 in
+returns c =
+    let c7 = c .before .before .before .before .before .before .before in
+    let c12 = c7 .before .before .before .before .before in
+    let c17 = c12 .before .before .before .before .before in
+    let c22 = c17 .before .before .before .before .before in
+    let start = c22 in
     let a = start .args in
     let s = a .sets .now in
     let inside = start .pre .0 in

@@ -33,7 +33,11 @@ show-block-requires c κs = let c4 = c .before .before .before .before in let c9
     omega (arith, c9 .pre, length-take (r .result .length) (r .last .1 .0), r .kept .1 .0)
 
 returns-2 : tie.Need-returns-2
-returns-2 c = let c5 = c .before .before .before .before .before in let c7 = c5 .before .before in let c12 = c7 .before .before .before .before .before in let a = c12 .args in
+returns-2 c =
+    let c5 = c .before .before .before .before .before in
+    let c7 = c5 .before .before in
+    let c12 = c7 .before .before .before .before .before in
+    let a = c12 .args in
     let shown = wantedShown (a .every) (a .address .now) in
     let r = c7 .strip in
     let one = c5 .if1 .left in

@@ -9,7 +9,11 @@ use Rattle.values.proofs.writing.put_serial.Reads as put-serial-reads
 
 -- src/lines.rt:18:1
 returns : tie.Need-returns
-returns c = let c5 = c .before .before .before .before .before in let c8 = c5 .before .before .before in let c12 = c8 .before .before .before .before in let start = c12 in
+returns c =
+    let c5 = c .before .before .before .before .before in
+    let c8 = c5 .before .before .before in
+    let c12 = c8 .before .before .before .before in
+    let start = c12 in
     let first = c8 .put .ensures in
     let second = c5 .put-serial .ensures in
     let third = c .before .put2 .ensures in

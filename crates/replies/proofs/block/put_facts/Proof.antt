@@ -10,7 +10,12 @@ use Rattle.replies.proofs.block.put_facts.Tie as tie
 
 returns : tie.Need-returns
 unfolding factSets
-returns c = let c6 = c .before .before .before .before .before .before in let c10 = c6 .before .before .before .before in let c14 = c10 .before .before .before .before in let c19 = c14 .before .before .before .before .before in let start = c19 in
+returns c =
+    let c6 = c .before .before .before .before .before .before in
+    let c10 = c6 .before .before .before .before in
+    let c14 = c10 .before .before .before .before in
+    let c19 = c14 .before .before .before .before .before in
+    let start = c19 in
     let a = start .args in
     let first = c14 .put-serial-set .ensures in
     let second = c10 .put-date-set .ensures in

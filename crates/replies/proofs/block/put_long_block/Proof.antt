@@ -15,7 +15,11 @@ put-periods-requires c κs = let c4 = c .before .before .before .before in let c
 
 returns : tie.Need-returns
 unfolding longData periodsOf
-returns c = let c7 = c .before .before .before .before .before .before .before in let c12 = c7 .before .before .before .before .before in let c17 = c12 .before .before .before .before .before in let start = c17 in
+returns c =
+    let c7 = c .before .before .before .before .before .before .before in
+    let c12 = c7 .before .before .before .before .before in
+    let c17 = c12 .before .before .before .before .before in
+    let start = c17 in
     let a = start .args in
     let lines = c12 .put-sets .ensures in
     let more = c7 .put-periods .ensures in

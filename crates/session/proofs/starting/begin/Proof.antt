@@ -18,7 +18,12 @@ use Rattle.session.proofs.starting.begin.Tie as tie
 
 returns : tie.Need-returns
 unfolding opened holding
-returns c = let c3 = c .before .before .before in let c4 = c3 .before in let c5 = c4 .before in let c9 = c5 .before .before .before .before in let g = (c4 .told-good .result && c .before .before .told-good2 .result) && c9 .args .good in (rw (← c5 .is-digits .ensures, ← c4 .told-good .ensures, ← c3 .is-digits2 .ensures, ← c .before .before .told-good2 .ensures, not-true g (c .before .if1 .taken), c .refuse .ensures), rw (← c5 .is-digits .ensures, ← c4 .told-good .ensures, ← c3 .is-digits2 .ensures, ← c .before .before .told-good2 .ensures, not-true g (c .before .if1 .taken)))
+returns c =
+    let c3 = c .before .before .before in
+    let c4 = c3 .before in
+    let c5 = c4 .before in
+    let c9 = c5 .before .before .before .before in
+    let g = (c4 .told-good .result && c .before .before .told-good2 .result) && c9 .args .good in (rw (← c5 .is-digits .ensures, ← c4 .told-good .ensures, ← c3 .is-digits2 .ensures, ← c .before .before .told-good2 .ensures, not-true g (c .before .if1 .taken), c .refuse .ensures), rw (← c5 .is-digits .ensures, ← c4 .told-good .ensures, ← c3 .is-digits2 .ensures, ← c .before .before .told-good2 .ensures, not-true g (c .before .if1 .taken)))
 
 serial-kept-requires : tie.Need-serial-kept-requires
 serial-kept-requires c κs = let c3 = c .before .before .before in let c4 = c3 .before in serial-long _ _ (rw (c3 .told-good .ensures, c4 .is-digits .ensures) at (and-left (c3 .told-good .result) _ (and-left (c3 .told-good .result && c .before .told-good2 .result) _ (not-false _ (c .if1 .left)))))
@@ -28,7 +33,16 @@ password-kept-requires c κs = let c3 = c .before .before .before in let c4 = c3
 
 returns-2 : tie.Need-returns-2
 unfolding opened sessionOf
-returns-2 c = let c4 = c .before .before .before .before in let c5 = c4 .before in let c6 = c5 .before in let c7 = c6 .before in let c8 = c7 .before in let c9 = c8 .before in let c10 = c9 .before in let c14 = c10 .before .before .before .before in let a = c14 .args in
+returns-2 c =
+    let c4 = c .before .before .before .before in
+    let c5 = c4 .before in
+    let c6 = c5 .before in
+    let c7 = c6 .before in
+    let c8 = c7 .before in
+    let c9 = c8 .before in
+    let c10 = c9 .before in
+    let c14 = c10 .before .before .before .before in
+    let a = c14 .args in
     let t = toldOf (a .named) (a .serial .now) (a .access) (a .password .now) (a .kind) in
     let all = not-false ((c9 .told-good .result && c7 .told-good2 .result) && a .good) (c6 .if1 .left) in
     let called = rw (c9 .told-good .ensures, c10 .is-digits .ensures) at (and-left (c9 .told-good .result) _ (and-left (c9 .told-good .result && c7 .told-good2 .result) _ all)) in

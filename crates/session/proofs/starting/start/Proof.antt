@@ -34,7 +34,13 @@ returns-4 c = let c3 = c .before .before .before in let c5 = c3 .before .before 
     }
 
 returns-5 : tie.Need-returns-5
-returns-5 c = let c4 = c .before .before .before .before in let c5 = c4 .before in let c6 = c5 .before in let c8 = c6 .before .before in let c13 = c8 .before .before .before .before .before in let a = c13 .args in
+returns-5 c =
+    let c4 = c .before .before .before .before in
+    let c5 = c4 .before in
+    let c6 = c5 .before in
+    let c8 = c6 .before .before in
+    let c13 = c8 .before .before .before .before .before in
+    let a = c13 .args in
     let p = a-post (a .work .now) _ _ (c5 .check .ensures) (c4 .if4 .left) in
     let n = lines-counted (a .work .now) p in
     record {

@@ -13,7 +13,11 @@ use Rattle.state.proofs.closing.archive_good.Tie as tie
 
 returns : tie.Need-returns
 unfolding archiveGood
-returns c = let c5 = c .before .before .before .before .before in let c10 = c5 .before .before .before .before .before in let c15 = c10 .before .before .before .before .before in let asked = c15 in
+returns c =
+    let c5 = c .before .before .before .before .before in
+    let c10 = c5 .before .before .before .before .before in
+    let c15 = c10 .before .before .before .before .before in
+    let asked = c15 in
     let all = asked .before .places .ensures in
     let a = asked .before .before .before .args .a in
     let few : a .count ≤ periodPlaces = omega (arith, asked .if1 .taken, all .1) in

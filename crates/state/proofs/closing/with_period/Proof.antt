@@ -5,7 +5,9 @@ use Rattle.state.proofs.closing.with_period.Statement.{statement}
 use Rattle.state.proofs.closing.with_period.Tie as tie
 
 returns : tie.Need-returns
-returns c = let c13 = c .before .before .before .before .before .before .before .before .before .before .before .before .before in let start = c13 in
+returns c =
+    let c13 = c .before .before .before .before .before .before .before .before .before .before .before .before .before in
+    let start = c13 in
     let a = start .args .a in
     rw (c .one-more .ensures, first-eleven (a .periods) _ (formed-archive a (start .pre) .long)) (one-more-is (start .args .p) a (start .pre))
 

@@ -26,7 +26,11 @@ three-then-seven s buf at b1 p1 b2 p2 b3 long q1 e1 q2 e2 e3 =
     ∙ ap (stored buf at) (rw (take-all 7 (drop 3 s) seven) (append-assoc (take 3 s) (32 ∷ []) (drop 3 s)))
 
 returns : tie.Need-returns
-returns c = let c7 = c .before .before .before .before .before .before .before in let c12 = c7 .before .before .before .before .before in let c17 = c12 .before .before .before .before .before in let start = c17 in
+returns c =
+    let c7 = c .before .before .before .before .before .before .before in
+    let c12 = c7 .before .before .before .before .before in
+    let c17 = c12 .before .before .before .before .before in
+    let start = c17 in
     let first = c12 .put .ensures in
     let second = c7 .put2 .ensures in
     let third = c .before .before .put3 .ensures in
