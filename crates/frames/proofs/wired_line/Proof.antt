@@ -1,57 +1,30 @@
+-- `frames::wired_line` meets its contract: the start, the serial and the end, put in one after the other. Assumes nothing.
+use native.Mathlib.Omega.{arith}
+use mathlib.Core.Path.{_≡_}
+use mathlib.Core.List.{[], _∷_, _++_}
+use lib.ListN.{length, replicate, length-append}
+use Rattle.values.specs.Texts.{wiredText}
+use Rattle.values.proofs.Rules.{wired-text-long}
+use Rattle.frames.specs.Session.{wiredLine}
+use Rattle.frames.proofs.Lines.{line-put}
 use borrow.Author.Needs.{needs}
 use Rattle.frames.proofs.wired_line.Statement.{statement}
 use Rattle.frames.proofs.wired_line.Tie as tie
-use Rattle.frames.proofs.wired_line.Reads as reads
-use Rattle.frames.proofs.wired_line.Lts as lts
-use Rattle.text.proofs.put.Reads as put-reads
-use Rattle.values.proofs.writing.put_wired.Reads as put-wired-reads
 
--- src/lib.rt:47:23
-slice-aggregate-put : tie.Need-slice-aggregate-put
-slice-aggregate-put c = search needs
-
--- src/lib.rt:47:38
-slice-aggregate-put-2 : tie.Need-slice-aggregate-put-2
-slice-aggregate-put-2 c = search needs
-
--- src/lib.rt:47:9
-put-requires : tie.Need-put-requires
-put-requires c κs = search needs
-
--- src/lib.rt:48:40
-slice-aggregate-put-wired : tie.Need-slice-aggregate-put-wired
-slice-aggregate-put-wired c = search needs
-
--- src/lib.rt:48:9
-put-wired-requires : tie.Need-put-wired-requires
-put-wired-requires c κs = search needs
-
--- src/lib.rt:49:15
-slice-aggregate-put-3 : tie.Need-slice-aggregate-put-3
-slice-aggregate-put-3 c = search needs
-
--- src/lib.rt:49:30
-slice-aggregate-put-4 : tie.Need-slice-aggregate-put-4
-slice-aggregate-put-4 c = search needs
-
--- src/lib.rt:49:5
-put-requires-2 : tie.Need-put-requires-2
-put-requires-2 c κs = search needs
-
--- src/lib.rt:41:1
 returns : tie.Need-returns
-returns c = ?
+unfolding wiredLine
+returns c =
+    let c5 = c .before .before .before .before .before in
+    let c8 = c5 .before .before .before in
+    let start = c8 .before .before .before .before in
+    let letter = start .args .letter in
+    let shown = wiredText (start .args .serial .now) in
+    let eleven = wired-text-long (start .args .serial .now) (start .pre) in
+    let first = c8 .put .ensures in
+    let second = c5 .put-wired .ensures in
+    let third = c .before .put2 .ensures in
+    line-put (replicate 15 0) (47 ∷ letter ∷ []) shown (13 ∷ 10 ∷ []) _ _ _ _ _ (first .0) (first .1) (omega (arith, second .0, eleven)) (second .1) (third .1)
+    (omega (arith, eleven, length-append shown (13 ∷ 10 ∷ [])))
 
 pub wired-line-spec : {M : Type 1} → statement M
-wired-line-spec =
-    tie.close
-    (tie.spec
-    slice-aggregate-put
-    slice-aggregate-put-2
-    put-requires
-    slice-aggregate-put-wired
-    put-wired-requires
-    slice-aggregate-put-3
-    slice-aggregate-put-4
-    put-requires-2
-    returns)
+wired-line-spec = tie.close (tie.spec (λ c. search needs) (λ c. search needs) (λ c κs. search needs) (λ c. search needs) (λ c κs. search needs) (λ c. search needs) (λ c. search needs) (λ c κs. search needs) returns)
