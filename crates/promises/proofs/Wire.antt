@@ -1,6 +1,6 @@
 -- [14]: a meter on the wire that is not called says nothing and changes nothing but its receiver, whatever is sent there. Byte by byte: in
 -- listening mode only a line that calls it does more than fill or empty the receiver. Assumes nothing.
-use mathlib.Core.Path.{_≡_, refl, sym, ap, ap₂, _∙_}
+use mathlib.Core.Path.{_≡_, refl, sym, ap, ap₂, subst, _∙_}
 use mathlib.Core.Bool.{Bool, true, false, cond, not, _&&_}
 use mathlib.Core.List.{List, [], _∷_, _++_}
 use Prim.Native.Nat.{ℕ}
@@ -22,7 +22,7 @@ use Rattle.receiving.specs.Hearing.{listening, hearing}
 use Rattle.receiving.specs.Receivers.{heldText, lastHeld}
 use Rattle.meter.specs.Outcomes.{Outcome, silent, unheard}
 use Rattle.meter.specs.Link.{wiredCall, calls, closes}
-use Rattle.meter.specs.Character.{symbol, lineEnded, heard, taken, character}
+use Rattle.meter.specs.Character.{symbol, signedOn, lineEnded, heard, taken, character}
 use Rattle.promises.specs.Wire.{OnWire, calledBy, uncalled, saidTo, heardAll, Unmoved}
 use Rattle.promises.proofs.Choices as choice
 use Rattle.promises.proofs.Formed.{character-stays}
@@ -49,12 +49,12 @@ module _ (m : Meter) (w : OnWire m) where
   -- a line that does not call it
   line-quiet : (not (marked (m .receiver)) && wiredCall (heldText (m .receiver) ++ (10 ∷ [])) (m .registers .facts .serial)) ≡ false → Quiet m (lineEnded m)
   unfolding lineEnded calls closes
-  line-quiet h = rw (w .wired) (go (marked (m .receiver)) (wiredCall (heldText (m .receiver) ++ (10 ∷ [])) (m .registers .facts .serial)) h)
+  line-quiet h = rw (w .wired) (go (signedOn m) (marked (m .receiver)) (wiredCall (heldText (m .receiver) ++ (10 ∷ [])) (m .registers .facts .serial)) h)
     where
-      go : (p q : Bool) → (not p && q) ≡ false → {x : Outcome} → Quiet m (cond p (silent 0 (inMode m 0)) (cond q x (silent 0 (inMode m 0))))
-      go true q e = empties _ refl
-      go false true e = absurd (let z : _≡_ {A = ℕ} 0 1 = cc in omega arith)
-      go false false e = empties _ refl
+      go : (x : Outcome) (p q : Bool) → (not p && q) ≡ false → Quiet m (cond p (silent 0 (inMode m 0)) (cond q x (silent 0 (inMode m 0))))
+      go x true q e = empties _ refl
+      go x false true e = absurd (let z : _≡_ {A = ℕ} 0 1 = cc in omega arith)
+      go x false false e = empties _ refl
 
   abbrev P : ℕ → Bool → Hearing → Type 0
   P c d h = Quiet m (heard m c d h)
@@ -68,14 +68,16 @@ module _ (m : Meter) (w : OnWire m) where
       (choice.given (P c d) (eqb c 10) (λ e. line-quiet (rw e at h))
       (choice.either (P c d) (leb 31 (m .receiver .count)) (record { says = refl; stays = refl }) (record { says = refl; stays = refl }))))
 
+  -- in listening mode a character is heard so
+  listens : (c : ℕ) → hearing (m .mode) (m .receiver .count) (lastHeld (m .receiver)) c ≡ listening (m .receiver .count) c
+  unfolding hearing
+  listens c = rw (w .listening)
+
   pub byte-quiet : (room b : ℕ) → calledBy m b ≡ false → Quiet m (character m room b)
-  unfolding character taken hearing calledBy
+  unfolding character taken calledBy
   byte-quiet room b h =
       choice.either (Quiet m) (ltb room replyRoom) (record { says = refl; stays = refl })
-      (rw (w .formed) (rw (w .listening) at-zero))
-    where
-      at-zero : P (symbol b) (damagedAt b) (listening (m .receiver .count) (symbol b))
-      at-zero = listened (symbol b) (damagedAt b) h
+      (rw (w .formed) (subst (P (symbol b) (damagedAt b)) (sym (listens (symbol b))) (listened (symbol b) (damagedAt b) h)))
 
   -- and so it is still there
   still : (room b : ℕ) → calledBy m b ≡ false → OnWire (character m room b .next)

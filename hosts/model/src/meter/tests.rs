@@ -14,7 +14,7 @@ fn meter_in(mode: u8) -> Meter {
         minute: 5,
         second: 9,
     };
-    let (number, meter) = Meter::new(*b"1234567890", *b"Kiln_7 old", *b"20304050", clock);
+    let (number, meter) = Meter::new(*b"1234567890", *b"Kiln_7 old", *b"20304050", clock, [1, 1, 0]);
     assert_eq!(number, 1);
     let speed = if mode < PASSWORD { 0 } else { 5 };
     Meter {
@@ -418,7 +418,7 @@ fn refusals_come_in_their_order() {
 #[test]
 fn bad_facts_give_the_blank_state() {
     let good = (*b"1234567890", *b"Kiln_7 old", *b"20304050", Clock::FIRST);
-    assert_eq!(Meter::new(good.0, good.1, good.2, good.3).0, 1);
+    assert_eq!(Meter::new(good.0, good.1, good.2, good.3, [1, 1, 0]).0, 1);
     let day = Clock {
         day: 32,
         ..Clock::FIRST
@@ -429,7 +429,7 @@ fn bad_facts_give_the_blank_state() {
         (good.0, good.1, *b"2030405:", good.3),
         (good.0, good.1, good.2, day),
     ] {
-        let got = Meter::new(serial, account, password, clock);
+        let got = Meter::new(serial, account, password, clock, [1, 1, 0]);
         assert_eq!(got, (15, Meter::blank()));
     }
     assert!(Meter::blank().well_formed());
