@@ -310,8 +310,8 @@ module _ (a : ℕ) (g : Registers) (fit : Fit 1 a (resting g) g) where
   fast-fed = by (slowToo (g .facts .link)) refl
     where
       by : (b : Bool) → slowToo (g .facts .link) ≡ b → Choices 53
-      by true e = record { zero = confirmation-fed 53 48 refl refl (rw e); one = confirmation-fed 53 49 refl refl (rw e); six = confirmation-fed 53 54 refl refl (rw e); seven = confirmation-fed 53 55 refl refl (rw e) }
-      by false e = record { zero = confirmation-fed 53 48 refl refl (rw e); one = confirmation-fed 53 49 refl refl (rw e); six = confirmation-fed 53 54 refl refl (rw e); seven = confirmation-fed 53 55 refl refl (rw e) }
+      by true e = record { zero = confirmation-fed 53 48 refl refl refl; one = confirmation-fed 53 49 refl refl (rw e); six = confirmation-fed 53 54 refl refl (rw e); seven = confirmation-fed 53 55 refl refl (rw e) }
+      by false e = record { zero = confirmation-fed 53 48 refl refl refl; one = confirmation-fed 53 49 refl refl (rw e); six = confirmation-fed 53 54 refl refl (rw e); seven = confirmation-fed 53 55 refl refl (rw e) }
 
   any-speed : (v : ℕ) → goodSpeed v ≡ true → Choices v
   unfolding goodSpeed

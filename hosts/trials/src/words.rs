@@ -2,8 +2,7 @@
 
 use crate::chance::Chance;
 use model::meter::{
-    bcc, days_in_month, total_of, Clock, Meter, Period, ETX, PERIODS, PLACES, SOH, STX,
-    WIRED,
+    bcc, days_in_month, total_of, Clock, Meter, Period, ETX, PERIODS, PLACES, SOH, STX, WIRED,
 };
 
 /// SOH, command, STX and data if there are any, ETX and the true BCC.

@@ -78,7 +78,9 @@ pub fn trial(seed: u64) -> Result<usize, String> {
                 Vec::new()
             };
             if said != wanted {
-                return Err(format!("meter {place} of {serial:?} on {line:?}: said {said:?}"));
+                return Err(format!(
+                    "meter {place} of {serial:?} on {line:?}: said {said:?}"
+                ));
             }
             let kept = Meter {
                 receiver: before.receiver,

@@ -408,7 +408,13 @@ fn facts(chance: &mut Chance) -> Facts {
         14 => facts.kind[1] = chance.one_of(&[0, 3, odd]),
         15 => facts.kind[0] = chance.one_of(&[0, 3, 255]),
         16 => facts.kind[2] = chance.one_of(&[1, 5, 255]),
-        17 => facts.kind = [chance.one_of(&[0, 1]), chance.one_of(&[1, 3]), chance.one_of(&[0, 1])],
+        17 => {
+            facts.kind = [
+                chance.one_of(&[0, 1]),
+                chance.one_of(&[1, 3]),
+                chance.one_of(&[0, 1]),
+            ]
+        }
         0 => facts.serial[chance.below(10)] = odd,
         1 => facts.account[chance.below(10)] = odd,
         2 => facts.password[chance.below(8)] = odd,

@@ -2,8 +2,8 @@
 
 use crate::{Answer, Facts, Meter};
 use model::meter::{data_bits, Period, ACK, BLOCK, OPTICAL, PERIODS, PERIOD_LINES, ROOM, WIRED};
-use trials::words::wired_line;
 use std::collections::{BTreeMap, BTreeSet};
+use trials::words::wired_line;
 
 /// What must have happened at least once.
 pub const AIMS: [&str; 154] = [
