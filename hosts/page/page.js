@@ -163,6 +163,7 @@ function setVisiting(now) {
     for (const button of the('examples').children) button.disabled = now;
     for (const button of the('editions').querySelectorAll('input')) button.disabled = now;
     the('stop').disabled = !now;
+    if (now) the('stop').focus();
     stopAsked = false;
 }
 

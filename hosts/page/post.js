@@ -75,7 +75,7 @@ export function standsAt(text, place) {
     if (byte === 0x0d && text[place + 1] === 0x0a) return 'the end of the line, CR LF';
     if (byte <= 0x20 || byte === 0x7f) return `the hidden character ${nameOf(byte)} (${two(byte.toString(16).toUpperCase())} hex)`;
     if (byte < 0x80) return `“${String.fromCharCode(byte)}”`;
-    const letters = new TextDecoder().decode(text.slice(place, place + 4)), code = letters.codePointAt(0);
+    const letters = new TextDecoder('utf-8', { ignoreBOM: true }).decode(text.slice(place, place + 4)), code = letters.codePointAt(0);
     const known = code === 0xfffd && byte !== 0xef ? 'no character of UTF-8' : LOOKS[code];
     if (code === 0xfffd && byte !== 0xef) return `the byte ${byte.toString(16).toUpperCase()} hex, which starts ${known}`;
     const unicode = `U+${code.toString(16).toUpperCase().padStart(4, '0')}`;
