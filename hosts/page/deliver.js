@@ -1,7 +1,6 @@
 // A visit of the head to a meter. The proved session says what is sent and what a reply means; a line carries the bytes: that of an
 // optical head on a serial port, or one to a meter in this page.
-import { answerSession, CHARACTER, LINE, meet, messagesOf, sentOf, startSession } from './modules.js';
-import { two } from './post.js';
+import { answerSession, CHARACTER, LINE, meet, messagesOf, sentOf, SILENCE, startSession } from './modules.js';
 
 const rest = (milliseconds) => new Promise((resume) => setTimeout(resume, milliseconds));
 
@@ -14,7 +13,7 @@ export class VirtualLine {
         this.number = 0; // what the meter answered last
     }
     async exchange(message) {
-        await rest(40);
+        await rest(60);
         const heard = [];
         for (const byte of message) {
             const { number, meter, reply } = meet(this.meter, CHARACTER, byte);
@@ -24,7 +23,10 @@ export class VirtualLine {
         }
         return Uint8Array.from(heard);
     }
-    async close() {}
+    // Nobody speaks any more: eight seconds of silence end a session that was not left.
+    async close() {
+        this.meter = meet(this.meter, SILENCE, 0).meter;
+    }
 }
 
 // How long the head waits for a reply, and how long for its next byte, in milliseconds.
@@ -159,5 +161,3 @@ export function endInWords(end, post, answer) {
     if (end.fact === 'wrong') return `The meter’s answer to ${where} was not the right one, or came damaged. ${tables}${end.at > 3 && end.at < end.messages ? '; whether the last one arrived is not known' : ''}.`;
     return `Stopped before ${where}. ${tables}. The meter ends the session by itself after 8 seconds of silence.`;
 }
-
-export const hex = (bytes) => Array.from(bytes, (byte) => two(byte.toString(16).toUpperCase())).join(' ');

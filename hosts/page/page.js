@@ -1,7 +1,7 @@
 // The page: what is pasted, typed, dropped or chosen is looked at, shown, and delivered.
 import { EXAMPLES } from './built.js';
 import { bytesOf, check, EDITIONS, framesOf, LINE, makeMeter, meet, partAt, POWER_UP, rowsOf, tablesOf } from './modules.js';
-import { count, groupsOf, hiddenInWords, listed, reasons, rowInWords, rowsIn, two } from './post.js';
+import { count, groupsOf, hiddenInWords, listed, reasons, rowInWords, rowsIn } from './post.js';
 import { element, legend, picture, textToSee } from './show.js';
 import { endInWords, messageName, SerialLine, visit, VirtualLine } from './deliver.js';
 
@@ -16,8 +16,8 @@ const BOX = 20000;
 
 let edition = EDITIONS[0];
 let text = new Uint8Array(0); // as it was read
+let source = ''; // where it is from, in words
 let post = null; // the text, where it is a post
-let visiting = false;
 
 // ---- See.
 
@@ -55,6 +55,7 @@ function showRefusal(place) {
 // Looks at a text, with the words that say where it is from.
 function look(bytes, from) {
     text = bytes;
+    source = from;
     post = null;
     const empty = bytes.length === 0;
     const { number, place } = check(edition, bytes);
@@ -158,7 +159,6 @@ let stopAsked = false;
 
 // What is for delivering is at rest while a visit goes on, but for Stop.
 function setVisiting(now) {
-    visiting = now;
     for (const id of ['to-head', 'to-virtual', 'power', 'renew', 'box', 'file', 'clear']) the(id).disabled = now;
     for (const button of the('examples').children) button.disabled = now;
     for (const button of the('editions').querySelectorAll('input')) button.disabled = now;
@@ -262,9 +262,10 @@ function compare(before, after) {
 the('to-virtual').addEventListener('click', async () => {
     setVisiting(true);
     const before = meter, line = new VirtualLine(meter);
-    const end = await deliverOver(line);
-    meter = line.meter;
-    the('progress-words').textContent = endInWords(end, post, line.number);
+    const end = await deliverOver(line), { number } = line;
+    await line.close();
+    ({ meter } = line);
+    the('progress-words').textContent = endInWords(end, post, number);
     compare(before, meter);
     setVisiting(false);
     the('to-virtual').focus();
@@ -285,7 +286,7 @@ if (EDITIONS.length > 1) {
         choice.addEventListener('change', () => {
             edition = one;
             renew();
-            look(text, the('read-title').textContent.split(':')[0]);
+            look(text, source);
         });
         the('editions').append(element('label', {}, choice, ` edition ${one}, ${tablesOf(one)} tables${one === 2 ? ', with Saturdays' : ''}`));
     }
