@@ -4,6 +4,7 @@ import os
 import pathlib
 import subprocess
 import tempfile
+import termios
 import time
 import tty
 
@@ -66,7 +67,7 @@ window.eyes = {
     bytes(where) {
         const names = 'NUL SOH STX ETX EOT ENQ ACK BEL BS HT LF VT FF CR SO SI DLE DC1 DC2 DC3 DC4 NAK SYN ETB CAN EM SUB ESC FS GS RS US SP'.split(' ');
         const read = (node) => {
-            if (node.nodeType === Node.TEXT_NODE) return [...node.data].filter((letter) => letter !== '\\n').map((letter) => letter.charCodeAt(0));
+            if (node.nodeType === Node.TEXT_NODE) return [...node.data].filter((letter) => letter !== '\\n').map((letter) => letter > ' ' && letter < '\\x7f' ? letter.charCodeAt(0) : -1);
             if (node.className !== 'byte') return node.classList.contains('end-mark') ? [] : [...node.childNodes].flatMap(read);
             const name = node.textContent;
             return [names.includes(name) ? names.indexOf(name) : name === 'DEL' ? 127 : parseInt(name.slice(1), 16)];
@@ -79,7 +80,7 @@ window.eyes = {
 # A serial port that the trial holds the other end of.
 PORT = '''
 const port = {
-    told: [], sent: [], isOpen: false,
+    told: [], sent: [], speeds: [], isOpen: false,
     async open(told) {
         if (this.isOpen) throw new Error('open already');
         this.told.push(told);
@@ -88,7 +89,7 @@ const port = {
         this.writing = null;
     },
     get writable() {
-        this.writing ??= new WritableStream({ write: (chunk) => { this.sent.push([...chunk]); }, close: () => { this.writing = null; } });
+        this.writing ??= new WritableStream({ write: (chunk) => { this.sent.push([...chunk]); this.speeds.push(this.told.at(-1).baudRate); }, close: () => { this.writing = null; } });
         return this.writing;
     },
     async close() {
@@ -132,7 +133,9 @@ class Page:
         return self.by('answer').text
 
     def bytes(self, where='#text'):
-        return bytes(self.run('return eyes.bytes(arguments[0])', where))
+        found = self.run('return eyes.bytes(arguments[0])', where)
+        expect(-1 in found, False, f'{where}: a byte that can\'t be seen')
+        return bytes(found)
 
     def cells(self, where):
         return {int(table): cells for table, cells in self.run('return eyes.cells(arguments[0])', where).items()}
@@ -176,6 +179,15 @@ class Cable:
         tty.setraw(self.end)
         self.sent = []
 
+    def same_speed(self):
+        """Whether the page's port is as fast as the meter, or gets so within a second; else nothing arrives."""
+        limit = time.monotonic() + 1
+        fast = termios.tcgetattr(self.end)[5] == termios.B9600
+        while fast and not self.page.run('return fakePort.isOpen && fakePort.told.at(-1).baudRate === 9600'):
+            if time.monotonic() > limit:
+                return False
+        return True
+
     def carry(self, until=None):
         """Carries bytes both ways while the visit goes on, or until it is told to stop."""
         page, limit = self.page, time.monotonic() + 40
@@ -189,7 +201,7 @@ class Cable:
                 heard = os.read(self.end, 4096)
             except BlockingIOError:
                 heard = b''
-            if heard:
+            if heard and self.same_speed():
                 page.run('fakePort.hear(arguments[0])', list(heard))
             if until and until(self):
                 return

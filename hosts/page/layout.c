@@ -4,6 +4,7 @@
 #include "dirgemist_session.h"
 
 #include <stdio.h>
+#include <string.h>
 
 #define PART(name, field) \
     printf("%s: { at: %zu, size: %zu }, ", name, offsetof(struct dirgemist_meter, field), sizeof((struct dirgemist_meter *)0)->field)
@@ -23,6 +24,16 @@ int main(void) {
     PART("counters", registers.counters);
     PART("tables", registers.tables);
     PART("\"closed months\"", registers.archive);
-    printf("} };\n");
+    /* Between the fields anything may stand. */
+    struct dirgemist_meter all;
+    memset(&all, 0xFF, sizeof all);
+    __builtin_clear_padding(&all);
+    printf("}, between: [");
+    for (size_t at = 0; at < sizeof all; at++) {
+        if (((const uint8_t *)&all)[at] == 0) {
+            printf("%zu, ", at);
+        }
+    }
+    printf("] };\n");
     return 0;
 }

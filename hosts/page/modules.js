@@ -82,12 +82,12 @@ export function answerSession(session, post, reply) {
 export const sentOf = (session) => session[LAYOUT.sent];
 export const messagesOf = (session) => session[LAYOUT.count] + 4;
 
-// dirgemist_meter.h: a new meter.
+// dirgemist_meter.h: a new meter with an optical link (1) that counts in Wh (decimals 0).
 export function makeMeter(edition, serial, account, password, now) {
     const loan = new Loan(), record = loan.room(LAYOUT.meter);
     const told = [serial, account, password].flatMap((bytes) => [loan.bytes(bytes), size(bytes)]);
     const number = proved.dirgemist_meter_make(record, ...told, now.getFullYear(), now.getMonth() + 1, now.getDate(), now.getHours(),
-        now.getMinutes(), now.getSeconds());
+        now.getMinutes(), now.getSeconds(), edition, 1, 0);
     return { number, meter: loan.take(record, LAYOUT.meter) };
 }
 
@@ -100,9 +100,15 @@ export function meet(meter, kind, value) {
     return { number, meter: loan.take(record, LAYOUT.meter), reply: loan.take(reply, loan.length(length)), speed: loan.byte(speed) };
 }
 
-// The part of a meter's record that a byte belongs to, and the rows of its tables.
-export const partAt = (byte) => Object.keys(LAYOUT.parts).find((name) => byte >= LAYOUT.parts[name].at && byte < LAYOUT.parts[name].at + LAYOUT.parts[name].size)
-    ?? 'another byte';
+// The parts of two meters' records that differ: each byte is compared but for those between the fields.
+export function differences(one, other) {
+    const parts = Object.entries(LAYOUT.parts);
+    const partAt = (byte) => parts.find(([, { at, size: length }]) => byte >= at && byte < at + length)?.[0] ?? 'another fact';
+    const differ = Array.from(one.keys()).filter((at) => one[at] !== other[at] && !LAYOUT.between.includes(at));
+    return [...new Set(differ.map(partAt))];
+}
+
+// The rows of a meter's tables.
 export function rowsOf(edition, meter) {
     const text = String.fromCharCode(...meter.slice(LAYOUT.parts.tables.at));
     return Array.from({ length: tablesOf(edition) }, (_, at) => text.slice(24 * at, 24 * at + 24));

@@ -1,6 +1,6 @@
 // The page: what is pasted, typed, dropped or chosen is looked at, shown, and delivered.
 import { EXAMPLES } from './built.js';
-import { bytesOf, check, EDITIONS, framesOf, LINE, makeMeter, meet, partAt, POWER_UP, rowsOf, tablesOf } from './modules.js';
+import { bytesOf, check, differences, EDITIONS, framesOf, LINE, makeMeter, meet, POWER_UP, rowsOf, tablesOf } from './modules.js';
 import { count, groupsOf, hiddenInWords, listed, reasons, rowInWords, rowsIn } from './post.js';
 import { element, legend, picture, textToSee } from './show.js';
 import { endInWords, messageName, SerialLine, visit, VirtualLine } from './deliver.js';
@@ -235,12 +235,6 @@ function showMeter() {
     the('meter').replaceChildren(element('div', { class: 'pictures' }, picture('Its tables now', groupsOf(edition), (table) => rows[table - 1])));
 }
 
-// The names of the parts, beside the tables, in which two records differ, byte for byte.
-function otherParts(before, after) {
-    const parts = Array.from(before.keys()).filter((at) => before[at] !== after[at]).map(partAt);
-    return [...new Set(parts)].filter((name) => name !== 'tables');
-}
-
 // The tables before and after, the hours that changed marked in both, and whether anything else of the record is another.
 function compare(before, after) {
     const was = rowsOf(edition, before), is = rowsOf(edition, after), changed = new Map();
@@ -250,7 +244,7 @@ function compare(before, after) {
         if (others.size > 0) changed.set(at + 1, others);
         hours += others.size;
     });
-    const groups = groupsOf(edition), elsewhere = otherParts(before, after);
+    const groups = groupsOf(edition), elsewhere = differences(before, after).filter((name) => name !== 'tables');
     the('meter').replaceChildren(element('div', { class: 'pictures' }, picture('Before', groups, (table) => was[table - 1], changed),
         picture('After', groups, (table) => is[table - 1], changed)));
     const what = hours === 0 ? 'No hour changed.' : `${count(hours, 'hour')} in ${count(changed.size, 'table')} changed, marked below.`;

@@ -3,7 +3,7 @@
 import { readSync } from 'node:fs';
 import { check, exportInto } from '../../target/page/parts/modules.js';
 
-const EDITION = 1, FILL = 0xc3;
+const FILL = 0xc3;
 
 // What is read ahead of standard input.
 const ahead = Buffer.alloc(1 << 20);
@@ -33,19 +33,19 @@ function fail(words) {
 
 // The next text with the model's answers, or null at the end.
 function next() {
-    const length = take(4);
-    if (length === null) return null;
-    const text = take(length.readUInt32LE()), number = byte(), place = size();
+    const edition = take(1);
+    if (edition === null) return null;
+    const text = bytes(), number = byte(), place = size();
     const exports = Array.from({ length: byte() }, () => ({ number: byte(), length: size(), place: size(), buffer: bytes() }));
-    return { text, number, place, exports };
+    return { edition: edition[0], text, number, place, exports };
 }
 
 // The first difference between a module and the model on a text, in words, or null.
-function difference(module, { text, number, place, exports }) {
-    const found = module.check(EDITION, text);
+function difference(module, { edition, text, number, place, exports }) {
+    const found = module.check(edition, text);
     if (found.number !== number || found.place !== place) return `check gave ${found.number} ${found.place}, not ${number} ${place}`;
     for (const wanted of exports) {
-        const given = module.exportInto(EDITION, text, Buffer.alloc(wanted.buffer.length, FILL));
+        const given = module.exportInto(edition, text, Buffer.alloc(wanted.buffer.length, FILL));
         for (const name of ['number', 'length', 'place']) if (given[name] !== wanted[name]) return `export gave ${name} ${given[name]}, not ${wanted[name]}`;
         if (wanted.buffer.compare(given.buffer) !== 0) return `export into ${wanted.buffer.length} bytes left others`;
     }

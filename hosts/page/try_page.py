@@ -284,7 +284,7 @@ def head(page):
     page.press('to-head')
     cable.carry()
     has(page.by('progress-words').text, 'Done: all 12 tables were set', 'through a head')
-    expect([told['baudRate'] for told in page.run('return fakePort.told')], [300, 9600], 'the speeds')
+    expect(page.run('return fakePort.speeds'), [300] * 2 + [9600] * 14, 'the speeds')
     expect(page.run('return fakePort.isOpen'), False, 'the port stays open')
     frames = example('winter.frames')
     expect(b''.join(cable.sent[3:-1]), frames, 'the frames on the line')

@@ -1,11 +1,15 @@
 //! Texts with the model's answers, written out for a trial that runs elsewhere.
 //!
-//! A text is its length, its bytes, the check's number and place, how many buffers follow, and for
-//! each its size, the export's number, length and place, and what the buffer holds behind it, having
-//! been filled with `FILL`. A number is a byte; lengths, places and sizes are four, the lowest first.
+//! A text is its edition, its length, its bytes, the check's number and place, how many buffers
+//! follow, and for each the export's number, length and place, its size, and what it holds
+//! afterwards, having been filled with `FILL` before. An edition and a number are a byte; lengths,
+//! places and sizes are four, the lowest first.
 
 use model::post;
 use std::io::{self, BufWriter, StdoutLock, Write};
+
+/// The edition that every text here is for.
+const EDITION: u8 = 1;
 
 /// What a buffer is filled with before.
 const FILL: u8 = 0xC3;
@@ -35,6 +39,7 @@ impl Answers {
     }
 
     fn write(&mut self, text: &[u8], rooms: &[usize]) -> io::Result<()> {
+        self.out.write_all(&[EDITION])?;
         self.bytes(text)?;
         let (number, place) = post::check(text);
         self.out.write_all(&[number])?;
