@@ -383,6 +383,9 @@ def names(page):
     expect(len(things) > 12, True, 'things to be named')
     for thing in things:
         expect(thing.accessible_name != '', True, f'the name of {thing.get_attribute("outerHTML")[:80]}')
+    for name, wanted in (('box', 'The post'), ('file', 'Or a file'), ('serial', 'Serial'), ('password', 'Password'), ('text', 'The text in the box'),
+                         ('stop', 'Stop')):
+        has(page.by(name).accessible_name, wanted, f'the name of {name}')
     for table in page.browser.find_elements(By.CSS_SELECTOR, 'table.hours'):
         expect(table.find_element(By.TAG_NAME, 'caption').text != '', True, 'the caption of a picture')
     expect(page.run('return document.documentElement.lang'), 'en', 'the language')
