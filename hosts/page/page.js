@@ -64,12 +64,13 @@ function look(bytes, from) {
         showPost(rowsIn(bytes));
     } else if (empty) {
         the('answer').className = '';
-        the('answer').replaceChildren(element('p', {}, from === '' ? 'Nothing to see yet.' : `${from}: nothing in it.`));
+        the('answer').replaceChildren(element('p', {}, from === '' ? 'Nothing to see yet.' : `${from}.`));
     } else {
         showRefusal(place);
     }
-    the('read-title').textContent = `${from}: ${count(bytes.length, 'byte')} read, each of them shown${number === 1 ? '' : '; marked is where it leaves every post'}.`;
-    the('text').replaceChildren(...textToSee(bytes, number === 1 ? null : place));
+    const { seen, all } = textToSee(bytes, number === 1 ? null : place);
+    the('read-title').textContent = `${from}: ${count(bytes.length, 'byte')} read${all ? ', each of them shown' : ''}${number === 1 ? '' : '; marked is where it leaves every post'}.`;
+    the('text').replaceChildren(...seen);
     show('meaning', number === 1);
     show('read', !empty);
     show('ways', number === 1);
@@ -103,12 +104,13 @@ async function lookAtFile(file) {
     try {
         bytes = new Uint8Array(await file.slice(0, MOST).arrayBuffer());
     } catch {
-        if (mine === asked) look(new Uint8Array(0), `${file.name} can’t be read`);
-        return;
+        bytes = null;
     }
     if (mine !== asked) return;
     the('box').value = '';
-    look(bytes, `${file.name}, ${count(file.size, 'byte')}${file.size > MOST ? ', its beginning' : ''}, as they are`);
+    if (bytes === null) look(new Uint8Array(0), `${file.name} can’t be read`);
+    else if (bytes.length === 0) look(bytes, `${file.name} has nothing in it`);
+    else look(bytes, `${file.name}, ${count(file.size, 'byte')}${file.size > MOST ? ', its beginning' : ''}, as they are`);
 }
 
 the('box').addEventListener('input', lookAtBox);
@@ -128,6 +130,7 @@ document.addEventListener('drop', (event) => {
     const { files } = event.dataTransfer, dropped = event.dataTransfer.getData('text/plain');
     if (files.length === 0 && dropped.length <= BOX) return;
     event.preventDefault();
+    if (the('box').disabled) return; // a visit goes on
     if (files.length > 0) lookAtFile(files[0]);
     else lookAtLongText(dropped);
 });

@@ -69,13 +69,14 @@ function bytesToSee(bytes) {
 // How much is shown of what stands behind the mark.
 const BEHIND = 400;
 
-// A text as it was read, up to and behind the place at which it leaves every post; null for a post, all of which is shown.
+// A text as it was read, up to and behind the place at which it leaves every post; null for a post. All of it is seen but for the rest
+// of a long one.
 export function textToSee(text, place) {
-    if (place === null) return bytesToSee(text);
+    if (place === null) return { seen: bytesToSee(text), all: true };
     const seen = [element('span', { class: 'accepted' }, ...bytesToSee(text.slice(0, place)))];
-    if (place === text.length) return [...seen, element('mark', { class: 'end-mark' }, 'the text ends here')];
+    if (place === text.length) return { seen: [...seen, element('mark', { class: 'end-mark' }, 'the text ends here')], all: true };
     const rest = text.slice(place + 1, place + 1 + BEHIND), hidden = text.length - place - 1 - rest.length;
     seen.push(element('mark', {}, shown(text[place])), element('span', { class: 'rest' }, ...bytesToSee(rest)));
     if (hidden > 0) seen.push(element('span', { class: 'rest' }, ` … and ${hidden.toLocaleString('en')} bytes more that were read`));
-    return seen;
+    return { seen, all: hidden === 0 };
 }

@@ -188,7 +188,7 @@ def files(page):
         page.choose(content, f'{place}-{len(content)}.bin')
         refused(page, content, place, words)
     page.choose(b'', 'empty.post')
-    has(page.answer(), 'nothing in it', 'an empty file')
+    has(page.answer(), 'empty.post has nothing in it.', 'an empty file')
     # Dropped on the page, as it is.
     drop = '''
         const [bytes, name] = arguments, data = new DataTransfer();
@@ -356,10 +356,13 @@ def keyboard(page):
     tab_to('password')
     key(PASSWORD)  # what stood there is selected, and replaced
     tab_to('to-virtual')
+    # Slowly, so that there is time to stop it.
+    page.run('window.atPace = setTimeout; window.setTimeout = (call, wait) => atPace(call, 10 * wait)')
     key(Keys.ENTER)
     expect(active()[0], 'stop', 'the focus of a visit')
     key(Keys.SPACE)
     page.rest()
+    page.run('window.setTimeout = atPace')
     has(page.by('progress-words').text, 'Stopped before', 'stopped by keys')
     expect(active()[0], 'to-virtual', 'the focus behind a visit')
     tab_to('power')
