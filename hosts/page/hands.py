@@ -109,12 +109,33 @@ class Page:
     def __init__(self, browser, address):
         self.browser = browser
         self.address = address
+        self.scripts = []
+        self.cables = []
         self.load()
 
     def load(self):
         self.browser.get(self.address)
         self.run(EYES)
         self.until(lambda: self.by('examples').text != '', 'the page starts')
+
+    def inject(self, script):
+        """Has a script run before the page's own, from the next load on."""
+        told = self.browser.execute_cdp_cmd('Page.addScriptToEvaluateOnNewDocument', {'source': script})
+        self.scripts.append(told['identifier'])
+
+    def resize(self, width, height, mobile):
+        told = {'width': width, 'height': height, 'deviceScaleFactor': 1, 'mobile': mobile}
+        self.browser.execute_cdp_cmd('Emulation.setDeviceMetricsOverride', told)
+
+    def reset(self):
+        """As it was before a part of the trial."""
+        self.browser.execute_cdp_cmd('Emulation.clearDeviceMetricsOverride', {})
+        while self.scripts:
+            self.browser.execute_cdp_cmd('Page.removeScriptToEvaluateOnNewDocument', {'identifier': self.scripts.pop()})
+        while self.cables:
+            self.cables[-1].close()
+        for left in DOWNLOADS.iterdir():
+            left.unlink()
 
     def run(self, script, *words):
         return self.browser.execute_script(script, *words)
@@ -178,6 +199,7 @@ class Cable:
         self.end = os.open(name, os.O_RDWR | os.O_NOCTTY | os.O_NONBLOCK)
         tty.setraw(self.end)
         self.sent = []
+        page.cables.append(self)
 
     def same_speed(self):
         """Whether the page's port is as fast as the meter, or gets so within a second; else nothing arrives."""
@@ -207,6 +229,7 @@ class Cable:
                 return
 
     def close(self):
+        self.page.cables.remove(self)
         self.meter.terminate()
         self.meter.wait(10)
         os.close(self.end)

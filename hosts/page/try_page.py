@@ -6,6 +6,7 @@ It takes target/page/index.html, from the file and from the forum's server, and 
 it writes a picture of the page too; with PARTs it tries these alone.
 """
 
+import pathlib
 import subprocess
 import sys
 import time
@@ -15,6 +16,7 @@ from selenium.webdriver.common.by import By
 from selenium.webdriver.common.keys import Keys
 
 from hands import Cable, DOWNLOADS, example, expect, has, PAGE, Page, PASSWORD, PORT, ROOM, rows_in, seen, SERIAL, start_browser
+from wrong import made_wrong, WRONG
 
 POSTS = ('winter', 'summer', 'full')
 
@@ -232,7 +234,6 @@ def megabytes(page):
 
 def meter(page):
     """What a visit to the virtual meter says when it does not go well, and how it is stopped."""
-    page.press('Winter')
 
     def told(serial, password):
         for name, value in (('serial', serial), ('password', password)):
@@ -242,18 +243,6 @@ def meter(page):
         page.rest()
         return page.by('progress-words').text
 
-    has(told('', '11111111'), 'The meter refused message 3 of 16, password: the password is wrong (answer 10). No table was set.', 'a wrong password')
-    has(page.by('compared').text, 'No hour changed. Changed too: failed attempts.', 'a wrong password')
-    told('', '11111111')
-    told(SERIAL, '11111111')
-    has(told('', PASSWORD), 'it is locked after three wrong passwords', 'a locked meter')
-    page.press('power')
-    has(page.by('compared').text, 'Changed too: failed attempts', 'power off and on')
-    has(told('9999999999', PASSWORD), 'The meter did not answer message 1 of 16, sign-on. No table was set.', 'another serial')
-    has(told('123', PASSWORD), 'Nothing was sent: a serial has ten digits, a password eight.', 'a short serial')
-    has(told('', 'abcdefgh'), 'Nothing was sent', 'a password of letters')
-    has(told('', PASSWORD), 'Done: all 12 tables were set', 'the right password')
-    page.press('renew')
     page.press('All tables')
     # Pressed while the third table is under way, which is then the last.
     page.run('''new MutationObserver((_, observer) => {
@@ -269,10 +258,24 @@ def meter(page):
     has(page.by('compared').text, 'Nothing else did', 'stopped')
     has(told('', PASSWORD), 'Done: all 24 tables were set', 'a visit behind one that was stopped')
 
+    page.press('renew')
+    page.press('Winter')
+    has(told('', '11111111'), 'The meter refused message 3 of 16, password: the password is wrong (answer 10). No table was set.', 'a wrong password')
+    has(page.by('compared').text, 'No hour changed. Changed too: failed attempts.', 'a wrong password')
+    told('', '11111111')
+    told(SERIAL, '11111111')
+    has(told('', PASSWORD), 'it is locked after three wrong passwords', 'a locked meter')
+    page.press('power')
+    has(page.by('compared').text, 'Changed too: failed attempts', 'power off and on')
+    has(told('9999999999', PASSWORD), 'The meter did not answer message 1 of 16, sign-on. No table was set.', 'another serial')
+    has(told('123', PASSWORD), 'Nothing was sent: a serial has ten digits, a password eight.', 'a short serial')
+    has(told('', 'abcdefgh'), 'Nothing was sent', 'a password of letters')
+    has(told('', PASSWORD), 'Done: all 12 tables were set', 'the right password')
+
 
 def head(page):
     """Web Serial: the page's head visits a meter that is compiled for this processor."""
-    script = page.browser.execute_cdp_cmd('Page.addScriptToEvaluateOnNewDocument', {'source': PORT})
+    page.inject(PORT)
     page.load()
     page.press('Winter')
     page.run('window.noPort = true')
@@ -321,7 +324,6 @@ def head(page):
     page.run("fakePort.controller.error(new Error('it is gone'))")
     page.rest()
     has(page.by('progress-words').text, 'can’t be used, or was unplugged: it is gone', 'pulled out')
-    page.browser.execute_cdp_cmd('Page.removeScriptToEvaluateOnNewDocument', {'identifier': script['identifier']})
 
 
 def keyboard(page):
@@ -416,7 +418,7 @@ def colours(page):
 
 def narrow(page):
     """A narrow screen: nothing stands beyond its edge, and the digits can be read."""
-    page.browser.execute_cdp_cmd('Emulation.setDeviceMetricsOverride', {'width': 360, 'height': 740, 'deviceScaleFactor': 2, 'mobile': True})
+    page.resize(360, 740, True)
     page.load()
     for button in ('Winter', 'All tables', 'The crafted post of last spring'):
         page.press(button)
@@ -429,7 +431,6 @@ def narrow(page):
         if button != 'The crafted post of last spring':
             size, cell = page.run("const cell = document.querySelector('#meaning td[class^=z]'); return [parseFloat(getComputedStyle(cell).fontSize), cell.getBoundingClientRect().width]")
             expect(size >= 9 and cell >= 10, True, f'digits of {size} in {cell}')
-    page.browser.execute_cdp_cmd('Emulation.clearDeviceMetricsOverride', {})
 
 
 def policy(page):
@@ -475,16 +476,35 @@ def from_server(page):
 
 def take_picture(page, path):
     """The page as README shows it: a post, and what it means."""
-    browser = page.browser
-    browser.execute_cdp_cmd('Emulation.setScrollbarsHidden', {'hidden': True})
-    browser.execute_cdp_cmd('Emulation.setDeviceMetricsOverride', {'width': 1120, 'height': 800, 'deviceScaleFactor': 1, 'mobile': False})
+    page.browser.execute_cdp_cmd('Emulation.setScrollbarsHidden', {'hidden': True})
+    page.resize(1120, 800, False)
     page.load()
     page.press('Winter')
     page.run("document.activeElement.blur(); document.getElementById('box').rows = 4")
-    height = page.run("return Math.ceil(document.querySelector('#meaning').getBoundingClientRect().bottom + 14)")
-    browser.execute_cdp_cmd('Emulation.setDeviceMetricsOverride', {'width': 1120, 'height': height, 'deviceScaleFactor': 1, 'mobile': False})
-    browser.save_screenshot(path)
-    browser.execute_cdp_cmd('Emulation.clearDeviceMetricsOverride', {})
+    page.resize(1120, page.run("return Math.ceil(document.querySelector('#meaning').getBoundingClientRect().bottom + 14)"), False)
+    page.browser.save_screenshot(path)
+    page.reset()
+
+
+PARTS = (posts, refusals, editions, files, megabytes, meter, keyboard, names, colours, narrow, head, policy, from_server)
+
+
+def wrong_pages(browser, chosen):
+    """First the trials have to find out pages that are wrong, so that they are known to see it."""
+    right, path = PAGE.read_text(), pathlib.Path(ROOM.name, 'wrong.html')
+    pages = [one for one in WRONG if not chosen or one[3] in chosen]
+    for name, old, new, part in pages:
+        path.write_text(made_wrong(right, old, new))
+        page = Page(browser, path.as_uri())
+        try:
+            next(one for one in PARTS if one.__name__ == part)(page)
+        except AssertionError:
+            continue
+        finally:
+            page.reset()
+            browser.get_log('browser')  # its complaints are not the right page's
+        raise AssertionError(f'{part} does not find out: {name}')
+    return len(pages)
 
 
 def main():
@@ -493,13 +513,17 @@ def main():
     chosen = words[2:] if picture else words
     browser = start_browser()
     try:
+        began = time.monotonic()
+        print(f'page: {wrong_pages(browser, chosen)} wrong pages found out, {time.monotonic() - began:.1f} s', flush=True)
+        seen[0] = 0
         page = Page(browser, PAGE.as_uri())
-        for part in (posts, refusals, editions, files, megabytes, meter, keyboard, names, colours, narrow, head, policy, from_server):
+        for part in PARTS:
             if chosen and part.__name__ not in chosen:
                 continue
             began, before = time.monotonic(), seen[0]
             page.load()
             part(page)
+            page.reset()
             print(f'page: {part.__name__}: {seen[0] - before} comparisons, {time.monotonic() - began:.1f} s', flush=True)
         if picture:
             take_picture(page, picture)
