@@ -100,10 +100,11 @@ export function meet(meter, kind, value) {
     return { number, meter: loan.take(record, LAYOUT.meter), reply: loan.take(reply, loan.length(length)), speed: loan.byte(speed) };
 }
 
-// The parts of two meters' records that differ: each byte is compared but for those between the fields.
-export function differences(one, other) {
-    const parts = Object.entries(LAYOUT.parts);
-    const partAt = (byte) => parts.find(([, { at, size: length }]) => byte >= at && byte < at + length)?.[0] ?? 'another fact';
+// The parts of two meters' records that differ: each byte is compared but for those between the fields. What an edition does not use
+// of the tables is none of them.
+export function differences(edition, one, other) {
+    const parts = { ...LAYOUT.parts, tables: { at: LAYOUT.parts.tables.at, size: 24 * tablesOf(edition) } };
+    const partAt = (byte) => Object.keys(parts).find((name) => byte >= parts[name].at && byte < parts[name].at + parts[name].size) ?? 'another fact';
     const differ = Array.from(one.keys()).filter((at) => one[at] !== other[at] && !LAYOUT.between.includes(at));
     return [...new Set(differ.map(partAt))];
 }

@@ -247,7 +247,7 @@ function compare(before, after) {
         if (others.size > 0) changed.set(at + 1, others);
         hours += others.size;
     });
-    const groups = groupsOf(edition), elsewhere = differences(before, after).filter((name) => name !== 'tables');
+    const groups = groupsOf(edition), elsewhere = differences(edition, before, after).filter((name) => name !== 'tables');
     the('meter').replaceChildren(element('div', { class: 'pictures' }, picture('Before', groups, (table) => was[table - 1], changed),
         picture('After', groups, (table) => is[table - 1], changed)));
     const what = hours === 0 ? 'No hour changed.' : `${count(hours, 'hour')} in ${count(changed.size, 'table')} changed, marked below.`;
