@@ -56,14 +56,14 @@ fn put_rows(out: &mut [u8], at: usize, tables: &[u8]) -> usize
 }
 
 // The line of the answer and the rows below it.
-fn put_report(out: &mut [u8], number: u8, behind: usize, tables: [u8; ALL_ROWS]) -> usize
+fn put_report(out: &mut [u8], number: u8, behind: usize, kept: [u8; ALL_ROWS]) -> usize
     requires { ⌜ 642 ≤ length (now out) ⌝ }
     ensures next { λ r. ⌜ r ≡ length (numberLine number behind) + 600 ⌝ }
-    ensures held { λ _. ⌜ now (out .exit) ≡ stored (now (out .entry)) 0 (numberLine number behind ++ rowLines 24 tables) ⌝ }
-    ensures all { λ _. ⌜ length tables ≡ 576 ⌝ }
+    ensures held { λ _. ⌜ now (out .exit) ≡ stored (now (out .entry)) 0 (numberLine number behind ++ rowLines 24 kept) ⌝ }
+    ensures all { λ _. ⌜ length kept ≡ 576 ⌝ }
 {
     let rows = numerals::put_line(out, 0, number as u64, behind as u64);
-    put_rows(out, rows, &tables)
+    put_rows(out, rows, &kept)
 }
 
 pub fn report(text: &[u8], out: &mut [u8]) -> Said

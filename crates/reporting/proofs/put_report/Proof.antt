@@ -7,7 +7,6 @@ use lib.ListN.{length}
 use Rattle.text.proofs.Writing.{and-then}
 use Rattle.numerals.specs.Numerals.{numberLine}
 use Rattle.numerals.proofs.Widths.{line-few}
-use Rattle.reporting.specs.Report.{rowLines}
 use borrow.Author.Needs.{needs}
 use Rattle.reporting.proofs.put_report.Statement.{statement}
 use Rattle.reporting.proofs.put_report.Tie as tie
@@ -28,7 +27,7 @@ returns c =
     let line = c7 .put-line .ensures in
     let rows = c2 .put-rows .ensures in (
       omega (arith, line .0, rows .0),
-      (and-then (a .out .now) 0 (numberLine (a .number) (a .behind)) _ _ (rowLines 24 (a .tables)) _ (line .1) (line .0) (rows .1), search needs),
+      (and-then (a .out .now) 0 (numberLine (a .number) (a .behind)) _ _ _ _ (line .1) (line .0) (rows .1), search needs),
     )
 
 pub put-report-spec : {M : Type 1} → statement M
