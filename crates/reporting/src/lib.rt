@@ -7,8 +7,8 @@ ghost use lib.ListN.{length, take};
 ghost use Rattle.text.specs.Writing.{stored};
 ghost use Rattle.numerals.specs.Numerals.{numberLine};
 ghost use Rattle.reporting.specs.Report.{openedMeter, rowLines, detail, ShowsReport};
-use state::Meter;
 use state::ALL_ROWS;
+use state::Meter;
 
 // What is said: 1 or 20, and how many bytes of the buffer are to be written.
 pub struct Said {
