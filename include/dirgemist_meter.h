@@ -1,6 +1,6 @@
 /* dirgemist_meter.h: the meter, for firmware that keeps the meter's state in a record of its own.
  *
- * Firmware makes a meter, tells it what happens (a character on the optical link, eight seconds of
+ * Firmware makes a meter, tells it what happens (a character on its link, eight seconds of
  * silence, a second gone by, a pulse of the measuring part, power coming back), and sends what the
  * meter replies. Every call takes the record where it lies and leaves the next state there.
  *
@@ -85,8 +85,8 @@ struct dirgemist_archive {
     uint8_t count;
 };
 
-/* What a meter has for life: texts without an end mark; the edition, 1; the link, 1 (optical); the
- * decimals of its family, 0. */
+/* What a meter has for life: texts without an end mark; the edition, 1; the link, 1 (optical) or 2
+ * (wired); the decimals of its family, 0. */
 struct dirgemist_facts {
     uint8_t serial[10];
     uint8_t password[8];
@@ -120,7 +120,7 @@ struct dirgemist_meter {
  *    1  done
  *    2  a confirmation that is none; the meter listens again
  *    3  a character of the frame came damaged, the first of them at *place; this and 4 to 11 reply
- *       NAK
+ *       NAK on the optical link; on the wired one nothing is replied, and the meter listens again
  *    4  the frame's BCC is wrong
  *    5  a frame of more than 64 characters
  *    6  a frame of no known shape
@@ -189,7 +189,7 @@ static inline uint8_t dirgemist_meter_receive(struct dirgemist_meter *meter, uin
 }
 
 /* Eight seconds without a character: the meter listens again, with nothing received. A meter that
- * waits for the confirmation replies NAK. 12, 14, 0 where it was listening, else 1. */
+ * waits for the confirmation replies NAK, on the optical link. 12, 14, 0 where it was listening, else 1. */
 static inline uint8_t dirgemist_meter_silence(struct dirgemist_meter *meter, uint8_t *reply,
                                               size_t room, size_t *length, uint8_t *speed,
                                               uint8_t *place) {

@@ -241,6 +241,43 @@ static void talks_slowly(struct dirgemist_meter *meter) {
     meter->speed = 0;
 }
 
+/* A meter on the wire: its own sign-on, one speed, and a refusal that says nothing and ends the session. */
+static void talks_by_wire(struct dirgemist_meter *meter) {
+    struct dirgemist_meter kept = *meter;
+    for (int link = 0; link <= 3; link++) {
+        uint8_t number = dirgemist_meter_make(meter, (const uint8_t *)"1234567890", 10, (const uint8_t *)"Kiln_7 old", 10,
+                                              (const uint8_t *)"20304050", 8, 2024, 2, 29, 23, 5, 9, 1, (uint8_t)link, 0);
+        expect(number == (link == 1 || link == 2 ? 1 : 15), "a link is one of two");
+        expect(meter->registers.facts.link == (number == 1 ? link : 1), "the link that was told");
+        expect(meter->speed == (link == 2 ? 5 : 0), "the speed of a link");
+        if (link != 2) {
+            continue;
+        }
+        SAY(meter, "the optical sign-on", "/?!\r\n", 0, "", 5);
+        SAY(meter, "the closing sign-on", "/C!\r\n", 0, "", 5);
+        SAY(meter, "another meter", "/A123.4567891\r\n", 0, "", 5);
+        SAY(meter, "whichever is there", "/A000.0000000\r\n", 1, "/g123.4567890\r\n", 5);
+        SAY(meter, "the digit 0", "\006" "001\r\n", 2, "", 5);
+        SAY(meter, "this meter", "/A123.4567890\r\n", 1, "/g123.4567890\r\n", 5);
+        expect(meet(meter, DIRGEMIST_SILENCE, 0, ROOM) == 1 && *length == 0 && *speed == 5, "silence");
+        for (uint8_t mode = 2; mode <= 4; mode++) {
+            meter->mode = mode;
+            SAY(meter, "a wrong BCC", "\001B0\003\x70", 4, "", 5);
+            expect(meter->mode == 0 && meter->speed == 5, "the session is dropped");
+        }
+        SAY(meter, "this meter", "/A123.4567890\r\n", 1, "/g123.4567890\r\n", 5);
+        SAY(meter, "confirmation", "\006" "051\r\n", 1, "\001P0\002(0000)\003\x60", 5);
+        SAY(meter, "password", "\001P1\002(20304050)\003\x61", 1, "\006", 5);
+        SAY(meter, "table 01", "\001W1\002Z(01;111111111111111111111111)\003\006", 1, "\006", 5);
+        SAY(meter, "good-bye", "\001B0\003\x71", 1, "\006", 5);
+        expect(meet(meter, DIRGEMIST_POWER_UP, 0, ROOM) == 1 && *speed == 5 && meter->speed == 5, "power-up");
+        expect(dirgemist_meter_check(meter) == 1, "a wired meter is well-formed");
+        meter->speed = 0;
+        expect(dirgemist_meter_check(meter) == 14, "no speed but 5 on the wire");
+    }
+    *meter = kept;
+}
+
 /* A frame whose characters from `first` on come damaged, every `step`th of them: 3 and the first's place. */
 static void is_hurt(struct dirgemist_meter *meter, const char *frame, size_t size, size_t first, size_t step) {
     for (size_t at = 0; at < size; at++) {
@@ -461,7 +498,8 @@ static int is_formed(const struct dirgemist_meter *meter) {
     if (meter->mode > 4 || meter->attempts > 3 || held->count > most[meter->mode] || mark > 1) {
         return 0;
     }
-    if (meter->speed != 0 && (meter->speed != 5 || meter->mode < 2)) {
+    uint8_t rest = have->facts.link == 2 ? 5 : 0;
+    if (meter->speed != rest && (meter->speed != 5 || meter->mode < 2)) {
         return 0;
     }
     if (mark ? held->place >= held->count : held->place != 0) {
@@ -503,7 +541,7 @@ static int is_formed(const struct dirgemist_meter *meter) {
     return account && zones && periods && all_within(held->held, 63, 0, 127)
            && all_within(held->held + held->count, 63 - held->count, 0, 0)
            && all_within(have->facts.serial, 10, '0', '9') && all_within(have->facts.password, 8, '0', '9')
-           && have->facts.edition == 1 && have->facts.link == 1 && have->facts.decimals == 0
+           && have->facts.edition == 1 && (have->facts.link == 1 || have->facts.link == 2) && have->facts.decimals == 0
            && all_within(have->tables, sizeof have->tables, '1', '4') && date->year >= 2000
            && date->year <= 2099 && date->month >= 1 && date->month <= 12 && date->day >= 1
            && date->day <= days[date->month - 1] - (date->month == 2 && !leap) && time->hour <= 23
@@ -558,6 +596,7 @@ int main(void) {
     makes(meter);
     talks(meter);
     talks_slowly(meter);
+    talks_by_wire(meter);
     tells_the_place(meter);
     passes(meter);
     closes(meter);

@@ -21,6 +21,7 @@ mod after;
 mod answers;
 pub mod events;
 mod lines;
+mod link;
 pub mod passing;
 
 // What can happen: a byte from the line, eight seconds of silence, a second, a pulse of so many Wh, power-up; or nothing that a meter knows.

@@ -7,8 +7,8 @@ ghost use lib.ListN.{length, take};
 ghost use Rattle.text.specs.Writing.{stored};
 ghost use Rattle.numerals.specs.Numerals.{numberLine};
 ghost use Rattle.reporting.specs.Report.{openedMeter, rowLines, detail, ShowsReport};
+use state::ALL_ROWS;
 use state::Meter;
-use state::Registers;
 
 // What is said: 1 or 20, and how many bytes of the buffer are to be written.
 pub struct Said {
@@ -56,15 +56,14 @@ fn put_rows(out: &mut [u8], at: usize, tables: &[u8]) -> usize
 }
 
 // The line of the answer and the rows below it.
-fn put_report(out: &mut [u8], number: u8, behind: usize, g: Registers) -> usize
+fn put_report(out: &mut [u8], number: u8, behind: usize, kept: [u8; ALL_ROWS]) -> usize
     requires { ⌜ 642 ≤ length (now out) ⌝ }
     ensures next { λ r. ⌜ r ≡ length (numberLine number behind) + 600 ⌝ }
-    ensures held { λ _. ⌜ now (out .exit) ≡ stored (now (out .entry)) 0 (numberLine number behind ++ rowLines 24 (g .tables)) ⌝ }
-    ensures all { λ _. ⌜ length (g .tables) ≡ 576 ⌝ }
+    ensures held { λ _. ⌜ now (out .exit) ≡ stored (now (out .entry)) 0 (numberLine number behind ++ rowLines 24 kept) ⌝ }
+    ensures all { λ _. ⌜ length kept ≡ 576 ⌝ }
 {
     let rows = numerals::put_line(out, 0, number as u64, behind as u64);
-    let tables = g.tables;
-    put_rows(out, rows, &tables)
+    put_rows(out, rows, &kept)
 }
 
 pub fn report(text: &[u8], out: &mut [u8]) -> Said
@@ -77,6 +76,7 @@ pub fn report(text: &[u8], out: &mut [u8]) -> Said
     let behind = detail(number, delivered.place, delivered.acknowledged);
     let next = delivered.next;
     let registers = next.registers;
-    let length = put_report(out, number, behind, registers);
+    let tables = registers.tables;
+    let length = put_report(out, number, behind, tables);
     Said { number, length }
 }

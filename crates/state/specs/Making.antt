@@ -13,6 +13,7 @@ use Rattle.state.specs.declared.Archive.{Archive}
 use Rattle.state.specs.declared.Registers.{Registers}
 use Rattle.state.specs.declared.Meter.{Meter}
 use Rattle.state.specs.declared.Made.{Made}
+use Rattle.state.specs.Link.{restSpeed}
 use Rattle.state.specs.Sizes.{heldPlaces, rowLength, tables, periodPlaces}
 use Rattle.state.specs.WellFormed.{editionGood, decimalsGood, factoryGood}
 
@@ -32,13 +33,13 @@ emptyArchive = record { periods = replicate periodPlaces noPeriod; count = 0 }
 abbrev pub factsOf : List ℕ → List ℕ → ℕ → ℕ → ℕ → Facts
 factsOf serial password edition link decimals = record { serial = serial; password = password; edition = edition; link = link; decimals = decimals }
 
--- counters 0, attempts 0, all tables '1', no closed period, mode 0, speed 0, empty receiver
+-- counters 0, attempts 0, all tables '1', no closed period, mode 0 at its speed, empty receiver
 abbrev pub meterOf : Facts → List ℕ → Clock → Meter
 meterOf facts account clock =
     record {
       mode = 0;
       attempts = 0;
-      speed = 0;
+      speed = restSpeed (facts .link);
       receiver = emptyReceiver;
       registers =
           record {

@@ -14,6 +14,7 @@ use values::ROW_LENGTH;
 use values::TABLES;
 
 pub mod closing;
+pub mod link;
 pub mod setting;
 
 // A receiver holds so many characters at most.
@@ -82,7 +83,7 @@ pub struct Registers {
     pub archive: Archive,
 }
 
-// Mode: 0 listening, 1 confirmation, 2 password, 3 read-only, 4 programming. The speed identifier is that of the session: 0 or 5, as confirmed.
+// Mode: 0 listening, 1 confirmation, 2 password, 3 read-only, 4 programming. The speed identifier is that of the session, 0 or 5, as confirmed, or else that of the link.
 #[repr(C)]
 pub struct Meter {
     pub mode: u8,
@@ -227,7 +228,7 @@ fn edition_good(edition: u8) -> bool
 fn link_good(link: u8) -> bool
     ensures { λ r. ⌜ r ≡ linkGood link ⌝ }
 {
-    link == 1
+    (link == 1) | (link == 2)
 }
 
 fn decimals_good(decimals: u8) -> bool
@@ -265,11 +266,11 @@ fn registers_good(g: Registers) -> bool
     false
 }
 
-// Whether a speed is one that the mode may have: 300 baud, or 9600 in a session.
-fn speed_good(mode: u8, speed: u8) -> bool
-    ensures { λ r. ⌜ r ≡ speedGood mode speed ⌝ }
+// Whether a speed is one that the mode may have: that of the link, or 9600 baud in a session.
+fn speed_good(link: u8, mode: u8, speed: u8) -> bool
+    ensures { λ r. ⌜ r ≡ speedGood link mode speed ⌝ }
 {
-    (speed == 0) | ((2 <= mode) & (speed == 5))
+    (speed == link::rest_speed(link)) | ((2 <= mode) & (speed == 5))
 }
 
 // Whether a state is well-formed.
@@ -277,7 +278,8 @@ pub fn is_well_formed(m: Meter) -> bool
     ensures { λ r. ⌜ r ≡ wellFormed m ⌝ }
 {
     let r = m.receiver;
-    if (((m.mode <= 4) & (m.attempts <= 3)) & speed_good(m.mode, m.speed))
+    let link = link::link_of(m);
+    if (((m.mode <= 4) & (m.attempts <= 3)) & speed_good(link, m.mode, m.speed))
         & receiver_good(m.mode, r)
     {
         let g = m.registers;
@@ -293,7 +295,7 @@ fn meter_of(facts: Facts, account: [u8; 10], clock: Clock) -> Meter
     Meter {
         mode: 0,
         attempts: 0,
-        speed: 0,
+        speed: link::rest_speed(facts.link),
         receiver: setting::empty_receiver(),
         registers: Registers {
             facts,

@@ -49,7 +49,10 @@ pub fn record_of(meter: &model::meter::Meter) -> Meter {
             facts: Facts {
                 serial: meter.serial,
                 password: meter.password,
-                kind: Kind::default(),
+                kind: Kind {
+                    link: meter.link,
+                    ..Kind::default()
+                },
             },
             account: meter.account,
             clock: clock_of(&meter.clock),
