@@ -1,6 +1,6 @@
-/* count.c: what the calls cost on the chip. The emulator runs one instruction a nanosecond (-icount shift=0), so the timer counts
- * instructions, forty a tick, the same on every machine; the stack is painted before a call and looked at after it. The meter's
- * calls are counted beside a step written by hand, which has to give the same answers.
+/* count.c: what the calls cost on the chip. The emulator takes 64 nanoseconds for every instruction (-icount shift=6), so the timer,
+ * with 40 a tick, counts instructions, the same on every machine; the stack is painted before a call and looked at after it. The
+ * meter's calls are counted beside a step written by hand, which has to give the same answers.
  *
  * Prints a line for each row: what it is; instructions of the proved call; of the one by hand, or -; bytes of stack of both. Exits
  * with 1 where the two differ, or where a call takes more stack than its header says. */
@@ -42,7 +42,6 @@ static void expect(bool right, const char *what) {
 /* ---- Counting. */
 
 #define SYSTICK ((volatile uint32_t *)0xE000E010) /* control, reload, value */
-#define INSTRUCTIONS_A_TICK 40
 #define PAINT 0xA5
 #define PAINTED 32768
 
@@ -68,6 +67,11 @@ static __attribute__((noinline)) uint32_t ticks_of(void (*call)(void)) {
     uint32_t before = SYSTICK[2];
     call();
     return (before - SYSTICK[2]) & 0xFFFFFF;
+}
+
+/* The instructions of so many ticks, shared among so many calls. */
+static uint32_t instructions(uint32_t ticks, uint32_t calls) {
+    return (ticks * 40 / 64 + calls / 2) / calls;
 }
 
 /* ---- The meter's event, by either side. */
@@ -139,7 +143,7 @@ static void row(const char *what, uint32_t times) {
     say(what);
     for (int which = 0; which < 2; which++) {
         say(" ");
-        say_number((counted[which] * INSTRUCTIONS_A_TICK + times / 2) / times);
+        say_number(instructions(counted[which], times));
     }
     for (int which = 0; which < 2; which++) {
         say(" ");
@@ -264,7 +268,7 @@ static void head(const char *what, void (*call)(void), uint32_t times) {
     uint32_t ticks = ticks_of(call) - ticks_of(nothing), depth = depth_of(call) - depth_of(nothing);
     say(what);
     say(" ");
-    say_number((ticks * INSTRUCTIONS_A_TICK + times / 2) / times);
+    say_number(instructions(ticks, times));
     say(" - ");
     say_number(depth);
     say(" -\n");

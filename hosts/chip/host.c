@@ -54,7 +54,7 @@ void perror(const char *what) {
 #define GUARD 64
 #define GUARDING 0xC3
 
-static uint8_t memory[400000] __attribute__((aligned(8)));
+static uint8_t memory[1400000] __attribute__((aligned(8)));
 static size_t taken;
 static uint8_t *guards[64];
 static size_t guards_taken;
