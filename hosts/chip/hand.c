@@ -171,11 +171,17 @@ static uint8_t *put_bytes(uint8_t *at, const uint8_t *bytes, uint32_t count) {
     return at + count;
 }
 
+/* Small processors don't divide: a digit is how often its power fits. */
 static uint8_t *put_digits(uint8_t *at, uint32_t number, int count) {
-    for (int place = count; place-- > 0; number /= 10) {
-        at[place] = (uint8_t)('0' + number % 10);
+    static const uint32_t powers[9] = {1, 10, 100, 1000, 10000, 100000, 1000000, 10000000, 100000000};
+    while (count-- > 0) {
+        uint8_t digit = '0';
+        for (; number >= powers[count]; number -= powers[count]) {
+            digit++;
+        }
+        *at++ = digit;
     }
-    return at + count;
+    return at;
 }
 
 /* Three numbers of two digits with a mark between them. */
@@ -188,17 +194,19 @@ static uint8_t *put_three(uint8_t *at, const char *address, uint32_t a, uint32_t
 
 static uint8_t *put_energy(uint8_t *at, uint32_t number, uint32_t wh) {
     at = put(put_digits(put(at, "15.8."), number, 1), "(");
-    at = put(put_digits(at, wh / 1000, 6), ".");
-    return put(put_digits(at, wh % 1000, 3), "*kWh)\r\n");
+    uint8_t *end = put_digits(at, wh, 9);
+    memmove(end - 2, end - 3, 3);
+    end[-3] = '.';
+    return put(end + 1, "*kWh)\r\n");
 }
 
-/* Parity for four characters at once: each half of a byte goes down to one bit. */
-static uint32_t with_parity(uint32_t four) {
-    uint32_t odd = four ^ four >> 4;
-    odd ^= odd >> 2;
-    odd ^= odd >> 1;
-    return four | (odd & 0x01010101) << 7;
-}
+/* Each character with its parity. */
+#define ODD(c) (((c) ^ (c) >> 1 ^ (c) >> 2 ^ (c) >> 3 ^ (c) >> 4 ^ (c) >> 5 ^ (c) >> 6) & 1)
+#define WIRE(c) ((c) | ODD(c) << 7)
+#define FOUR(c) WIRE(c), WIRE((c) + 1), WIRE((c) + 2), WIRE((c) + 3)
+#define SIXTEEN(c) FOUR(c), FOUR((c) + 4), FOUR((c) + 8), FOUR((c) + 12)
+static const uint8_t wire[128] = {SIXTEEN(0),  SIXTEEN(16), SIXTEEN(32), SIXTEEN(48),
+                                  SIXTEEN(64), SIXTEEN(80), SIXTEEN(96), SIXTEEN(112)};
 
 static uint32_t block(const struct dirgemist_registers *registers, uint8_t *reply) {
     const struct dirgemist_clock *clock = &registers->clock;
@@ -217,22 +225,13 @@ static uint32_t block(const struct dirgemist_registers *registers, uint8_t *repl
         at = put(put_bytes(at, registers->tables + 24 * table, 24), ")\r\n");
     }
     at = put(at, "!\r\n\x03");
-    uint32_t count = (uint32_t)(at - reply), done = 0, sum = 0;
-    for (; done + 4 <= count; done += 4) {
-        uint32_t four;
-        memcpy(&four, reply + done, 4);
-        sum ^= four;
-        four = with_parity(four);
-        memcpy(reply + done, &four, 4);
+    uint8_t sum = STX; /* which does not count */
+    for (uint8_t *sent = reply; sent < at; sent++) {
+        sum ^= *sent;
+        *sent = wire[*sent];
     }
-    sum ^= sum >> 16;
-    sum ^= sum >> 8;
-    for (; done < count; done++) {
-        sum ^= reply[done];
-        reply[done] = (uint8_t)with_parity(reply[done]);
-    }
-    reply[count] = (uint8_t)with_parity((sum ^ STX) & 0x7F); /* the STX does not count */
-    return count + 1;
+    *at++ = wire[sum];
+    return (uint32_t)(at - reply);
 }
 
 /* ---- Characters. */
