@@ -85,10 +85,14 @@ struct dirgemist_archive {
     uint8_t count;
 };
 
-/* What a meter has for life: texts without an end mark. */
+/* What a meter has for life: texts without an end mark; the edition, 1; the link, 1 (optical); the
+ * decimals of its family, 0. */
 struct dirgemist_facts {
     uint8_t serial[10];
     uint8_t password[8];
+    uint8_t edition;
+    uint8_t link;
+    uint8_t decimals;
 };
 
 /* Texts without an end mark; the tables are 24 rows of 24 characters '1' to '4'. */
@@ -153,20 +157,23 @@ DIRGEMIST_AT(dirgemist_archive, count, 288);
 DIRGEMIST_SIZED(dirgemist_archive, 292);
 DIRGEMIST_AT(dirgemist_facts, serial, 0);
 DIRGEMIST_AT(dirgemist_facts, password, 10);
-DIRGEMIST_SIZED(dirgemist_facts, 18);
+DIRGEMIST_AT(dirgemist_facts, edition, 18);
+DIRGEMIST_AT(dirgemist_facts, link, 19);
+DIRGEMIST_AT(dirgemist_facts, decimals, 20);
+DIRGEMIST_SIZED(dirgemist_facts, 21);
 DIRGEMIST_AT(dirgemist_registers, facts, 0);
-DIRGEMIST_AT(dirgemist_registers, account, 18);
-DIRGEMIST_AT(dirgemist_registers, clock, 28);
-DIRGEMIST_AT(dirgemist_registers, counters, 36);
-DIRGEMIST_AT(dirgemist_registers, tables, 56);
-DIRGEMIST_AT(dirgemist_registers, archive, 632);
-DIRGEMIST_SIZED(dirgemist_registers, 924);
+DIRGEMIST_AT(dirgemist_registers, account, 21);
+DIRGEMIST_AT(dirgemist_registers, clock, 32);
+DIRGEMIST_AT(dirgemist_registers, counters, 40);
+DIRGEMIST_AT(dirgemist_registers, tables, 60);
+DIRGEMIST_AT(dirgemist_registers, archive, 636);
+DIRGEMIST_SIZED(dirgemist_registers, 928);
 DIRGEMIST_AT(dirgemist_meter, mode, 0);
 DIRGEMIST_AT(dirgemist_meter, attempts, 1);
 DIRGEMIST_AT(dirgemist_meter, speed, 2);
 DIRGEMIST_AT(dirgemist_meter, receiver, 3);
 DIRGEMIST_AT(dirgemist_meter, registers, 72);
-DIRGEMIST_SIZED(dirgemist_meter, 996);
+DIRGEMIST_SIZED(dirgemist_meter, 1000);
 
 /* The numbers returned.
  *    0  taken, and nothing to say
@@ -199,16 +206,18 @@ DIRGEMIST_SIZED(dirgemist_meter, 996);
 #define DIRGEMIST_POWER_UP 4  /* power has come back; any value */
 
 /* Makes a new meter in *meter: the serial's ten digits, the account's ten letters, digits, spaces
- * or underscores, the password's eight digits, and the clock, a real date of 2000 to 2099 with a
- * time; counters and attempts 0, all tables '1', no closed period, listening, nothing received.
- * Returns 1. Bad facts, other lengths among them, give 15, and *meter is then the blank meter: zeros
- * for the serial and the password, ten spaces, 2000-01-01 00:00:00. What stood in *meter before does
- * not matter. */
+ * or underscores, the password's eight digits, the clock, a real date of 2000 to 2099 with a time,
+ * and the edition, the link and the decimals; counters and attempts 0, all tables '1', no closed
+ * period, listening, nothing received. Returns 1. An edition that there is none of gives 16, then
+ * such decimals 18, then any other bad fact, other lengths among them, 15; *meter is then the blank
+ * meter: zeros for the serial and the password, ten spaces, 2000-01-01 00:00:00, edition 1, link 1,
+ * decimals 0. What stood in *meter before does not matter. */
 uint8_t dirgemist_meter_make(struct dirgemist_meter *meter, const uint8_t *serial,
                              dirgemist_size serial_length, const uint8_t *account,
                              dirgemist_size account_length, const uint8_t *password,
                              dirgemist_size password_length, uint16_t year, uint8_t month,
-                             uint8_t day, uint8_t hour, uint8_t minute, uint8_t second);
+                             uint8_t day, uint8_t hour, uint8_t minute, uint8_t second,
+                             uint8_t edition, uint8_t link, uint8_t decimals);
 
 /* Whether the record is well-formed: 1, or 14. It is only read. */
 uint8_t dirgemist_meter_check(const struct dirgemist_meter *meter);

@@ -47,8 +47,8 @@ static int same_periods(const struct dirgemist_archive *a, const struct dirgemis
 /* Whether two records hold the same state; what lies between the fields is not looked at. */
 static int same(const struct dirgemist_meter *a, const struct dirgemist_meter *b) {
 #define SAME(field) (memcmp(&a->field, &b->field, sizeof a->field) == 0)
-    return SAME(mode) && SAME(attempts) && SAME(speed) && SAME(receiver) && SAME(registers.facts.serial)
-           && SAME(registers.account) && SAME(registers.facts.password) && SAME(registers.clock.date)
+    return SAME(mode) && SAME(attempts) && SAME(speed) && SAME(receiver) && SAME(registers.facts)
+           && SAME(registers.account) && SAME(registers.clock.date)
            && SAME(registers.clock.time) && SAME(registers.counters) && SAME(registers.tables)
            && same_periods(&a->registers.archive, &b->registers.archive);
 #undef SAME
@@ -113,7 +113,7 @@ static uint8_t make(struct dirgemist_meter *meter, const char *serial, const cha
                                lent(password, lengths[2])};
     memset(meter, 0x5A, sizeof *meter);
     uint8_t number = dirgemist_meter_make(meter, texts[0], lengths[0], texts[1], lengths[1], texts[2],
-                                          lengths[2], year, month, day, hour, minute, second);
+                                          lengths[2], year, month, day, hour, minute, second, 1, 1, 0);
     for (int i = 0; i < 3; i++) {
         give_back(texts[i], lengths[i]);
     }
@@ -127,6 +127,7 @@ static void makes(struct dirgemist_meter *meter) {
     memset(blank.registers.account, ' ', sizeof blank.registers.account);
     memset(blank.registers.facts.password, '0', sizeof blank.registers.facts.password);
     memset(blank.registers.tables, '1', sizeof blank.registers.tables);
+    blank.registers.facts.edition = blank.registers.facts.link = 1;
     blank.registers.clock.date = (struct dirgemist_date){2000, 1, 1};
 
     static const struct {
@@ -469,6 +470,7 @@ static int is_formed(const struct dirgemist_meter *meter) {
     return account && zones && periods && all_within(held->held, 63, 0, 127)
            && all_within(held->held + held->count, 63 - held->count, 0, 0)
            && all_within(have->facts.serial, 10, '0', '9') && all_within(have->facts.password, 8, '0', '9')
+           && have->facts.edition == 1 && have->facts.link == 1 && have->facts.decimals == 0
            && all_within(have->tables, sizeof have->tables, '1', '4') && date->year >= 2000
            && date->year <= 2099 && date->month >= 1 && date->month <= 12 && date->day >= 1
            && date->day <= days[date->month - 1] - (date->month == 2 && !leap) && time->hour <= 23

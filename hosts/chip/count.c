@@ -106,6 +106,7 @@ static void wipe_gaps(struct dirgemist_meter *meter) {
     struct dirgemist_clock *clock = &meter->registers.clock;
     struct dirgemist_archive *archive = &meter->registers.archive;
     wipe(&meter->receiver + 1, &meter->registers);
+    wipe(meter->registers.account + sizeof meter->registers.account, clock);
     wipe(&clock->time + 1, clock + 1);
     wipe(&archive->count + 1, archive + 1);
     for (int at = 0; at < 12; at++) {
@@ -161,7 +162,7 @@ static struct dirgemist_meter full(uint8_t mode) {
     struct dirgemist_registers *registers = &meter.registers;
     memset(&meter, 0, sizeof meter);
     dirgemist_meter_make(&meter, (const uint8_t *)"1234567890", 10, (const uint8_t *)"Kiln_7 old", 10,
-                         (const uint8_t *)"20304050", 8, 2024, 2, 29, 23, 5, 9);
+                         (const uint8_t *)"20304050", 8, 2024, 2, 29, 23, 5, 9, 1, 1, 0);
     meter.mode = mode;
     meter.speed = mode < 2 ? 0 : 5;
     for (uint32_t at = 0; at < sizeof registers->tables; at++) {

@@ -75,7 +75,8 @@ static bool facts_good(const struct dirgemist_facts *facts) {
         bits |= digits | (digits + 0x76767676);
     }
     return (bits & 0x80808080) == 0 && (uint8_t)(facts->password[6] - '0') < 10 &&
-           (uint8_t)(facts->password[7] - '0') < 10;
+           (uint8_t)(facts->password[7] - '0') < 10 && facts->edition == 1 && facts->link == 1 &&
+           facts->decimals == 0;
 }
 
 static bool account_good(const uint8_t *account) {

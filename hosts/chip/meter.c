@@ -37,7 +37,7 @@ static uint8_t meet(uint8_t kind, uint32_t value) {
 /* A meter of this serial, account and password, at the start of 2024. */
 static void make(void) {
     dirgemist_meter_make(&meter, (const uint8_t *)"1234567890", 10, (const uint8_t *)"Kiln_7 old",
-                         10, (const uint8_t *)"20304050", 8, 2024, 1, 1, 0, 0, 0);
+                         10, (const uint8_t *)"20304050", 8, 2024, 1, 1, 0, 0, 0, 1, 1, 0);
 }
 
 int main(void) {
