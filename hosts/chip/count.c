@@ -97,27 +97,10 @@ static void meet(void) {
                               &side->speed, &side->place);
 }
 
-/* What lies between the fields is no part of the state. */
-static void wipe(void *from, void *to) {
-    memset(from, 0, (size_t)((uint8_t *)to - (uint8_t *)from));
-}
-
-static void wipe_gaps(struct dirgemist_meter *meter) {
-    struct dirgemist_clock *clock = &meter->registers.clock;
-    struct dirgemist_archive *archive = &meter->registers.archive;
-    wipe(&meter->receiver + 1, &meter->registers);
-    wipe(meter->registers.account + sizeof meter->registers.account, clock);
-    wipe(&clock->time + 1, clock + 1);
-    wipe(&archive->count + 1, archive + 1);
-    for (int at = 0; at < 12; at++) {
-        wipe(&archive->periods[at].closed + 1, archive->periods[at].zones);
-    }
-}
-
 static bool same(void) {
     struct side *a = &sides[0], *b = &sides[1];
-    wipe_gaps(&a->meter);
-    wipe_gaps(&b->meter);
+    __builtin_clear_padding(&a->meter); /* what lies between the fields is no part of the state */
+    __builtin_clear_padding(&b->meter);
     return a->number == b->number && a->speed == b->speed && a->place == b->place &&
            a->length == b->length && memcmp(a->reply, b->reply, ROOM) == 0 &&
            memcmp(&a->meter, &b->meter, sizeof a->meter) == 0;
