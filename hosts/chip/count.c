@@ -97,10 +97,27 @@ static void meet(void) {
                               &side->speed, &side->place);
 }
 
+/* What lies between the fields is no part of the state. (gcc 12 has a builtin for it, which clears other bytes in this record.) */
+static void wipe(void *from, void *to) {
+    memset(from, 0, (size_t)((uint8_t *)to - (uint8_t *)from));
+}
+
+static void wipe_gaps(struct dirgemist_meter *meter) {
+    struct dirgemist_clock *clock = &meter->registers.clock;
+    struct dirgemist_archive *archive = &meter->registers.archive;
+    wipe(&meter->receiver + 1, &meter->registers);
+    wipe(meter->registers.account + sizeof meter->registers.account, clock);
+    wipe(&clock->time + 1, clock + 1);
+    wipe(&archive->count + 1, archive + 1);
+    for (int at = 0; at < 12; at++) {
+        wipe(&archive->periods[at].closed + 1, archive->periods[at].zones);
+    }
+}
+
 static bool same(void) {
     struct side *a = &sides[0], *b = &sides[1];
-    __builtin_clear_padding(&a->meter); /* what lies between the fields is no part of the state */
-    __builtin_clear_padding(&b->meter);
+    wipe_gaps(&a->meter);
+    wipe_gaps(&b->meter);
     return a->number == b->number && a->speed == b->speed && a->place == b->place &&
            a->length == b->length && memcmp(a->reply, b->reply, ROOM) == 0 &&
            memcmp(&a->meter, &b->meter, sizeof a->meter) == 0;
@@ -120,7 +137,7 @@ static void event(uint8_t what, uint32_t with) {
         side->meter = before;
         counted[which] += ticks_of(meet) - ticks_of(nothing);
     }
-    expect(sides[0].number != HAND_UNKNOWN && same(), "the two sides");
+    expect(sides[0].number <= 1 && same(), "the two sides");
 }
 
 static void row(const char *what, uint32_t times) {
