@@ -11,7 +11,7 @@
  * Each is proved, for all records, numbers and buffers, to do what its paragraph says. Pointers
  * must not be null, and what they point to must not overlap.
  *
- * Stack: an event takes some 11,500 bytes (64-bit Arm; 10,600 on thumbv6m, 9,000 on thumbv7em), a
+ * Stack: an event takes some 11,500 bytes (64-bit Arm; 10,900 on thumbv6m, 9,400 on thumbv7em), a
  * test 2,700, making 400; DIRGEMIST_STACK is above each, and hosts/stack and hosts/chip/count.c
  * measure them. The steps of an event hand the state on by value, and up to eight copies of its
  * tables and its archive are alive at once.
