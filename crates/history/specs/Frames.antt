@@ -1,0 +1,78 @@
+-- What a whole frame says: it is compared with the frame that the rules build.
+use mathlib.Core.Bool.{Bool, cond, _&&_, _||_}
+use mathlib.Core.List.{List, [], _∷_, map}
+use Prim.Native.Nat.{ℕ, _-_}
+use lib.ListN.{length, take, drop}
+use Rattle.line.specs.Characters.{seven}
+use Rattle.line.specs.Quoted.{chars}
+use Rattle.line.specs.Runs.{every}
+use Rattle.text.specs.Classes.{isPrintable, sameText}
+use Rattle.text.specs.Decimal.{numberAt}
+use Rattle.text.specs.Layout.{fits}
+use Rattle.clock.specs.Seconds.{realClock}
+use Rattle.clock.specs.declared.Clock.{Clock}
+use Rattle.values.specs.Edition.{editionTables}
+use Rattle.values.specs.Registers.{goodAccount, goodRow, goodTable}
+use Rattle.values.specs.Reading.{clockIn}
+use Rattle.frames.specs.Frames.{frameOf, bareFrame}
+use Rattle.frames.specs.Commands.{B0, P1, W1, setClock, setAccount, setTable}
+use Rattle.frames.specs.Session.{enterData}
+use Rattle.history.specs.Saying.{says}
+
+-- what stands behind SOH, two letters and STX, and before ETX and BCC
+unfoldable pub dataIn : List ℕ → List ℕ
+dataIn frame = take (length frame - 6) (drop 4 (map seven frame))
+
+-- whole, undamaged and correctly checked: it is the frame of this command with its own data, which is printable
+unfoldable pub isFrame : List ℕ → List ℕ → Bool
+isFrame command frame = says frame (frameOf command (dataIn frame)) && every isPrintable (dataIn frame)
+
+-- B0
+unfoldable pub leaves : List ℕ → Bool
+leaves frame = says frame (bareFrame B0)
+
+-- P1 with (), P1 with eight digits in brackets, and these digits
+unfoldable pub enters : List ℕ → Bool
+enters frame = isFrame P1 frame && sameText (dataIn frame) enterData
+
+unfoldable pub tries : List ℕ → Bool
+tries frame = isFrame P1 frame && fits (chars "(########)") (dataIn frame)
+
+abbrev pub passwordIn : List ℕ → List ℕ
+passwordIn frame = take 8 (drop 1 (dataIn frame))
+
+-- the writes of document 01: the clock, the account, the row of a table
+pub data Write : Type 0 where
+  clock : Clock → Write
+  account : List ℕ → Write
+  row : ℕ → List ℕ → Write
+
+unfoldable pub goodWrite : Write → Bool
+goodWrite (clock c) = realClock c
+goodWrite (account a) = goodAccount a
+goodWrite (row n r) = goodTable editionTables n && goodRow r
+
+unfoldable pub writeData : Write → List ℕ
+writeData (clock c) = setClock c
+writeData (account a) = setAccount a
+writeData (row n r) = setTable n r
+
+-- data is just what the rules write for this write, and its fields are good
+unfoldable pub tells : List ℕ → Write → Bool
+tells d w = goodWrite w && sameText d (writeData w)
+
+-- what stands between the brackets behind a letter
+unfoldable pub inside : List ℕ → List ℕ
+inside d = take (length d - 3) (drop 2 d)
+
+-- the write that data tells, if it tells one
+unfoldable pub writeOf : List ℕ → List Write
+writeOf d =
+    cond (tells d (clock (clockIn (inside d)))) (clock (clockIn (inside d)) ∷ [])
+    (cond (tells d (account (inside d))) (account (inside d) ∷ [])
+    (cond (tells d (row (numberAt (inside d) 0 2) (drop 3 (inside d)))) (row (numberAt (inside d) 0 2) (drop 3 (inside d)) ∷ [])
+    []))
+
+-- W1
+unfoldable pub writeIn : List ℕ → List Write
+writeIn frame = cond (isFrame W1 frame) (writeOf (dataIn frame)) []
