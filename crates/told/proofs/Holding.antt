@@ -16,6 +16,7 @@ use Rattle.state.specs.Sizes.{heldPlaces}
 use Rattle.state.specs.declared.Receiver.{Receiver}
 use Rattle.state.specs.declared.Registers.{Registers}
 use Rattle.state.specs.declared.Meter.{Meter}
+use Rattle.state.specs.Making.{emptyReceiver}
 use Rattle.state.specs.Setting.{meterIn}
 use Rattle.receiving.specs.Receivers.{heldText, lastHeld, restartedReceiver}
 use Rattle.meter.specs.Character.{symbol}
@@ -128,3 +129,7 @@ ends-is run = go (eqb (length run) 0) refl
 pub restarts : (c b : ℕ) → carries c b ≡ true → restartedReceiver (symbol b) ≡ filled (b ∷ [])
 unfolding undamagedAll every
 restarts c b h = rw (carries-undamaged c b h)
+
+pub nothing-held : filled [] ≡ emptyReceiver
+unfolding undamagedAll every
+nothing-held = refl
