@@ -133,3 +133,13 @@ restarts c b h = rw (carries-undamaged c b h)
 pub nothing-held : filled [] ≡ emptyReceiver
 unfolding undamagedAll every
 nothing-held = refl
+
+-- a mode begins with nothing held
+pub fresh : (mode : ℕ) → filled (openIn mode []) ≡ emptyReceiver
+unfolding live since every undamagedAll
+fresh mode = go (eqb mode 0) (eqb mode 1)
+  where
+    go : (p q : Bool) → filled (cond p (live (since 47 [])) (cond q [] (since 1 []))) ≡ emptyReceiver
+    go true q = refl
+    go false true = refl
+    go false false = refl

@@ -1,3 +1,4 @@
 pub mod Holding
 pub mod Lines
 pub mod Listening
+pub mod Confirming
