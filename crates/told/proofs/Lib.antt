@@ -2,3 +2,4 @@ pub mod Holding
 pub mod Lines
 pub mod Listening
 pub mod Confirming
+pub mod Frames
