@@ -7,13 +7,15 @@ use Rattle.line.specs.Characters.{seven}
 use Rattle.line.specs.Quoted.{chars}
 use Rattle.line.specs.Runs.{every}
 use Rattle.text.specs.Classes.{isPrintable, sameText}
-use Rattle.text.specs.Decimal.{numberAt}
 use Rattle.text.specs.Layout.{fits}
 use Rattle.clock.specs.Seconds.{realClock}
 use Rattle.clock.specs.declared.Clock.{Clock}
 use Rattle.values.specs.Edition.{editionTables}
 use Rattle.values.specs.Registers.{goodAccount, goodRow, goodTable}
-use Rattle.values.specs.Reading.{clockIn}
+use Rattle.values.specs.Reading.{clockRead, tableRead}
+use Rattle.values.specs.declared.reading.ClockRead.{ClockRead}
+use Rattle.values.specs.declared.reading.TableRead.{TableRead}
+use Rattle.values.specs.declared.TableNo.{TableNo}
 use Rattle.frames.specs.Frames.{frameOf, bareFrame}
 use Rattle.frames.specs.Commands.{B0, P1, W1, setClock, setAccount, setTable}
 use Rattle.frames.specs.Session.{enterData}
@@ -65,13 +67,22 @@ tells d w = goodWrite w && sameText d (writeData w)
 unfoldable pub inside : List ℕ → List ℕ
 inside d = take (length d - 3) (drop 2 d)
 
+-- what the write would be, by the place where each field stands
+abbrev pub clockHere : List ℕ → Write
+clockHere d = clock (clockRead (inside d) .clock)
+
+abbrev pub accountHere : List ℕ → Write
+accountHere d = account (inside d)
+
+abbrev pub rowHere : List ℕ → Write
+rowHere d = row (tableRead editionTables (take 2 (inside d)) .table .0) (drop 3 (inside d))
+
 -- the write that data tells, if it tells one
 unfoldable pub writeOf : List ℕ → List Write
 writeOf d =
-    cond (tells d (clock (clockIn (inside d)))) (clock (clockIn (inside d)) ∷ [])
-    (cond (tells d (account (inside d))) (account (inside d) ∷ [])
-    (cond (tells d (row (numberAt (inside d) 0 2) (drop 3 (inside d)))) (row (numberAt (inside d) 0 2) (drop 3 (inside d)) ∷ [])
-    []))
+    cond (tells d (clockHere d)) (clockHere d ∷ [])
+    (cond (tells d (accountHere d)) (accountHere d ∷ [])
+    (cond (tells d (rowHere d)) (rowHere d ∷ []) []))
 
 -- W1
 unfoldable pub writeIn : List ℕ → List Write

@@ -3,3 +3,4 @@ pub mod Lines
 pub mod Listening
 pub mod Confirming
 pub mod Frames
+pub mod Writes
