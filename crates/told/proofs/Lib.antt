@@ -4,3 +4,4 @@ pub mod Listening
 pub mod Confirming
 pub mod Frames
 pub mod Writes
+pub mod Framing
