@@ -5,3 +5,5 @@ pub mod Confirming
 pub mod Frames
 pub mod Writes
 pub mod Framing
+pub mod Registers
+pub mod Told
