@@ -4,3 +4,4 @@ pub mod Past
 pub mod Standing
 pub mod Deeds
 pub mod Told
+pub mod Examples

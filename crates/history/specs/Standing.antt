@@ -47,8 +47,8 @@ listened facts s b = cond (signsOn facts (s .said ++ (b ∷ []))) (anew s 1) (sa
 unfoldable pub asksForPassword : List ℕ → Bool
 asksForPassword six = says six (confirmation (char "5") (char "1")) || says six (confirmation (char "0") (char "1"))
 
-abbrev pub confirmed : Standing → ℕ → Standing
-confirmed s b = cond (ltb (length (s .said ++ (b ∷ []))) 6) (saidMore s b) (cond (asksForPassword (s .said ++ (b ∷ []))) (anew s 2) (anew s 0))
+abbrev pub sixSaid : Standing → ℕ → Standing
+sixSaid s b = cond (ltb (length (s .said ++ (b ∷ []))) 6) (saidMore s b) (cond (asksForPassword (s .said ++ (b ∷ []))) (anew s 2) (anew s 0))
 
 -- a session: a frame is what was said from the last SOH on. Behind its ETX one byte more, whatever it is, makes it whole
 unfoldable pub opened : List ℕ → List ℕ
@@ -85,13 +85,13 @@ framed facts s frame = cond (eqb (s .mode) 2) (entered facts s frame) (cond (lea
 abbrev pub inSession : Facts → Standing → ℕ → Standing
 inSession facts s b = cond (isWhole s) (framed facts s (frameBy s b)) (cond (isTooMany s b) (anew s (refusedIn (s .mode))) (saidMore s b))
 
-abbrev pub heard : Facts → Standing → ℕ → Standing
-heard facts s b = cond (eqb (s .mode) 0) (listened facts s b) (cond (eqb (s .mode) 1) (confirmed s b) (inSession facts s b))
+abbrev pub afterByte : Facts → Standing → ℕ → Standing
+afterByte facts s b = cond (eqb (s .mode) 0) (listened facts s b) (cond (eqb (s .mode) 1) (sixSaid s b) (inSession facts s b))
 
 -- after a past, the newest first
 unfoldable pub standing : Facts → List Event → Standing
 standing facts [] = standingAs 0 0 []
-standing facts (Character b ∷ past) = heard facts (standing facts past) b
+standing facts (Character b ∷ past) = afterByte facts (standing facts past) b
 standing facts (Silence ∷ past) = anew (standing facts past) 0
 standing facts (Tick ∷ past) = standing facts past
 standing facts (Pulse wh ∷ past) = standing facts past

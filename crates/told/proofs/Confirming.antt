@@ -98,11 +98,11 @@ module _ (failed speed : ℕ) (said : List ℕ) (g : Registers) (b : ℕ) where
       go true false false false true f h = record { speed = confirmedSpeed m; is = rw (fresh 2) }
       go true false false false false f h = out
 
-  pub confirming-step : Follows (told.confirmed s b) g (taken m b .next)
+  pub confirming-step : Follows (told.sixSaid s b) g (taken m b .next)
   unfolding taken hearing confirming heard
   confirming-step = go (leb 5 (length said)) refl
     where
-      go : (p : Bool) → leb 5 (length said) ≡ p → Follows (told.confirmed s b) g (heard m (symbol b) (damagedAt b) (cond p Confirm Hold) .next)
+      go : (p : Bool) → leb 5 (length said) ≡ p → Follows (told.sixSaid s b) g (heard m (symbol b) (damagedAt b) (cond p Confirm Hold) .next)
       go true e = rw (le-ltb (length (said ++ (b ∷ []))) 6 (omega (arith, length-append said (b ∷ []), leb-true 5 (length said) e))) six-said
       go false e =
           let few = leb-false 5 (length said) e in

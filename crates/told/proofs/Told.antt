@@ -42,11 +42,11 @@ use Rattle.told.proofs.Registers.{all-done}
 -- ---- a byte, in any mode
 
 in-mode : (mode failed speed : ℕ) (said : List ℕ) (g : Registers) (b : ℕ) → mode ≤ 4 → goodSerial (g .facts .serial) ≡ true
-    → Follows (told.heard (g .facts) (standingAs mode failed said) b) (doneAll (byByte (standingAs mode failed said) b) g) (taken (holding (standingAs mode failed said) speed g) b .next)
+    → Follows (told.afterByte (g .facts) (standingAs mode failed said) b) (doneAll (byByte (standingAs mode failed said) b) g) (taken (holding (standingAs mode failed said) speed g) b .next)
 in-mode mode failed speed said g b few good = go (eqb mode 0) refl (eqb mode 1) refl
   where
     Goal : ℕ → Type 0
-    Goal n = Follows (told.heard (g .facts) (standingAs n failed said) b) (doneAll (byByte (standingAs n failed said) b) g) (taken (holding (standingAs n failed said) speed g) b .next)
+    Goal n = Follows (told.afterByte (g .facts) (standingAs n failed said) b) (doneAll (byByte (standingAs n failed said) b) g) (taken (holding (standingAs n failed said) speed g) b .next)
 
     listens : (n : ℕ) → n ≡ 0 → Goal n
     listens n e = rw e (listening-step failed speed said g b good)
@@ -61,7 +61,7 @@ in-mode mode failed speed said g b few good = go (eqb mode 0) refl (eqb mode 1) 
         let session : (leb 2 mode && leb mode 4) ≡ true = rw (le-leb 2 mode (omega (arith, eqb-false mode 0 e, eqb-false mode 1 f)), le-leb mode 4 few) in
         rw (e, f) (rw e at (session-step mode failed speed said g b e f session))
 
-byte-follows : (s : Standing) (g : Registers) (m : Meter) (b : ℕ) → wellFormed m ≡ true → Follows s g m → Follows (told.heard (g .facts) s b) (doneAll (byByte s b) g) (taken m b .next)
+byte-follows : (s : Standing) (g : Registers) (m : Meter) (b : ℕ) → wellFormed m ≡ true → Follows s g m → Follows (told.afterByte (g .facts) s b) (doneAll (byByte s b) g) (taken m b .next)
 byte-follows s g m b good f =
     let here : wellFormed (holding s (f .speed) g) ≡ true = rw (f .is) at good in
     let w = formed (holding s (f .speed) g) here in
