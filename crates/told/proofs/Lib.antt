@@ -7,3 +7,4 @@ pub mod Writes
 pub mod Framing
 pub mod Registers
 pub mod Told
+pub mod Corollaries

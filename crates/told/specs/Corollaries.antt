@@ -1,0 +1,58 @@
+-- [13]: what a tester can quote of it.
+use mathlib.Core.Path.{_≡_}
+use mathlib.Core.Bool.{Bool, true, false, _&&_, _||_}
+use mathlib.Core.List.{List, [], _∷_, _++_}
+use Prim.Native.Nat.{ℕ}
+use lib.Dec.{eqb}
+use Rattle.text.specs.Classes.{sameText}
+use Rattle.clock.specs.declared.Clock.{Clock}
+use Rattle.state.specs.declared.Facts.{Facts}
+use Rattle.state.specs.declared.Registers.{Registers}
+use Rattle.state.specs.declared.Meter.{Meter}
+use Rattle.state.specs.Making.{meterOf}
+use Rattle.meter.specs.declared.Event.{Event}
+use Rattle.meter.specs.declared.Event.the-variants.{Character, Silence, Tick, Pulse, PowerUp, Unknown}
+use Rattle.meter.specs.Life.{lived}
+use Rattle.history.specs.Frames.{Write, account, tries, passwordIn, writeIn}
+use Rattle.history.specs.Past.{happens}
+use Rattle.history.specs.Standing.{Standing, standing, isWhole, frameBy}
+use Rattle.told.specs.Claims.{happened, writesTold}
+
+-- a byte that makes a frame whole, in mode 2, which has the right password
+abbrev pub rightNow : Facts → Standing → ℕ → Bool
+rightNow facts s b = (eqb (s .mode) 2 && isWhole s) && (tries (frameBy s b) && sameText (passwordIn (frameBy s b)) (facts .password))
+
+-- there was one in this past
+unfoldable pub rightEver : Facts → List Event → Bool
+rightEver facts [] = false
+rightEver facts (Character b ∷ past) = rightNow facts (standing facts past) b || rightEver facts past
+rightEver facts (Silence ∷ past) = rightEver facts past
+rightEver facts (Tick ∷ past) = rightEver facts past
+rightEver facts (Pulse wh ∷ past) = rightEver facts past
+rightEver facts (PowerUp ∷ past) = rightEver facts past
+rightEver facts (Unknown ∷ past) = rightEver facts past
+
+-- account and tables of two meters are the same
+pub record SameSettings (a b : Registers) : Type 0 where
+  pub same-account : a .account ≡ b .account
+  pub same-tables : a .tables ≡ b .tables
+
+-- one event more: the account stays, or that event is the last byte of a K write, whole and told while programming mode stood, and the account is the one it says
+pub data AccountAfter (facts : Facts) (account₀ : List ℕ) (clock : Clock) (es : List (ℕ × Event)) (room : ℕ) (e : Event) : Type 0 where
+  stays : lived (meterOf facts account₀ clock) (es ++ ((room, e) ∷ [])) .registers .account ≡ lived (meterOf facts account₀ clock) es .registers .account
+      → AccountAfter facts account₀ clock es room e
+  written : (b : ℕ) (a : List ℕ) → e ≡ Character b → happens room e ≡ true
+      → standing facts (happened es) .mode ≡ 4 → isWhole (standing facts (happened es)) ≡ true
+      → writeIn (frameBy (standing facts (happened es)) b) ≡ account a ∷ []
+      → lived (meterOf facts account₀ clock) (es ++ ((room, e) ∷ [])) .registers .account ≡ a
+      → AccountAfter facts account₀ clock es room e
+
+pub record Corollaries (facts : Facts) (account₀ : List ℕ) (clock : Clock) : Type 0 where
+  -- without a right password account and tables are the factory's
+  pub no-password : (es : List (ℕ × Event)) → rightEver facts (happened es) ≡ false
+      → SameSettings (lived (meterOf facts account₀ clock) es .registers) (meterOf facts account₀ clock .registers)
+  -- an account changes only by a K write in programming mode
+  pub only-by-write : (es : List (ℕ × Event)) (room : ℕ) (e : Event) → AccountAfter facts account₀ clock es room e
+  -- the same writes told leave the same account and the same tables
+  pub same-writes : (es es′ : List (ℕ × Event)) → writesTold facts es ≡ writesTold facts es′
+      → SameSettings (lived (meterOf facts account₀ clock) es .registers) (lived (meterOf facts account₀ clock) es′ .registers)
