@@ -1,8 +1,6 @@
 -- The examples, computed. Assumes nothing.
-use mathlib.Core.Path.{_≡_, refl}
-use mathlib.Core.List.{List, [], _∷_, _++_}
+use mathlib.Core.Path.{refl}
 use lib.Count.{ones}
-use Rattle.line.specs.Quoted.{char, chars}
 use Rattle.line.specs.Characters.{damagedAt, seven, sent, undamagedAll}
 use Rattle.line.specs.Checksum.{bccOf}
 use Rattle.line.specs.Runs.{every}

@@ -1,10 +1,10 @@
 -- One byte more: what it says, and since when. Assumes nothing.
-use mathlib.Core.Path.{_≡_, refl, sym, ap, ap₂, _∙_}
-use mathlib.Core.Bool.{Bool, true, false, cond, not, _&&_}
+use mathlib.Core.Path.{_≡_, refl, ap, ap₂, _∙_}
+use mathlib.Core.Bool.{Bool, true, false, cond, _&&_}
 use mathlib.Core.List.{List, [], _∷_, _++_, map}
 use Prim.Native.Nat.{ℕ}
 use lib.Dec.{eqb}
-use Rattle.line.specs.Characters.{damagedAt, seven, undamagedAt, undamagedAll}
+use Rattle.line.specs.Characters.{seven, undamagedAt, undamagedAll}
 use Rattle.line.specs.Runs.{every}
 use Rattle.text.specs.Classes.{sameText, matching}
 use Rattle.text.proofs.Matching.{same-snoc}

@@ -1,5 +1,5 @@
 -- What a history tells the registers: the writes, the seconds, the energy and the calls that close a period, the newest first.
-use mathlib.Core.Bool.{Bool, cond, _&&_}
+use mathlib.Core.Bool.{cond, _&&_}
 use mathlib.Core.List.{List, [], _∷_, _++_}
 use Prim.Native.Nat.{ℕ}
 use lib.Dec.{eqb}

@@ -1,5 +1,5 @@
 -- What a whole frame says: it is compared with the frame that the rules build.
-use mathlib.Core.Bool.{Bool, cond, _&&_, _||_}
+use mathlib.Core.Bool.{Bool, cond, _&&_}
 use mathlib.Core.List.{List, [], _∷_, map}
 use Prim.Native.Nat.{ℕ, _-_}
 use lib.ListN.{length, take, drop}
@@ -13,9 +13,6 @@ use Rattle.clock.specs.declared.Clock.{Clock}
 use Rattle.values.specs.Edition.{editionTables}
 use Rattle.values.specs.Registers.{goodAccount, goodRow, goodTable}
 use Rattle.values.specs.Reading.{clockRead, tableRead}
-use Rattle.values.specs.declared.reading.ClockRead.{ClockRead}
-use Rattle.values.specs.declared.reading.TableRead.{TableRead}
-use Rattle.values.specs.declared.TableNo.{TableNo}
 use Rattle.frames.specs.Frames.{frameOf, bareFrame}
 use Rattle.frames.specs.Commands.{B0, P1, W1, setClock, setAccount, setTable}
 use Rattle.frames.specs.Session.{enterData}

@@ -6,12 +6,9 @@ use lib.ListN.{getD}
 use Rattle.line.specs.Quoted.{char}
 use Rattle.clock.specs.Seconds.{nextSecond}
 use Rattle.clock.specs.declared.Clock.{Clock}
-use Rattle.state.specs.declared.Facts.{Facts}
 use Rattle.state.specs.declared.Counters.{Counters}
 use Rattle.state.specs.declared.Archive.{Archive}
 use Rattle.state.specs.declared.Registers.{Registers}
-use Rattle.state.specs.declared.Meter.{Meter}
-use Rattle.state.specs.Making.{meterOf}
 use Rattle.state.specs.Setting.{rowStart, withRow}
 use Rattle.state.specs.Closing.{periodOf, closedWith}
 use Rattle.tariff.specs.Zones.{tableFor, counted}

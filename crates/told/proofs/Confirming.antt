@@ -1,11 +1,11 @@
 -- A byte of a confirmation. Assumes nothing.
-use mathlib.Core.Path.{_≡_, refl, sym, ap, ap₂, _∙_}
+use mathlib.Core.Path.{_≡_, refl, ap, _∙_}
 use mathlib.Core.Bool.{Bool, true, false, cond, not, _&&_, _||_}
 use mathlib.Core.List.{List, [], _∷_, _++_, map}
-use Prim.Native.Nat.{ℕ, zero, suc, _+_, _≤_, _<_}
+use Prim.Native.Nat.{ℕ, _+_}
 use native.Mathlib.Omega.{arith}
 use borrow.Author.Tests.{leb-true, leb-false, lt-ltb, le-ltb, ne-eqb}
-use lib.Dec.{eqb, leb, ltb}
+use lib.Dec.{eqb, leb}
 use lib.ListN.{length, length-append}
 use Rattle.line.specs.Characters.{damagedAt, seven, undamagedAll}
 use Rattle.text.specs.Classes.{sameText, matching}
@@ -15,10 +15,9 @@ use Rattle.state.specs.Sizes.{tables}
 use Rattle.state.specs.declared.Registers.{Registers}
 use Rattle.state.specs.declared.Meter.{Meter}
 use Rattle.state.specs.Setting.{inMode, withSpeed}
-use Rattle.receiving.specs.declared.Hearing.{Hearing}
 use Rattle.receiving.specs.declared.Hearing.the-variants.{Hold, Confirm}
 use Rattle.receiving.specs.Hearing.{confirming, hearing}
-use Rattle.receiving.specs.Receivers.{heldText, keptReceiver}
+use Rattle.receiving.specs.Receivers.{heldText}
 use Rattle.replies.specs.Block.{blockData}
 use Rattle.replies.specs.Periods.{longData}
 use Rattle.replies.specs.Fixed.{passwordAsk}
@@ -28,7 +27,7 @@ use Rattle.meter.specs.Character.{symbol, confirmedSpeed, readOut, confirmed, h
 use Rattle.whole.specs.Gathering.{filled}
 use Rattle.whole.proofs.Filled.{one-more}
 use Rattle.history.specs.Saying.{says}
-use Rattle.history.specs.Standing.{Standing, standingAs, anew, saidMore, asksForPassword}
+use Rattle.history.specs.Standing.{Standing, standingAs, anew, asksForPassword}
 use Rattle.history.specs.Standing as told
 use Rattle.history.proofs.Saying.{map-snoc, undamaged-snoc}
 use Rattle.told.proofs.Holding.{untrue, holding, Follows, symbols, held-is, fresh}

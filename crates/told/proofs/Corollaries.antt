@@ -1,6 +1,6 @@
 -- What follows for a tester. Assumes nothing.
-use mathlib.Core.Path.{_≡_, refl, sym, ap, ap₂, _∙_}
-use mathlib.Core.Bool.{Bool, true, false, cond, not, _&&_, _||_}
+use mathlib.Core.Path.{_≡_, refl, sym, ap, _∙_}
+use mathlib.Core.Bool.{Bool, true, false, cond, _&&_, _||_}
 use mathlib.Core.List.{List, [], _∷_, _++_}
 use Prim.Native.Nat.{ℕ, _+_}
 use borrow.Author.Tests.{eqb-true}
@@ -10,8 +10,6 @@ use Rattle.line.proofs.Runs.{and-left, and-right}
 use Rattle.text.specs.Classes.{sameText}
 use Rattle.clock.specs.declared.Clock.{Clock}
 use Rattle.state.specs.declared.Facts.{Facts}
-use Rattle.state.specs.declared.Registers.{Registers}
-use Rattle.state.specs.declared.Meter.{Meter}
 use Rattle.state.specs.WellFormed.{factoryGood}
 use Rattle.state.specs.Making.{meterOf}
 use Rattle.meter.specs.declared.Event.{Event}
@@ -20,11 +18,11 @@ use Rattle.meter.specs.Life.{lived}
 use Rattle.promises.proofs.Choices as choice
 use Rattle.history.specs.Frames.{Write, clock, account, row, leaves, enters, tries, passwordIn, writeIn, writeOf, isFrame, tells, dataIn, clockHere, accountHere, rowHere}
 use Rattle.history.specs.Past.{happens, pastOf}
-use Rattle.history.specs.Standing.{Standing, standingAs, anew, saidMore, signsOn, asksForPassword, closesPeriod, isWhole, isTooMany, frameBy, refusedIn, afterByte, standing}
+use Rattle.history.specs.Standing.{Standing, signsOn, asksForPassword, closesPeriod, isWhole, isTooMany, frameBy, refusedIn, afterByte, standing}
 use Rattle.history.specs.Deeds.{Deed, closed, wroteAll, byByte, deedsAt, deeds, writesOf}
 use Rattle.history.specs.Told.{accountTold, tablesTold}
 use Rattle.told.specs.Claims.{Told, happened, writesTold}
-use Rattle.told.specs.Corollaries.{rightNow, rightEver, SameSettings, AccountAfter, stays, written, Corollaries}
+use Rattle.told.specs.Corollaries.{rightNow, rightEver, AccountAfter, stays, written, Corollaries}
 use Rattle.told.proofs.Holding.{untrue}
 use Rattle.told.proofs.Told.{nothing-but-told}
 

@@ -2,7 +2,7 @@
 use mathlib.Core.Path.{_≡_, refl, sym, ap, ap₂, _∙_}
 use mathlib.Core.Bool.{Bool, true, false, cond, not, _&&_, _||_}
 use mathlib.Core.List.{List, [], _∷_, _++_, map}
-use Prim.Native.Nat.{ℕ, zero, suc, _+_, _-_, _≤_, _<_}
+use Prim.Native.Nat.{ℕ, suc, _+_, _-_, _≤_}
 use native.Mathlib.Omega.{arith}
 use borrow.Author.Tests.{leb-true, leb-false, eqb-true, eq-eqb}
 use lib.Dec.{eqb, leb}
@@ -12,7 +12,7 @@ use Rattle.line.specs.Characters.{damagedAt, seven, undamagedAll}
 use Rattle.line.specs.Checksum.{bccOf}
 use Rattle.line.specs.Runs.{every}
 use Rattle.line.proofs.Runs.{and-left, and-right, and-both}
-use Rattle.text.specs.Classes.{sameText, matching, isPrintable, between}
+use Rattle.text.specs.Classes.{sameText, isPrintable, between}
 use Rattle.text.proofs.Matching.{same-is, same-self, same-snoc}
 use Rattle.frames.specs.Frames.{closed, frameOf, bareFrame}
 use Rattle.state.specs.WellFormed.{marked}
@@ -21,7 +21,6 @@ use Rattle.replies.specs.declared.Ask.{Ask}
 use Rattle.deciding.specs.declared.Verdict.{Verdict}
 use Rattle.deciding.specs.declared.Verdict.the-variants.{Refuse, Leave, Read}
 use Rattle.deciding.specs.Shape.{startGood, bareShape, framedShape, content}
-use Rattle.deciding.specs.Asking.{asked}
 use Rattle.deciding.specs.Verdict.{bareVerdict, framedVerdict, shapeVerdict, verdict}
 use Rattle.meter.specs.Character.{symbol}
 use Rattle.promises.proofs.Choices as choice

@@ -1,29 +1,23 @@
 -- A byte in a session. Assumes nothing.
-use mathlib.Core.Path.{_≡_, refl, sym, ap, ap₂, _∙_}
-use mathlib.Core.Bool.{Bool, true, false, cond, not, _&&_, _||_, and-true, and-false}
+use mathlib.Core.Path.{_≡_, refl, sym, ap, _∙_}
+use mathlib.Core.Bool.{Bool, true, false, cond, not, _&&_, and-true, and-false}
 use mathlib.Core.List.{List, [], _∷_, _++_, map}
-use Prim.Native.Nat.{ℕ, zero, suc, _+_, _-_, _≤_, _<_}
+use Prim.Native.Nat.{ℕ, _+_, _-_}
 use native.Mathlib.Omega.{arith}
-use borrow.Author.Tests.{leb-false, eqb-true, ne-eqb}
+use borrow.Author.Tests.{leb-false, eqb-true}
 use lib.Dec.{eqb, leb}
 use lib.ListN.{length, getD, take, drop}
 use Rattle.line.specs.Characters.{damagedAt, seven, undamagedAll}
 use Rattle.line.specs.Quoted.{chars}
-use Rattle.line.specs.Runs.{every}
 use Rattle.line.proofs.Runs.{and-left, and-right}
 use Rattle.text.specs.Classes.{sameText, isPrintable, between}
 use Rattle.text.specs.Layout.{fits}
 use Rattle.text.proofs.Matching.{same-is}
-use Rattle.clock.specs.Seconds.{realClock}
-use Rattle.clock.specs.declared.Clock.{Clock}
-use Rattle.values.specs.Registers.{goodAccount, goodRow, goodTable}
-use Rattle.values.specs.declared.TableNo.{TableNo}
 use Rattle.values.proofs.Fields.{fits-long}
 use Rattle.frames.specs.Frames.{closed, frameOf, bareFrame}
 use Rattle.frames.specs.Session.{enterData}
 use Rattle.state.specs.Sizes.{tables}
 use Rattle.state.specs.declared.Receiver.{Receiver}
-use Rattle.state.specs.declared.Facts.{Facts}
 use Rattle.state.specs.declared.Registers.{Registers}
 use Rattle.state.specs.declared.Meter.{Meter}
 use Rattle.state.specs.Making.{emptyReceiver}
@@ -31,27 +25,27 @@ use Rattle.state.specs.Setting.{meterIn, inMode, withAttempts, withClock, withA
 use Rattle.receiving.specs.declared.Hearing.{Hearing}
 use Rattle.receiving.specs.declared.Hearing.the-variants.{Drop, Hold, Restart, Frame, TooLong}
 use Rattle.receiving.specs.Hearing.{framing, hearing}
-use Rattle.receiving.specs.Receivers.{heldText, lastHeld, keptReceiver, restartedReceiver}
+use Rattle.receiving.specs.Receivers.{keptReceiver, restartedReceiver}
 use Rattle.deciding.specs.declared.Verdict.{Verdict}
-use Rattle.deciding.specs.declared.Verdict.the-variants.{Refuse, Leave, Enter, Password, Read, WriteClock, WriteAccount, WriteTable}
+use Rattle.deciding.specs.declared.Verdict.the-variants.{Refuse, Enter, Password}
 use Rattle.deciding.specs.Shape.{content}
-use Rattle.deciding.specs.Telling.{inner} 
+use Rattle.deciding.specs.Telling.{inner}
 use Rattle.deciding.specs.Telling as telling
 use Rattle.deciding.specs.Verdict.{entry, framedVerdict, verdict}
-use Rattle.meter.specs.Outcomes.{Outcome, fallen, nak, ack}
+use Rattle.meter.specs.Outcomes.{fallen, nak, ack}
 use Rattle.meter.specs.Acting.{passwordGiven, tried, acted}
 use Rattle.meter.specs.Character.{symbol, heard, taken}
 use Rattle.promises.proofs.Pieces.{account-told, row-told, password-brought}
 use Rattle.whole.specs.Gathering.{filled}
 use Rattle.whole.proofs.Filled.{one-more}
 use Rattle.history.specs.Saying.{carries, says, since, endsWith}
-use Rattle.history.specs.Frames.{Write, dataIn, isFrame, leaves, enters, tries, passwordIn, writeOf, writeIn}
+use Rattle.history.specs.Frames.{dataIn, isFrame, leaves, enters, tries, passwordIn, writeOf, writeIn}
 use Rattle.history.specs.Standing.{Standing, standingAs, anew, saidMore, opened, refusedIn}
 use Rattle.history.specs.Standing as told
-use Rattle.history.specs.Deeds.{Deed, wrote, wroteAll, byByte}
+use Rattle.history.specs.Deeds.{Deed, wroteAll, byByte}
 use Rattle.history.proofs.Saying.{more, since-snoc}
 use Rattle.told.specs.Doing.{written, done, doneAll}
-use Rattle.told.proofs.Holding.{untrue, openIn, holding, Follows, fresh, symbol-carries, ends-is, none-is, more-some, restarts}
+use Rattle.told.proofs.Holding.{untrue, Follows, fresh, symbol-carries, ends-is, none-is, more-some, restarts}
 use Rattle.told.proofs.Frames.{Idle, refused, read, held, mark, frame, data-is, frame-unmarked, framed-decided, leaves-decided, other-decided}
 use Rattle.told.proofs.Writes.{Tells, the-clock, the-account, the-row, nothing, told-tells, clock-written, account-written, row-written, none-written}
 

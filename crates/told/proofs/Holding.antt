@@ -2,18 +2,16 @@
 use mathlib.Core.Path.{_≡_, refl, sym, ap, ap₂, _∙_}
 use mathlib.Core.Bool.{Bool, true, false, cond, not, _&&_}
 use mathlib.Core.List.{List, [], _∷_, _++_, map}
-use Prim.Native.Nat.{ℕ, zero, suc, _+_, _-_, _≤_, _<_}
+use Prim.Native.Nat.{ℕ, suc, _+_, _-_}
 use native.Mathlib.Omega.{arith}
-use borrow.Author.Tests.{le-leb, lt-leb, leb-true, leb-false, ne-eqb, eqb-true, eqb-false}
+use borrow.Author.Tests.{ne-eqb, eqb-true, eqb-false}
 use lib.Dec.{eqb, leb}
-use lib.ListN.{length, getD, take, replicate, length-append, List·getD-map, List·getD-append}
+use lib.ListN.{length, getD, replicate, List·getD-map, List·getD-append}
 use lib.Seq.{take-at}
 use Rattle.line.specs.Characters.{damagedAt, seven, undamagedAll}
 use Rattle.line.specs.Runs.{every}
 use Rattle.line.proofs.Runs.{and-left, and-right}
-use Rattle.text.specs.Classes.{sameText, matching}
 use Rattle.state.specs.Sizes.{heldPlaces}
-use Rattle.state.specs.declared.Receiver.{Receiver}
 use Rattle.state.specs.declared.Registers.{Registers}
 use Rattle.state.specs.declared.Meter.{Meter}
 use Rattle.state.specs.Making.{emptyReceiver}
@@ -22,9 +20,9 @@ use Rattle.receiving.specs.Receivers.{heldText, lastHeld, restartedReceiver}
 use Rattle.meter.specs.Character.{symbol}
 use Rattle.whole.specs.Gathering.{filled}
 use Rattle.whole.proofs.Filled.{length-map}
-use Rattle.history.specs.Saying.{carries, says, since, endsWith}
+use Rattle.history.specs.Saying.{carries, since, endsWith}
 use Rattle.history.specs.Standing.{Standing}
-use Rattle.history.proofs.Saying.{says-snoc, says-none, more, since-snoc}
+use Rattle.history.proofs.Saying.{more}
 
 pub untrue : {A : Type 0} → false ≡ true → A
 untrue h = absurd (omega (arith, ap {B = ℕ} (λ (b : Bool). cond b 1 0) h))

@@ -2,11 +2,11 @@
 use mathlib.Core.Path.{_≡_, refl, sym, ap, ap₂, _∙_}
 use mathlib.Core.Bool.{Bool, true, false, cond, not, _&&_, _||_, and-true, and-false}
 use mathlib.Core.List.{List, [], _∷_, _++_, map, append-assoc}
-use Prim.Native.Nat.{ℕ, zero, suc, _+_, _-_, _≤_, _<_}
+use Prim.Native.Nat.{ℕ, suc, _+_, _-_, _≤_}
 use native.Mathlib.Omega.{arith}
-use borrow.Author.Tests.{le-leb, lt-leb, leb-true, leb-false, ne-eqb, eqb-true, eqb-false}
+use borrow.Author.Tests.{le-leb, lt-leb, leb-true, leb-false, ne-eqb, eqb-true}
 use lib.Dec.{eqb, leb}
-use lib.ListN.{length, take, drop, replicate, length-append, length-drop}
+use lib.ListN.{length, take, drop, replicate, length-append}
 use Rattle.line.specs.Characters.{damagedAt, seven, undamagedAll}
 use Rattle.line.specs.Runs.{every}
 use Rattle.line.proofs.Runs.{and-left, and-right, and-both, every-append, every-take, every-drop, every-weaker}
@@ -19,7 +19,6 @@ use Rattle.values.proofs.Rules.{digits-long, serial-text-long}
 use Rattle.frames.specs.Session.{signOn, closingSignOn, signOnTo}
 use Rattle.receiving.specs.Receivers.{heldText}
 use Rattle.meter.specs.SignOn.{signsOnBy, closesBy}
-use Rattle.meter.specs.Character.{symbol}
 use Rattle.whole.specs.Gathering.{filled}
 use Rattle.whole.proofs.Filled.{length-map}
 use Rattle.history.specs.Saying.{carries, says, since}

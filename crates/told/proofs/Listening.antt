@@ -1,40 +1,35 @@
 -- A byte while listening. Assumes nothing.
-use mathlib.Core.Path.{_≡_, refl, sym, ap, ap₂, _∙_}
-use mathlib.Core.Bool.{Bool, true, false, cond, not, _&&_, _||_, and-true, and-false}
-use mathlib.Core.List.{List, [], _∷_, _++_, map}
-use Prim.Native.Nat.{ℕ, zero, suc, _+_, _-_, _≤_, _<_}
+use mathlib.Core.Path.{_≡_, refl, sym, ap, _∙_}
+use mathlib.Core.Bool.{Bool, true, false, cond, _&&_, _||_, and-false}
+use mathlib.Core.List.{List, [], _∷_, _++_}
+use Prim.Native.Nat.{ℕ, _+_, _-_}
 use native.Mathlib.Omega.{arith}
 use borrow.Author.Tests.{leb-false}
 use lib.Dec.{eqb, leb}
 use lib.ListN.{length}
-use Rattle.line.specs.Characters.{damagedAt, undamagedAll}
-use Rattle.line.specs.Runs.{every}
+use Rattle.line.specs.Characters.{damagedAt}
 use Rattle.values.specs.Registers.{goodSerial}
-use Rattle.state.specs.Sizes.{heldPlaces}
 use Rattle.state.specs.declared.Receiver.{Receiver}
 use Rattle.state.specs.declared.Registers.{Registers}
 use Rattle.state.specs.declared.Meter.{Meter}
-use Rattle.state.specs.WellFormed.{marked}
 use Rattle.state.specs.Making.{emptyReceiver}
 use Rattle.state.specs.Setting.{inMode}
-use Rattle.state.specs.Closing.{closing}
 use Rattle.receiving.specs.declared.Hearing.{Hearing}
-use Rattle.receiving.specs.declared.Hearing.the-variants.{Drop, Hold, Restart, Empty, Line, Confirm, Frame, TooLong}
+use Rattle.receiving.specs.declared.Hearing.the-variants.{Drop, Hold, Restart, Empty, Line}
 use Rattle.receiving.specs.Hearing.{listening, hearing}
-use Rattle.receiving.specs.Receivers.{lastHeld, heldText, keptReceiver, restartedReceiver}
-use Rattle.meter.specs.Outcomes.{Outcome, silent}
+use Rattle.receiving.specs.Receivers.{keptReceiver, restartedReceiver}
+use Rattle.meter.specs.Outcomes.{silent}
 use Rattle.meter.specs.SignOn.{signsOnBy, closesBy}
 use Rattle.meter.specs.Character.{symbol, signedOn, periodClosed, lineEnded, heard, taken}
 use Rattle.promises.proofs.Lines.{closes-only}
 use Rattle.whole.specs.Gathering.{filled}
 use Rattle.whole.proofs.Filled.{one-more}
-use Rattle.history.specs.Saying.{carries, since}
-use Rattle.history.specs.Standing.{Standing, standingAs, anew, saidMore, signsOn, closesPeriod} 
-use Rattle.history.specs.Standing as told
-use Rattle.history.specs.Deeds.{Deed, closed, byByte}
+use Rattle.history.specs.Saying.{carries}
+use Rattle.history.specs.Standing.{Standing, standingAs, anew, saidMore, signsOn, closesPeriod}
+use Rattle.history.specs.Deeds.{closed}
 use Rattle.history.proofs.Saying.{more}
 use Rattle.told.specs.Doing.{done, doneAll}
-use Rattle.told.proofs.Holding.{untrue, openIn, holding, Follows, symbol-carries, none-is, more-some, restarts, carries-one, nothing-held}
+use Rattle.told.proofs.Holding.{untrue, holding, Follows, symbol-carries, none-is, more-some, restarts, carries-one, nothing-held}
 use Rattle.told.proofs.Lines.{line, live-snoc, lineHeld, lineWhole, closes-is, signs-is, none-signs, none-closes}
 
 module _ (failed speed : ℕ) (said : List ℕ) (g : Registers) (b : ℕ) (good : goodSerial (g .facts .serial) ≡ true) where

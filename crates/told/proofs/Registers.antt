@@ -1,11 +1,11 @@
 -- What is told of each register, deed by deed, is what the deeds do to all of them. Assumes nothing.
 use mathlib.Core.Path.{_≡_, refl, ap, _∙_}
-use mathlib.Core.Bool.{Bool, true, false, cond}
+use mathlib.Core.Bool.{Bool, true, false}
 use mathlib.Core.List.{List, [], _∷_, _++_}
 use Rattle.clock.specs.Seconds.{nextSecond}
 use Rattle.state.specs.declared.Registers.{Registers}
 use Rattle.tariff.specs.Months.{monthStarts, monthClosed}
-use Rattle.history.specs.Frames.{Write, clock, account, row}
+use Rattle.history.specs.Frames.{clock, account, row}
 use Rattle.history.specs.Deeds.{Deed, wrote, second, energy, closed, writesOf}
 use Rattle.history.specs.Told.{accountTold, tablesTold, clockBy, clockTold, countersTold, archiveTold, registersTold}
 use Rattle.told.specs.Doing.{written, done, doneAll}

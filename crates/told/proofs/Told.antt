@@ -1,11 +1,11 @@
 -- A meter follows its history: one event, then all. Assumes nothing.
-use mathlib.Core.Path.{_≡_, refl, sym, ap, ap₂, _∙_}
-use mathlib.Core.Bool.{Bool, true, false, cond, not, _&&_, _||_}
-use mathlib.Core.List.{List, [], _∷_, _++_}
-use Prim.Native.Nat.{ℕ, zero, suc, _+_, _≤_, _<_}
+use mathlib.Core.Path.{_≡_, refl, ap}
+use mathlib.Core.Bool.{Bool, true, false, cond, _&&_}
+use mathlib.Core.List.{List, [], _∷_}
+use Prim.Native.Nat.{ℕ, _≤_}
 use native.Mathlib.Omega.{arith}
 use borrow.Author.Tests.{le-leb, lt-ltb, le-ltb, leb-true, leb-false, eqb-true, eqb-false}
-use lib.Dec.{eqb, leb, ltb}
+use lib.Dec.{eqb, leb}
 use Rattle.values.specs.Registers.{goodSerial}
 use Rattle.clock.specs.declared.Clock.{Clock}
 use Rattle.state.specs.Sizes.{replyRoom}
@@ -14,10 +14,10 @@ use Rattle.state.specs.declared.Registers.{Registers}
 use Rattle.state.specs.declared.Meter.{Meter}
 use Rattle.state.specs.WellFormed.{factoryGood, wellFormed}
 use Rattle.state.specs.Making.{meterOf}
-use Rattle.state.specs.Setting.{meterIn, inMode}
-use Rattle.state.proofs.Parts.{Formed, formed, FormedRegisters, formed-registers, FormedFacts, formed-facts}
+use Rattle.state.specs.Setting.{inMode}
+use Rattle.state.proofs.Parts.{formed, formed-registers, formed-facts}
 use Rattle.tariff.specs.Zones.{zoneIn}
-use Rattle.meter.specs.Outcomes.{Outcome, silent, saying, unheard}
+use Rattle.meter.specs.Outcomes.{silent, saying}
 use Rattle.meter.specs.Character.{taken, character}
 use Rattle.meter.specs.Events.{afterSilence, silence, tick, pulse, powerUp}
 use Rattle.meter.specs.declared.Event.{Event}
@@ -29,7 +29,7 @@ use Rattle.promises.proofs.Beginning.{new-well-formed}
 use Rattle.history.specs.Past.{happens, pastOf}
 use Rattle.history.specs.Standing.{Standing, standingAs, anew, standing}
 use Rattle.history.specs.Standing as told
-use Rattle.history.specs.Deeds.{Deed, byByte, deedsAt, deeds, writesOf}
+use Rattle.history.specs.Deeds.{byByte, deedsAt, deeds, writesOf}
 use Rattle.history.specs.Told.{accountTold, tablesTold, clockTold, countersTold, archiveTold, registersTold}
 use Rattle.told.specs.Doing.{done, doneAll}
 use Rattle.told.specs.Claims.{Told}

@@ -1,14 +1,14 @@
 -- The data of a write: the meter takes it for a write just where it is the one that the rules build. Assumes nothing.
 use mathlib.Core.Path.{_≡_, refl, sym, ap, ap₂, _∙_}
-use mathlib.Core.Bool.{Bool, true, false, cond, not, _&&_, _||_, and-false}
+use mathlib.Core.Bool.{Bool, true, false, cond, _&&_, and-false}
 use mathlib.Core.List.{List, [], _∷_, _++_}
-use Prim.Native.Nat.{ℕ, zero, suc, _+_, _-_, _≤_, _<_}
+use Prim.Native.Nat.{ℕ, suc, _+_, _-_, _≤_}
 use native.Mathlib.Omega.{arith}
 use borrow.Author.Tests.{leb-true, eqb-true}
 use lib.Dec.{eqb, leb}
-use lib.ListN.{length, getD, take, drop, length-append, length-drop}
+use lib.ListN.{length, getD, take, drop, length-drop}
 use lib.Seq.{take-suc, take-length, split-at, take-at, drop-at, drop-drop}
-use Rattle.line.proofs.Runs.{and-left, and-right, and-both}
+use Rattle.line.proofs.Runs.{and-left, and-right}
 use Rattle.text.specs.Classes.{sameText, matching}
 use Rattle.text.proofs.Matching.{same-is, same-self}
 use Rattle.clock.specs.Seconds.{realClock}
@@ -29,8 +29,7 @@ use Rattle.deciding.specs.Telling.{enclosed, inner, clockTold, accountTold, tab
 use Rattle.promises.proofs.Choices as choice
 use Rattle.promises.proofs.Verdicts.{clock-real, table-real}
 use Rattle.dialogue.proofs.Meant.{inner-is, told-clock, told-account, told-table}
-use Rattle.history.specs.Frames.{Write, clock, account, row, goodWrite, writeData, tells, inside, clockHere, accountHere, rowHere, writeOf}
-use Rattle.told.proofs.Holding.{untrue}
+use Rattle.history.specs.Frames.{clock, account, row, goodWrite, writeData, tells, inside, writeOf}
 
 -- ---- a letter with something in brackets is a text
 

@@ -4,14 +4,12 @@ use mathlib.Core.List.{List, []}
 use Prim.Native.Nat.{ℕ}
 use Rattle.clock.specs.declared.Clock.{Clock}
 use Rattle.state.specs.declared.Facts.{Facts}
-use Rattle.state.specs.declared.Registers.{Registers}
-use Rattle.state.specs.declared.Meter.{Meter}
 use Rattle.state.specs.Making.{meterOf}
 use Rattle.meter.specs.declared.Event.{Event}
 use Rattle.meter.specs.Life.{lived}
 use Rattle.history.specs.Frames.{Write}
 use Rattle.history.specs.Past.{pastOf}
-use Rattle.history.specs.Standing.{Standing, standing}
+use Rattle.history.specs.Standing.{standing}
 use Rattle.history.specs.Deeds.{Deed, deeds, writesOf}
 use Rattle.history.specs.Told.{accountTold, tablesTold, clockTold, countersTold, archiveTold}
 

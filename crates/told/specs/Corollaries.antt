@@ -8,12 +8,11 @@ use Rattle.text.specs.Classes.{sameText}
 use Rattle.clock.specs.declared.Clock.{Clock}
 use Rattle.state.specs.declared.Facts.{Facts}
 use Rattle.state.specs.declared.Registers.{Registers}
-use Rattle.state.specs.declared.Meter.{Meter}
 use Rattle.state.specs.Making.{meterOf}
 use Rattle.meter.specs.declared.Event.{Event}
 use Rattle.meter.specs.declared.Event.the-variants.{Character, Silence, Tick, Pulse, PowerUp, Unknown}
 use Rattle.meter.specs.Life.{lived}
-use Rattle.history.specs.Frames.{Write, account, tries, passwordIn, writeIn}
+use Rattle.history.specs.Frames.{account, tries, passwordIn, writeIn}
 use Rattle.history.specs.Past.{happens}
 use Rattle.history.specs.Standing.{Standing, standing, isWhole, frameBy}
 use Rattle.told.specs.Claims.{happened, writesTold}
