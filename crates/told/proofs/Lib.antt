@@ -7,4 +7,5 @@ pub mod Writes
 pub mod Framing
 pub mod Registers
 pub mod Told
+pub mod Rows
 pub mod Corollaries
