@@ -1,5 +1,5 @@
 -- Each table holds the last row that was told of it. Assumes nothing.
-use mathlib.Core.Path.{_≡_, refl, sym, ap, _∙_}
+use mathlib.Core.Path.{_≡_, refl, ap, _∙_}
 use mathlib.Core.Bool.{Bool, true, false, cond, _&&_}
 use mathlib.Core.List.{List, [], _∷_, _++_}
 use Prim.Native.Nat.{ℕ, zero, suc, _+_, _-_, _*_, _≤_}
@@ -8,7 +8,7 @@ use borrow.Author.Tests.{leb-true, eqb-true, eqb-false}
 use lib.Dec.{eqb, leb}
 use lib.ListN.{length, take, drop, replicate, length-replicate}
 use Rattle.line.proofs.Runs.{and-left, and-right, and-both}
-use Rattle.text.specs.Classes.{sameText, between}
+use Rattle.text.specs.Classes.{between}
 use Rattle.text.proofs.Writing.{length-stored}
 use Rattle.values.specs.Edition.{editionTables}
 use Rattle.values.specs.Registers.{goodTable, goodRow}
@@ -19,9 +19,9 @@ use Rattle.meter.specs.declared.Event.{Event}
 use Rattle.meter.specs.declared.Event.the-variants.{Character, Silence, Tick, Pulse, PowerUp, Unknown}
 use Rattle.promises.proofs.Choices as choice
 use Rattle.delivery.proofs.Rows.{row-here, row-apart}
-use Rattle.history.specs.Frames.{Write, clock, account, row, goodWrite, writeData, tells, dataIn, isFrame, clockHere, accountHere, rowHere, writeOf, writeIn}
-use Rattle.history.specs.Standing.{Standing, standing, isWhole, frameBy, closesPeriod}
-use Rattle.history.specs.Deeds.{Deed, closed, wroteAll, byByte, deedsAt, deeds, writesOf}
+use Rattle.history.specs.Frames.{Write, clock, account, row, goodWrite, tells, dataIn, isFrame, clockHere, accountHere, rowHere, writeOf, writeIn}
+use Rattle.history.specs.Standing.{standing, isWhole, frameBy, closesPeriod}
+use Rattle.history.specs.Deeds.{Deed, wroteAll, deedsAt, deeds, writesOf}
 use Rattle.history.specs.Told.{tablesTold}
 use Rattle.told.specs.Corollaries.{rowTold}
 
