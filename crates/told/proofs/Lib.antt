@@ -9,3 +9,4 @@ pub mod Registers
 pub mod Told
 pub mod Rows
 pub mod Corollaries
+pub mod Exactly
