@@ -57,6 +57,10 @@ uint8_t dirgemist_head_close(uint8_t *out, size_t out_length, size_t *length);
 /* The sign-on to the meter of a serial: `/?nnn nnnnnnn!` CR LF. The serial is ten digits, '0' to '9'. */
 uint8_t dirgemist_head_sign_on_to(const uint8_t *serial, size_t serial_length, uint8_t *out, size_t out_length, size_t *length);
 
+/* The sign-on on the wired link: `/Annn.nnnnnnn` CR LF. The serial is ten digits; the meter of that serial answers
+ * `/gnnn.nnnnnnn` CR LF, to ten zeros whichever is there, with its own. */
+uint8_t dirgemist_head_sign_on_wired(const uint8_t *serial, size_t serial_length, uint8_t *out, size_t out_length, size_t *length);
+
 /* The confirmation: ACK `0` speed choice CR LF. The speed is the character '0' (300 baud) or '5' (9600), the choice '0' or '7' for the data
  * block, '6' for the data block with the closed periods, '1' for a session. */
 uint8_t dirgemist_head_confirm(uint8_t speed, uint8_t choice, uint8_t *out, size_t out_length, size_t *length);

@@ -119,6 +119,7 @@ static const struct field state[] = {
     PERIOD(9),
     PERIOD(10),
     PERIOD(11),
+    STATE(NUMBER, "LINK", registers.facts.link),
 };
 
 /* ---- What a meter is made from: a row for each word of `new`. Those past NEEDED may be left out,
@@ -128,6 +129,7 @@ struct facts {
     uint8_t serial[10], account[10], password[8];
     uint16_t year;
     uint8_t month, day, hour, minute, second;
+    uint8_t edition, link, decimals;
 };
 
 #define FACT(kind, name, member) FIELD(kind, struct facts, name, member)
@@ -143,10 +145,13 @@ static const struct field facts[] = {
     FACT(NUMBER, "HOUR", hour),
     FACT(NUMBER, "MINUTE", minute),
     FACT(NUMBER, "SECOND", second),
+    FACT(NUMBER, "EDITION", edition),
+    FACT(NUMBER, "LINK", link),
+    FACT(NUMBER, "DECIMALS", decimals),
 };
 
 static struct facts usual(void) {
-    struct facts blank = {.year = 2000, .month = 1, .day = 1};
+    struct facts blank = {.year = 2000, .month = 1, .day = 1, .edition = 1, .link = 1};
     memset(blank.serial, '0', sizeof blank.serial);
     memset(blank.account, ' ', sizeof blank.account);
     memset(blank.password, '0', sizeof blank.password);
@@ -164,7 +169,7 @@ static struct dirgemist_meter *other_place(void) {
 static uint8_t make(struct dirgemist_meter *at, const struct facts *f) {
     return dirgemist_meter_make(at, f->serial, sizeof f->serial, f->account, sizeof f->account,
                                 f->password, sizeof f->password, f->year, f->month, f->day,
-                                f->hour, f->minute, f->second);
+                                f->hour, f->minute, f->second, f->edition, f->link, f->decimals);
 }
 
 static bool play_new(const struct word *words, size_t count) {

@@ -155,6 +155,7 @@ static void put_written(uint8_t answer, size_t beside, size_t length) {
 BUILD(any, dirgemist_head_sign_on(out, room, length))
 BUILD(closing, dirgemist_head_close(out, room, length))
 BUILD(serial, dirgemist_head_sign_on_to(T(1), out, room, length))
+BUILD(wired, dirgemist_head_sign_on_wired(T(1), out, room, length))
 BUILD(confirm, dirgemist_head_confirm(N(1), N(2), out, room, length))
 BUILD(readonly, dirgemist_head_enter(out, room, length))
 BUILD(password, dirgemist_head_password(T(1), out, room, length))
@@ -404,6 +405,7 @@ static const struct call calls[] = {
     {"build", "any", 1, {ROOM}, any},
     {"build", "close", 1, {ROOM}, closing},
     {"build", "serial", 2, {ROOM, TEXT}, serial},
+    {"build", "wired", 2, {ROOM, TEXT}, wired},
     {"build", "confirm", 3, {ROOM, BYTE, BYTE}, confirm},
     {"build", "readonly", 1, {ROOM}, readonly},
     {"build", "password", 2, {ROOM, TEXT}, password},

@@ -149,6 +149,7 @@ static void answered(uint8_t got, const char *text, size_t text_length) {
     } while (0)
 
 #define SIGN_ON_TO dirgemist_head_sign_on_to(field, field_length, out, room, length)
+#define SIGN_ON_WIRED dirgemist_head_sign_on_wired(field, field_length, out, room, length)
 #define PASSWORD dirgemist_head_password(field, field_length, out, room, length)
 #define WRITE_ACCOUNT dirgemist_head_write_account(field, field_length, out, room, length)
 #define WRITE_TABLE(table) dirgemist_head_write_table(table, field, field_length, out, room, length)
@@ -193,6 +194,7 @@ static void try_fields(void) {
     for (size_t size = 0; size <= 12; size++) {
         set_field("123456789012", size);
         BUILDS(size == 10 ? "/?123 4567890!\r\n" : NULL, 16, SIGN_ON_TO);
+        BUILDS(size == 10 ? "/A123.4567890\r\n" : NULL, 15, SIGN_ON_WIRED);
         BUILDS(size == 8 ? "\001P1\002(12345678)\003" : NULL, 15, PASSWORD);
         BUILDS(size == 10 ? "\001W1\002K(1234567890)\003" : NULL, 18, WRITE_ACCOUNT);
     }

@@ -5,15 +5,16 @@ use Prim.Native.Nat.{ℕ}
 use Rattle.values.specs.Registers.{goodSerial}
 use Rattle.frames.specs.Frames.{bareFrame}
 use Rattle.frames.specs.Commands.{B0}
-use Rattle.frames.specs.Session.{signOn, closingSignOn, signOnTo, confirmation, goodSpeed}
+use Rattle.frames.specs.Session.{signOn, closingSignOn, signOnTo, wiredSignOn, confirmation, goodSpeed}
 use Rattle.commands.specs.Building.{goodChoice}
 use Rattle.commands.specs.Spoken.{Command, goodFields, spoken}
 
--- the sign-on to any meter, the one that closes a period, the one to a serial, the confirmation, a command with data, B0
+-- the sign-on to any meter, the one that closes a period, the one to a serial, the one on the wired link, the confirmation, a command with data, B0
 pub data Message : Type 0 where
   call : Message
   close : Message
   callTo : List ℕ → Message
+  callWired : List ℕ → Message
   confirm : ℕ → ℕ → Message
   command : Command → Message
   leave : Message
@@ -23,6 +24,7 @@ unfoldable pub textOf : Message → List ℕ
 textOf call = signOn
 textOf close = closingSignOn
 textOf (callTo serial) = signOnTo serial
+textOf (callWired serial) = wiredSignOn serial
 textOf (confirm v y) = confirmation v y
 textOf (command c) = spoken c
 textOf leave = bareFrame B0
@@ -32,6 +34,7 @@ unfoldable pub goodMessage : ℕ → Message → Bool
 goodMessage tables call = true
 goodMessage tables close = true
 goodMessage tables (callTo serial) = goodSerial serial
+goodMessage tables (callWired serial) = goodSerial serial
 goodMessage tables (confirm v y) = goodSpeed v && goodChoice y
 goodMessage tables (command c) = goodFields tables c
 goodMessage tables leave = true

@@ -8,10 +8,10 @@ ghost use Rattle.line.specs.Quoted.{chars};
 ghost use Rattle.clock.specs.Seconds.{realClock};
 ghost use Rattle.values.specs.Edition.{editionTables, rowLength};
 ghost use Rattle.values.specs.Registers.{goodSerial, goodPassword, goodAccount, goodRow, goodTable, goodZone};
-ghost use Rattle.values.specs.Texts.{serialText, tableText, clockText};
+ghost use Rattle.values.specs.Texts.{serialText, wiredText, tableText, clockText};
 ghost use Rattle.frames.specs.Frames.{sealed, frameOf, bareFrame, onWire};
 ghost use Rattle.frames.specs.Commands.{B0, P1, R1, W1, askClock, askSerial, askAccount, askEnergy, askTable, setClock, setAccount, setTable};
-ghost use Rattle.frames.specs.Session.{signOn, closingSignOn, signOnTo, confirmation, goodSpeed, enterData, passwordData};
+ghost use Rattle.frames.specs.Session.{signOn, closingSignOn, signOnTo, wiredSignOn, confirmation, goodSpeed, enterData, passwordData};
 ghost use Rattle.commands.specs.Building.{goodChoice, Builds, Room, Small, Made};
 use clock::Clock;
 use values::TableNo;
@@ -124,6 +124,16 @@ fn shown_serial(serial: &[u8]) -> [u8; 11]
     shown
 }
 
+// The serial as the wired link has it.
+fn wired_serial(serial: &[u8]) -> [u8; 11]
+    requires { ⌜ length (now serial) ≡ 10 ⌝ }
+    ensures { λ r. ⌜ r ≡ wiredText (now (serial .entry)) ⌝ }
+{
+    let mut shown = [0u8; 11];
+    values::writing::put_wired(&mut shown, 0, serial);
+    shown
+}
+
 // The sign-on to the meter of a serial, given by its ten digits.
 pub fn sign_on_to(buf: &mut [u8], serial: &[u8]) -> Built
     ensures { λ r. ⌜ Builds (now (buf .entry)) (goodSerial (now (serial .entry))) (onWire (signOnTo (now (serial .entry)))) r (now (buf .exit)) ⌝ }
@@ -135,6 +145,19 @@ pub fn sign_on_to(buf: &mut [u8], serial: &[u8]) -> Built
         return refused();
     }
     line_of(buf, b"/?", &shown_serial(serial), b"!\r\n")
+}
+
+// The sign-on on the wired link, to the meter of a serial or, with zeros, to whichever is there.
+pub fn sign_on_wired(buf: &mut [u8], serial: &[u8]) -> Built
+    ensures { λ r. ⌜ Builds (now (buf .entry)) (goodSerial (now (serial .entry))) (onWire (wiredSignOn (now (serial .entry)))) r (now (buf .exit)) ⌝ }
+{
+    if buf.len() < ROOM {
+        return short();
+    }
+    if !values::is_digits(serial, 10) {
+        return refused();
+    }
+    line_of(buf, b"/A", &wired_serial(serial), b"\r\n")
 }
 
 // The confirmation, with the character '0' (300 baud) or '5' (9600) as speed, and with '0', '1', '6' or '7'.

@@ -19,6 +19,9 @@ use Rattle.state.specs.Sizes.{replyRoom}
 use Rattle.state.specs.declared.Registers.{Registers}
 use Rattle.state.specs.declared.Meter.{Meter}
 use Rattle.state.specs.WellFormed.{speedGood, registersGood}
+use Rattle.state.specs.Link.{linkOf, isWired}
+use Rattle.state.proofs.Parts.{rest-good, fast-good}
+use Rattle.meter.specs.Link.{identified as identifiedOn}
 use Rattle.replies.specs.Fixed.{identification, passwordAsk}
 use Rattle.replies.proofs.Good.{password-ask-is}
 use Rattle.meter.specs.Outcomes.{Outcome, saying, ack}
@@ -30,8 +33,8 @@ use Rattle.session.specs.declared.Session.{Session}
 use Rattle.session.specs.Messages.{calling, entering, workAt, messageAt}
 use Rattle.session.specs.Turns.{Turn, standing, rightWork, rightAt, answeredRight}
 use Rattle.reading.proofs.Leading.{or-cases}
-use Rattle.dialogue.specs.Messages.{allowedAt, allowedIn, triedWith, obeyed, outcomeOf}
-use Rattle.dialogue.proofs.Held.{Fit, idle}
+use Rattle.dialogue.specs.Messages.{allowedAt, allowedIn, triedWith, obeyed, outcomeOf, names, digitHeard}
+use Rattle.dialogue.proofs.Held.{Fit, idle, resting}
 use Rattle.dialogue.proofs.Dialogue.{idle-listens}
 use Rattle.conversation.specs.Conversation.{Talk, exchange, converse, asking, stopped}
 use Rattle.conversation.proofs.Right.{identified, password-asked, long-is-no-nak}
@@ -52,10 +55,10 @@ renamed x y m next j k e f r =
       after = r .after;
     })
 
--- the head calls any meter, or this one
+-- on the optical link the head calls any meter, or this one
 pub data Ours (s : Session) (g : Registers) : Type 0 where
-  any-meter : eqb (s .named) 1 ≡ false → Ours s g
-  this-meter : eqb (s .named) 1 ≡ true → goodSerial (s .serial) ≡ true
+  any-meter : isWired (g .facts .link) ≡ false → eqb (s .named) 1 ≡ false → Ours s g
+  this-meter : isWired (g .facts .link) ≡ false → eqb (s .named) 1 ≡ true → goodSerial (s .serial) ≡ true
       → (sameText (s .serial) (g .facts .serial) || sameText (s .serial) (replicate 10 48)) ≡ true → Ours s g
 
 -- the head enters by `()`, or knows the password: the mode, and the attempts, that this leads to
@@ -68,16 +71,16 @@ working s a g mode b (as-plain h) = refl
 working s a g mode b (as-known h p k l) = refl
 
 module _ (s : Session) (work : List ℕ) (a : ℕ) (g : Registers) (few : a ≤ 3) (good : registersGood g ≡ true) where
-  fit-here : (mode speed : ℕ) → mode ≤ 4 → speedGood mode speed ≡ true → Fit mode a speed g
+  fit-here : (mode speed : ℕ) → mode ≤ 4 → speedGood (g .facts .link) mode speed ≡ true → Fit mode a speed g
   fit-here mode speed h k = record { known = h; attempts = few; speed = k; registers = good }
 
   -- the sign-on
-  calls : (x : Message) → goodMessage editionTables x ≡ true → allowedIn x 0 ≡ true → outcomeOf (idle 0 a 0 g) x ≡ saying 1 0 identification (idle 1 a 0 g)
-      → Right x (idle 0 a 0 g) (idle 1 a 0 g) identifies
+  calls : (x : Message) → goodMessage editionTables x ≡ true → allowedIn x 0 ≡ true → outcomeOf (idle 0 a (resting g) g) x ≡ saying 1 (resting g) identification (idle 1 a (resting g) g)
+      → Right x (idle 0 a (resting g) g) (idle 1 a (resting g) g) identifies
   calls x h k e =
       record {
         good = h;
-        hears = idle-listens 0 a 0 g x (fit-here 0 0 (lit≤ tt) (unfold speedGood in refl)) k;
+        hears = idle-listens 0 a (resting g) g x (fit-here 0 (resting g) (lit≤ tt) (rest-good (g .facts .link) 0)) k;
         reply = identification;
         said = ap (λ (o : Outcome). o .reply) e;
         some = λ z. omega arith;
@@ -86,28 +89,28 @@ module _ (s : Session) (work : List ℕ) (a : ℕ) (g : Registers) (few : a ≤ 
         after = ap (λ (o : Outcome). o .next) e;
       }
 
-  pub right-call : Ours s g → Right (messageAt s work 1) (idle 0 a 0 g) (idle 1 a 0 g) (rightAt s work 1)
+  pub right-call : Ours s g → Right (messageAt s work 1) (idle 0 a (resting g) g) (idle 1 a (resting g) g) (rightAt s work 1)
   unfolding messageAt rightAt calling
-  right-call (any-meter h) =
+  right-call (any-meter optical h) =
       renamed call (messageAt s work 1) _ _ (rightAt s work 1) identifies (rw h) (λ r. refl)
-      (calls call (unfold goodMessage in refl) (unfold allowedIn in refl) (unfold outcomeOf in refl))
-  right-call (this-meter h k e) =
+      (calls call (unfold goodMessage in refl) (unfold allowedIn in refl) (unfold outcomeOf identifiedOn in (rw optical)))
+  right-call (this-meter optical h k e) =
       renamed (callTo (s .serial)) (messageAt s work 1) _ _ (rightAt s work 1) identifies (rw h) (λ r. refl)
-      (calls (callTo (s .serial)) (unfold goodMessage in k) (unfold allowedIn in refl) (unfold outcomeOf in (rw e)))
+      (calls (callTo (s .serial)) (unfold goodMessage in k) (unfold allowedIn in refl) (unfold outcomeOf names identifiedOn in (rw (optical, e))))
 
   -- the confirmation, at 9600 baud, for programming
-  pub right-confirm : Right (messageAt s work 2) (idle 1 a 0 g) (idle 2 a 5 g) (rightAt s work 2)
+  pub right-confirm : Right (messageAt s work 2) (idle 1 a (resting g) g) (idle 2 a 5 g) (rightAt s work 2)
   unfolding messageAt rightAt
   right-confirm =
       record {
         good = unfold goodMessage goodSpeed goodChoice in refl;
-        hears = idle-listens 1 a 0 g (confirm 53 49) (fit-here 1 0 (lit≤ tt) (unfold speedGood in refl)) (unfold allowedIn in refl);
+        hears = idle-listens 1 a (resting g) g (confirm 53 49) (fit-here 1 (resting g) (lit≤ tt) (rest-good (g .facts .link) 1)) (unfold allowedIn in refl);
         reply = passwordAsk;
-        said = unfold outcomeOf in refl;
+        said = unfold outcomeOf digitHeard in refl;
         some = λ z. omega (arith, ap length password-ask-is);
         no-nak = long-is-no-nak passwordAsk (λ z. omega (arith, ap length password-ask-is));
         right = password-asked;
-        after = unfold outcomeOf speedSaid in refl;
+        after = unfold outcomeOf digitHeard speedSaid in refl;
       }
 
   -- the password, or `()`
@@ -116,7 +119,7 @@ module _ (s : Session) (work : List ℕ) (a : ℕ) (g : Registers) (few : a ≤ 
   unfolding rightAt
   entered c next h k e is =
       renamed c (messageAt s work 3) _ _ (rightAt s work 3) accepts is (λ r. refl)
-      (acknowledged c (idle 2 a 5 g) next 5 h (idle-listens 2 a 5 g c (fit-here 2 5 (lit≤ tt) (unfold speedGood in refl)) k) e)
+      (acknowledged c (idle 2 a 5 g) next 5 h (idle-listens 2 a 5 g c (fit-here 2 5 (lit≤ tt) (fast-good (g .facts .link) 2 (lit≤ tt))) k) e)
 
   pub right-enter : (mode b : ℕ) → EntersAs s a g mode b → Right (messageAt s work 3) (idle 2 a 5 g) (idle mode b 5 g) (rightAt s work 3)
   unfolding messageAt entering goodMessage goodFields allowedIn allowedAt lettersOf sameText matching outcomeOf obeyed triedWith
@@ -125,17 +128,17 @@ module _ (s : Session) (work : List ℕ) (a : ℕ) (g : Registers) (few : a ≤ 
       entered (command (password (s .password))) (idle 4 0 5 g) p refl (rw (ne-eqb a 3 (λ e. omega arith), k, same-self (g .facts .password))) (rw h)
 
   -- B0
-  pub right-leaving : (mode n : ℕ) → (eqb mode 3 || eqb mode 4) ≡ true → s .count + 4 ≤ n → Right (messageAt s work n) (idle mode a 5 g) (idle 0 a 0 g) (rightAt s work n)
+  pub right-leaving : (mode n : ℕ) → (eqb mode 3 || eqb mode 4) ≡ true → s .count + 4 ≤ n → Right (messageAt s work n) (idle mode a 5 g) (idle 0 a (resting g) g) (rightAt s work n)
   right-leaving mode n k low =
-      let three : Right leave (idle 3 a 5 g) (idle 0 a 0 g) accepts = leaves 3 (lit≤ tt) (unfold speedGood in refl) (unfold allowedIn in refl) in
-      let four : Right leave (idle 4 a 5 g) (idle 0 a 0 g) accepts = leaves 4 (lit≤ tt) (unfold speedGood in refl) (unfold allowedIn in refl) in
+      let three : Right leave (idle 3 a 5 g) (idle 0 a (resting g) g) accepts = leaves 3 (lit≤ tt) (fast-good (g .facts .link) 3 (lit≤ tt)) (unfold allowedIn in refl) in
+      let four : Right leave (idle 4 a 5 g) (idle 0 a (resting g) g) accepts = leaves 4 (lit≤ tt) (fast-good (g .facts .link) 4 (lit≤ tt)) (unfold allowedIn in refl) in
       renamed leave (messageAt s work n) (idle mode a 5 g) _ (rightAt s work n) accepts (message-leave s work n low) (right-leave s work n low)
-      (⊎-elim (λ e. subst (λ (i : ℕ). Right leave (idle i a 5 g) (idle 0 a 0 g) accepts) (sym (eqb-true mode 3 e)) three)
-      (λ e. subst (λ (i : ℕ). Right leave (idle i a 5 g) (idle 0 a 0 g) accepts) (sym (eqb-true mode 4 e)) four) (or-cases (eqb mode 3) (eqb mode 4) k))
+      (⊎-elim (λ e. subst (λ (i : ℕ). Right leave (idle i a 5 g) (idle 0 a (resting g) g) accepts) (sym (eqb-true mode 3 e)) three)
+      (λ e. subst (λ (i : ℕ). Right leave (idle i a 5 g) (idle 0 a (resting g) g) accepts) (sym (eqb-true mode 4 e)) four) (or-cases (eqb mode 3) (eqb mode 4) k))
     where
-      leaves : (i : ℕ) → i ≤ 4 → speedGood i 5 ≡ true → allowedIn leave i ≡ true → Right leave (idle i a 5 g) (idle 0 a 0 g) accepts
+      leaves : (i : ℕ) → i ≤ 4 → speedGood (g .facts .link) i 5 ≡ true → allowedIn leave i ≡ true → Right leave (idle i a 5 g) (idle 0 a (resting g) g) accepts
       leaves i h k l =
-          acknowledged leave (idle i a 5 g) (idle 0 a 0 g) 5 (unfold goodMessage in refl) (idle-listens i a 5 g leave (fit-here i 5 h k) l) (unfold outcomeOf in refl)
+          acknowledged leave (idle i a 5 g) (idle 0 a (resting g) g) 5 (unfold goodMessage in refl) (idle-listens i a 5 g leave (fit-here i 5 h k) l) (unfold outcomeOf in refl)
 
 -- ---- some messages, one after the other
 
@@ -175,10 +178,22 @@ module _ (s : Session) (work : List ℕ) (sound : Sound s) (at : ℕ → Meter) 
 
 -- the meter before each message, by how many exchanges there were: g i are its registers after i messages of work
 unfoldable pub stage : ℕ → ℕ → ℕ → ℕ → (ℕ → Registers) → ℕ → Meter
-stage count a mode b g zero = idle 0 a 0 (g 0)
-stage count a mode b g (suc zero) = idle 1 a 0 (g 0)
+stage count a mode b g zero = idle 0 a (resting (g 0)) (g 0)
+stage count a mode b g (suc zero) = idle 1 a (resting (g 0)) (g 0)
 stage count a mode b g (suc (suc zero)) = idle 2 a 5 (g 0)
-stage count a mode b g (suc (suc (suc i))) = cond (leb i count) (idle mode b 5 (g i)) (idle 0 b 0 (g count))
+stage count a mode b g (suc (suc (suc i))) = cond (leb i count) (idle mode b 5 (g i)) (idle 0 b (resting (g count)) (g count))
+
+-- on one link throughout
+pub stage-optical : (count a mode b : ℕ) (g : ℕ → Registers) → ((i : ℕ) → isWired (g i .facts .link) ≡ false) → (k : ℕ) → isWired (linkOf (stage count a mode b g k)) ≡ false
+unfolding stage
+stage-optical count a mode b g h zero = h 0
+stage-optical count a mode b g h (suc zero) = h 0
+stage-optical count a mode b g h (suc (suc zero)) = h 0
+stage-optical count a mode b g h (suc (suc (suc i))) = either (leb i count)
+  where
+    either : (p : Bool) → isWired (linkOf (cond p (idle mode b 5 (g i)) (idle 0 b (resting (g count)) (g count)))) ≡ false
+    either true = h i
+    either false = h count
 
 -- what a session that goes well stands on
 pub record Goes (s : Session) (work : List ℕ) (a mode b : ℕ) (g : ℕ → Registers) : Type 0 where
@@ -186,6 +201,7 @@ pub record Goes (s : Session) (work : List ℕ) (a mode b : ℕ) (g : ℕ → Re
   pub few : a ≤ 3
   pub fewer : b ≤ 3
   pub good : (i : ℕ) → i ≤ s .count → registersGood (g i) ≡ true
+  pub optical : (i : ℕ) → isWired (g i .facts .link) ≡ false
   pub ours : Ours s (g 0)
   pub enters : EntersAs s a (g 0) mode b
   pub works : (i : ℕ) → i < s .count → Right (command (workAt s work i)) (idle mode b 5 (g i)) (idle mode b 5 (g (suc i))) (rightWork s work i)
@@ -198,7 +214,7 @@ module _ (s : Session) (work : List ℕ) (a mode b : ℕ) (g : ℕ → Registers
   unfolding stage
   at-working i h = rw (le-leb i (s .count) h)
 
-  pub at-end : (i : ℕ) → s .count < i → at (suc (suc (suc i))) ≡ idle 0 b 0 (g (s .count))
+  pub at-end : (i : ℕ) → s .count < i → at (suc (suc (suc i))) ≡ idle 0 b (resting (g (s .count))) (g (s .count))
   unfolding stage
   at-end i h = rw (lt-leb i (s .count) h)
 
@@ -233,7 +249,7 @@ module _ (s : Session) (work : List ℕ) (a mode b : ℕ) (g : ℕ → Registers
         talks s work (goes .sound) at (s .count + 3) (omega arith) rights (right-at (s .count + 3) (omega arith) .good) rooms large buffers long k (omega arith)
 
     -- done after the last, and the meter listens again
-    pub course-ends : course (s .count + 4) ≡ record { turn = stopped s (s .count + 4) 1; meter = idle 0 b 0 (g (s .count)) }
+    pub course-ends : course (s .count + 4) ≡ record { turn = stopped s (s .count + 4) 1; meter = idle 0 b (resting (g (s .count))) (g (s .count)) }
     course-ends =
         let k = s .count + 3 in
         let n : k + 1 ≡ s .count + 4 = omega arith in

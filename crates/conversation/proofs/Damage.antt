@@ -19,7 +19,9 @@ use Rattle.values.specs.Edition.{editionTables}
 use Rattle.values.specs.Registers.{goodTable}
 use Rattle.frames.specs.Frames.{onWire}
 use Rattle.state.specs.Sizes.{replyRoom, tables, heldPlaces}
+use Rattle.state.specs.declared.Registers.{Registers}
 use Rattle.state.specs.declared.Meter.{Meter}
+use Rattle.state.specs.Link.{linkOf, isWired}
 use Rattle.state.specs.WellFormed.{wellFormed, marked}
 use Rattle.replies.specs.Fixed.{refused}
 use Rattle.receiving.specs.declared.Hearing.{Hearing}
@@ -53,16 +55,16 @@ module _ (m : Meter) (c : ℕ) (d : Bool) where
   unfolding lineEnded
   line-stays z =
       choice.either Stays (marked (m .receiver)) (λ e. (sym z, refl))
-      (choice.either Stays (signsOnBy (heldText (m .receiver)) (m .registers .facts .serial)) (λ e. absurd (omega arith))
-      (choice.either Stays (closesBy (heldText (m .receiver))) (λ e. absurd (omega arith)) (λ e. (sym z, refl))))
+      (choice.either Stays (signsOnBy (linkOf m) (heldText (m .receiver)) (m .registers .facts .serial)) (λ e. absurd (omega arith))
+      (choice.either Stays (closesBy (linkOf m) (heldText (m .receiver))) (λ e. absurd (omega arith)) (λ e. (sym z, refl))))
 
   confirmed-stays : Stays (confirmed m c d)
   unfolding confirmed
   confirmed-stays =
       choice.either Stays (marked (m .receiver) || d) (λ e. absurd (omega arith))
-      (choice.either Stays (wantsBlock (heldText (m .receiver)) c) (λ e. absurd (omega arith))
-      (choice.either Stays (wantsPeriods (heldText (m .receiver)) c) (λ e. absurd (omega arith))
-      (choice.either Stays (wantsProgram (heldText (m .receiver)) c) (λ e. absurd (omega arith)) (λ e. absurd (omega arith)))))
+      (choice.either Stays (wantsBlock (linkOf m) (heldText (m .receiver)) c) (λ e. absurd (omega arith))
+      (choice.either Stays (wantsPeriods (linkOf m) (heldText (m .receiver)) c) (λ e. absurd (omega arith))
+      (choice.either Stays (wantsProgram (linkOf m) (heldText (m .receiver)) c) (λ e. absurd (omega arith)) (λ e. absurd (omega arith)))))
 
   tried-stays : Stays (tried m)
   unfolding tried
@@ -172,16 +174,20 @@ unfolding calm
 calm-still mode other c k h =
     and-both (leb c 127) (not (stray other c)) (and-left (leb c 127) (not (stray mode c)) h) (rw (k (not-true (stray mode c) (and-right (leb c 127) (not (stray mode c)) h))))
 
-pub rest-spared : (ys : List ℕ) (z : ℕ) (m : Meter) → wellFormed m ≡ true → Spoilt m → every (calm (m .mode)) ys ≡ true → Spared m (onWire (ys ++ (z ∷ [])))
+-- registers that are as they were have the same link
+same-link : (m next : Meter) → next .registers ≡ m .registers → isWired (linkOf m) ≡ false → isWired (linkOf next) ≡ false
+same-link m next e optical = ap (λ (g : Registers). isWired (g .facts .link)) e ∙ optical
+
+pub rest-spared : (ys : List ℕ) (z : ℕ) (m : Meter) → wellFormed m ≡ true → isWired (linkOf m) ≡ false → Spoilt m → every (calm (m .mode)) ys ≡ true → Spared m (onWire (ys ++ (z ∷ [])))
 unfolding every
-rest-spared [] z m f s h = spared-next m (sent z) (symbol (sent z)) [] (spoilt-quiet m f (sent z) s) (spared-none (character m replyRoom (sent z) .next))
-rest-spared (y ∷ ys) z m f s h =
-    let q = spoilt-quiet m f (sent y) s in
+rest-spared [] z m f o s h = spared-next m (sent z) (symbol (sent z)) [] (spoilt-quiet m f o (sent z) s) (spared-none (character m replyRoom (sent z) .next))
+rest-spared (y ∷ ys) z m f o s h =
+    let q = spoilt-quiet m f o (sent y) s in
     let next = character m replyRoom (sent y) .next in
     let first = and-left (calm (m .mode) y) (every (calm (m .mode)) ys) h in
     let rest = and-right (calm (m .mode) y) (every (calm (m .mode)) ys) h in
     spared-next m (sent y) (symbol (sent y)) (onWire (ys ++ (z ∷ []))) q
-    (rest-spared ys z next (character-stays m f replyRoom (sent y)) (q .spoilt (calm-not (m .mode) y first))
+    (rest-spared ys z next (character-stays m f replyRoom (sent y)) (same-link m next (q .registers) o) (q .spoilt (calm-not (m .mode) y first))
     (every-weaker (calm (m .mode)) (calm (next .mode)) (λ x. calm-still (m .mode) (next .mode) x (q .modes x)) ys rest))
 
 -- ---- the whole message
@@ -209,12 +215,12 @@ unfolding stray
 stray-zero mode = rw (and-false (leb 2 mode), and-false (leb mode 2))
 
 -- behind a damaged byte
-module _ (m : Meter) (f : wellFormed m ≡ true) (b : ℕ) (d : damagedAt b ≡ true) where
+module _ (m : Meter) (f : wellFormed m ≡ true) (optical : isWired (linkOf m) ≡ false) (b : ℕ) (d : damagedAt b ≡ true) where
   abbrev hurt : Outcome
   hurt = character m replyRoom b
 
   hurt-quiet : Quiet m (symbol b) hurt
-  hurt-quiet = damaged-quiet m f b d
+  hurt-quiet = damaged-quiet m f optical b d
 
   is-zero : symbol b ≡ 0
   unfolding symbol
@@ -232,7 +238,7 @@ module _ (m : Meter) (f : wellFormed m ≡ true) (b : ℕ) (d : damagedAt b ≡ 
       inner : j ≤ length (s .inside) → Spared (hurt .next) (onWire (drop j (s .inside ++ (s .last ∷ []))))
       inner h =
           subst (λ (t : List ℕ). Spared (hurt .next) (onWire t)) (sym (drop-append-le j (s .inside) (s .last ∷ []) h))
-          (rest-spared (drop j (s .inside)) (s .last) (hurt .next) (character-stays m f replyRoom b) hurt-spoilt
+          (rest-spared (drop j (s .inside)) (s .last) (hurt .next) (character-stays m f replyRoom b) (same-link m (hurt .next) (hurt-quiet .registers) optical) hurt-spoilt
           (every-weaker (calm (m .mode)) (calm (hurt .next .mode)) (λ x. calm-still (m .mode) (hurt .next .mode) x (hurt-quiet .modes x)) (drop j (s .inside))
           (every-drop (calm (m .mode)) j (s .inside) (s .opens-none))))
 
@@ -252,7 +258,7 @@ pub record Unheeded (m : Meter) (rooms : ℕ → ℕ) (bytes : List ℕ) : Type 
   pub attempts : left m rooms bytes .attempts ≡ m .attempts
   pub reply : (replyTo m rooms bytes ≡ []) ⊎ (replyTo m rooms bytes ≡ refused)
 
-module _ (m : Meter) (x : Message) (good : goodMessage editionTables x ≡ true) (l : Listens m x) (s : Shape (m .mode) (textOf x))
+module _ (m : Meter) (x : Message) (good : goodMessage editionTables x ≡ true) (l : Listens m x) (optical : isWired (linkOf m) ≡ false) (s : Shape (m .mode) (textOf x))
     (j b : ℕ) (there : j < length (textOf x)) (d : damagedAt b ≡ true) where
   abbrev wire : List ℕ
   wire = onWire (textOf x)
@@ -273,7 +279,7 @@ module _ (m : Meter) (x : Message) (good : goodMessage editionTables x ≡ true)
       (omega (arith, wire-long, length-take-le j wire (omega (arith, wire-long))))
 
   after : Spared mid (b ∷ drop (suc j) wire)
-  after = hurt-spared mid (before .formed) b d (textOf x) (subst (λ (mode : ℕ). Shape mode (textOf x)) (sym (before .mode)) s) j
+  after = hurt-spared mid (before .formed) (same-link m mid (before .registers) optical) b d (textOf x) (subst (λ (mode : ℕ). Shape mode (textOf x)) (sym (before .mode)) s) j
 
   abbrev bytes : List ℕ
   bytes = pre ++ (b ∷ drop (suc j) wire)

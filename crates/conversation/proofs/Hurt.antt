@@ -136,7 +136,7 @@ module _ (t : Told) (work : List ℕ) (room : ℕ) (o : Opening) (opens : Opens 
       let text : here .turn .text ≡ textOf x = ap (λ (u : Turn). u .text) (st .going k h) in
       let listens = st .heard k h in
       let un =
-      unheeded (here .meter) x (st .built k h) listens (shaped (here .meter .mode) x (st .built k h) (listens .allowed)) j b (subst (λ (l : List ℕ). j < length l) text there) d
+      unheeded (here .meter) x (st .built k h) listens (st .optical k h) (shaped (here .meter .mode) x (st .built k h) (listens .allowed)) j b (subst (λ (l : List ℕ). j < length l) text there) d
       (rooms k) (roomy .replies k)
       in
       let bytes : set (onWire (here .turn .text)) j b ≡ set (onWire (textOf x)) j b = ap (λ (l : List ℕ). set (onWire l) j b) text in

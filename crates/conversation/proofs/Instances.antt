@@ -12,6 +12,7 @@ use Rattle.text.specs.Writing.{holding}
 use Rattle.frames.specs.Frames.{onWire}
 use Rattle.state.specs.Sizes.{replyRoom}
 use Rattle.state.specs.Making.{blankMeter}
+use Rattle.state.specs.Link.{isWired}
 use Rattle.promises.proofs.Beginning.{blank-well-formed}
 use Rattle.session.specs.declared.Started.{Started}
 use Rattle.session.specs.declared.Step.{Step}
@@ -40,7 +41,7 @@ turn-sends u buf r after e h = ap₂ (λ (y : Step) (l : List ℕ). take (y .len
 -- ---- a blank meter, asked for its account
 
 blank-waits : Waits blankMeter
-blank-waits = record { formed = blank-well-formed; listening = refl; empty = refl }
+blank-waits = record { formed = blank-well-formed; optical = unfold isWired in refl; listening = refl; empty = refl }
 
 abbrev told : Told
 told = toldOf 0 [] 0 [] 0

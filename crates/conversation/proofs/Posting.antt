@@ -1,6 +1,6 @@
 -- A post that goes well: each line is a table write that the meter acknowledges, and the tables hold the posted rows. Assumes nothing.
 use mathlib.Core.Path.{_≡_, refl, sym, ap, ap₂, subst, _∙_}
-use mathlib.Core.Bool.{true}
+use mathlib.Core.Bool.{true, false}
 use mathlib.Core.List.{List, [], _∷_}
 use Prim.Native.Nat.{ℕ, zero, suc, _+_, _*_, _≤_, _<_}
 use native.Mathlib.Omega.{arith}
@@ -20,9 +20,10 @@ use Rattle.values.proofs.RoundTrip.{table-reads-back}
 use Rattle.state.specs.Sizes.{tables, rowLength}
 use Rattle.state.specs.declared.Registers.{Registers}
 use Rattle.state.specs.declared.Meter.{Meter}
-use Rattle.state.specs.WellFormed.{speedGood, tablesGood, registersGood}
+use Rattle.state.specs.WellFormed.{tablesGood, registersGood}
+use Rattle.state.specs.Link.{isWired}
 use Rattle.state.specs.Setting.{rowStart, withRow, withTables, withAttempts}
-use Rattle.state.proofs.Parts.{formed, formed-registers, registers-good, long}
+use Rattle.state.proofs.Parts.{formed, formed-registers, registers-good, long, fast-good}
 use Rattle.replies.specs.Shown.{rowOf}
 use Rattle.commands.specs.Spoken.{writeTable, goodFields, lettersOf}
 use Rattle.commands.specs.Messages.{command, goodMessage}
@@ -35,7 +36,7 @@ use Rattle.session.specs.Messages.{wholeLine, rowIn, rowAt, workAt}
 use Rattle.session.specs.Starting.{Told, Opening, Opens, sessionOf}
 use Rattle.session.specs.Turns.{rightWork}
 use Rattle.dialogue.specs.Messages.{allowedAt, allowedIn, obeyed, outcomeOf}
-use Rattle.dialogue.proofs.Held.{Fit, idle}
+use Rattle.dialogue.proofs.Held.{Fit, resting, idle}
 use Rattle.dialogue.proofs.Dialogue.{idle-listens}
 use Rattle.delivery.specs.Acknowledged.{rowsAfter, deliveredTo}
 use Rattle.delivery.proofs.Rows.{tables-stay-good, others-kept, named-held}
@@ -136,8 +137,8 @@ judged-so : (t : Told) (count : ℕ) (work : List ℕ) (i : ℕ) → t .kind ≡
 unfolding rightWork sessionOf
 judged-so t count work i kind reply = rw kind
 
-module _ (t : Told) (work : List ℕ) (o : Opening) (p : PostBegan t work o) (kind : t .kind ≡ 1) (a : ℕ) (g : Registers) (few : a ≤ 3) (good : registersGood g ≡ true)
-    (calls : Calls t (idle 0 a 0 g)) (enters : EntersAs (sessionOf t (length (p .is-post .entries))) a g 4 0) where
+module _ (t : Told) (work : List ℕ) (o : Opening) (p : PostBegan t work o) (kind : t .kind ≡ 1) (a : ℕ) (g : Registers) (few : a ≤ 3) (good : registersGood g ≡ true) (optical : isWired (g .facts .link) ≡ false)
+    (calls : Calls t (idle 0 a (resting g) g)) (enters : EntersAs (sessionOf t (length (p .is-post .entries))) a g 4 0) where
   abbrev es : List Entry
   es = p .is-post .entries
 
@@ -145,7 +146,7 @@ module _ (t : Told) (work : List ℕ) (o : Opening) (p : PostBegan t work o) (ki
   s = sessionOf t (length es)
 
   abbrev m : Meter
-  m = idle 0 a 0 g
+  m = idle 0 a (resting g) g
 
   rise : rising tables 0 es ≡ true
   rise = good-rising tables es (p .is-post .good)
@@ -161,7 +162,7 @@ module _ (t : Told) (work : List ℕ) (o : Opening) (p : PostBegan t work o) (ki
       (record { facts = f .facts; account = f .account; clock = f .clock; counters = f .counters; tables = after-good (g .tables) 0 es i rise (f .tables); archive = f .archive })
 
   fit-with : (i : ℕ) → Fit 4 0 5 (with-lines i)
-  fit-with i = record { known = lit≤ tt; attempts = lit≤ tt; speed = unfold speedGood in refl; registers = with-good i }
+  fit-with i = record { known = lit≤ tt; attempts = lit≤ tt; speed = fast-good (g .facts .link) 4 (lit≤ tt); registers = with-good i }
 
   is-write : (i : ℕ) → i < length es → workAt s work i ≡ writeTable (nth es i .number) (nth es i .row)
   unfolding rowAt
@@ -196,7 +197,8 @@ module _ (t : Told) (work : List ℕ) (o : Opening) (p : PostBegan t work o) (ki
         few = few;
         fewer = lit≤ tt;
         good = λ i h. with-good i;
-        ours = ours t (length es) o (p .began) m calls;
+        optical = λ i. optical;
+        ours = ours t (length es) o (p .began) m optical calls;
         enters = enters;
         works = λ i h. right-line i (omega (arith, counted));
       }
@@ -205,7 +207,7 @@ module _ (t : Told) (work : List ℕ) (o : Opening) (p : PostBegan t work o) (ki
     post-stops : Stops t work o m rooms buffers (length es + 4) 1 (withAttempts (deliveredTo m es) 0)
     unfolding rowsAfter
     post-stops =
-        subst (λ (l : List Entry). Stops t work o m rooms buffers (length es + 4) 1 (idle 0 0 0 (withTables g (rowsAfter (g .tables) l)))) (take-length es)
+        subst (λ (l : List Entry). Stops t work o m rooms buffers (length es + 4) 1 (idle 0 0 (resting g) (withTables g (rowsAfter (g .tables) l)))) (take-length es)
         (all-done t work o (length es) (p .began) a 4 0 with-lines goes rooms buffers roomy)
 
     so-far : (i : ℕ) → i ≤ length es → talkOf t work o m rooms buffers (i + 3) .meter .registers ≡ with-lines i
@@ -236,7 +238,7 @@ post-done t work room o opens one kind m w calls enters rooms buffers roomy =
     let e = waits-is m w in
     let p = post-began t work room o opens one kind in
     subst (λ (x : Meter). PostDone t work o x rooms buffers) (sym e)
-    (post-so t work o p kind (m .attempts) (m .registers) (f .attempts) (f .registers) (subst (Calls t) e calls) (knowing-it p enters) rooms buffers roomy (long m (w .formed) .tables))
+    (post-so t work o p kind (m .attempts) (m .registers) (f .attempts) (f .registers) (w .optical) (subst (Calls t) e calls) (knowing-it p enters) rooms buffers roomy (long m (w .formed) .tables))
   where
     knowing-it : (p : PostBegan t work o) → Enters t m → EntersAs (sessionOf t (length (p .is-post .entries))) (m .attempts) (m .registers) 4 0
     knowing-it p (plainly h) = absurd (omega (arith, h, p .access))

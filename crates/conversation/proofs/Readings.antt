@@ -1,6 +1,6 @@
 -- Reads that go well: each is answered with its block, which reads back, and the meter is as it was. Assumes nothing.
 use mathlib.Core.Path.{_≡_, refl, sym, ap, ap₂, subst, _∙_}
-use mathlib.Core.Bool.{true, _||_}
+use mathlib.Core.Bool.{true, false, _||_}
 use mathlib.Core.List.{List}
 use Prim.Native.Nat.{ℕ, suc, _+_, _*_, _/_, _≤_, _<_}
 use native.Mathlib.Omega.{arith}
@@ -11,6 +11,7 @@ use Rattle.frames.specs.Frames.{blockOf, onWire}
 use Rattle.state.specs.declared.Registers.{Registers}
 use Rattle.state.specs.declared.Meter.{Meter}
 use Rattle.state.specs.WellFormed.{registersGood}
+use Rattle.state.specs.Link.{isWired}
 use Rattle.state.specs.Setting.{withAttempts}
 use Rattle.state.proofs.Parts.{formed}
 use Rattle.replies.specs.Answers.{askedData}
@@ -23,7 +24,7 @@ use Rattle.session.specs.Messages.{readAt, workAt, messageAt}
 use Rattle.session.specs.Starting.{Told, Opening, Opens, sessionOf}
 use Rattle.session.specs.Turns.{rightRead, rightWork}
 use Rattle.dialogue.specs.Messages.{allowedIn, outcomeOf}
-use Rattle.dialogue.proofs.Held.{Fit, idle, idle-formed}
+use Rattle.dialogue.proofs.Held.{Fit, resting, idle, idle-formed}
 use Rattle.dialogue.proofs.Dialogue.{idle-listens}
 use Rattle.readback.proofs.Blocks.{block-long}
 use Rattle.recital.proofs.Recital.{answer-block-reads-back}
@@ -68,8 +69,8 @@ module _ (work : List ℕ) (i mode b : ℕ) (g : Registers) (fit : Fit mode b 5 
 
 -- ---- all reads
 
-module _ (t : Told) (work : List ℕ) (o : Opening) (r : ReadsBegan t work o) (kind : t .kind ≡ 0) (a : ℕ) (g : Registers) (few : a ≤ 3) (good : registersGood g ≡ true)
-    (calls : Calls t (idle 0 a 0 g)) (enters : Enters t (idle 0 a 0 g)) where
+module _ (t : Told) (work : List ℕ) (o : Opening) (r : ReadsBegan t work o) (kind : t .kind ≡ 0) (a : ℕ) (g : Registers) (few : a ≤ 3) (good : registersGood g ≡ true) (optical : isWired (g .facts .link) ≡ false)
+    (calls : Calls t (idle 0 a (resting g) g)) (enters : Enters t (idle 0 a (resting g) g)) where
   abbrev count : ℕ
   count = length work / 2
 
@@ -77,7 +78,7 @@ module _ (t : Told) (work : List ℕ) (o : Opening) (r : ReadsBegan t work o) (k
   s = sessionOf t count
 
   abbrev m : Meter
-  m = idle 0 a 0 g
+  m = idle 0 a (resting g) g
 
   abbrev e : Entered t count o (r .began) m
   e = entered t count o (r .began) m enters
@@ -109,7 +110,8 @@ module _ (t : Told) (work : List ℕ) (o : Opening) (r : ReadsBegan t work o) (k
         few = few;
         fewer = fit-work .attempts;
         good = λ i h. good;
-        ours = ours t count o (r .began) m calls;
+        optical = λ i. optical;
+        ours = ours t count o (r .began) m optical calls;
         enters = e .as-said;
         works = λ i h.
             renamed (command (readAt work i)) (command (workAt s work i)) _ _ (rightWork s work i) (rightRead (getD work (i * 2) 0) (getD work (i * 2 + 1) 0))
@@ -161,5 +163,5 @@ reads-done t work room o opens one kind m w calls enters rooms buffers roomy =
     let f = formed m (w .formed) in
     let e = waits-is m w in
     subst (λ (x : Meter). ReadsDone t work o x rooms buffers) (sym e)
-    (reads-so t work o (reads-began t work room o opens one kind) kind (m .attempts) (m .registers) (f .attempts) (f .registers)
+    (reads-so t work o (reads-began t work room o opens one kind) kind (m .attempts) (m .registers) (f .attempts) (f .registers) (w .optical)
     (subst (Calls t) e calls) (subst (Enters t) e enters) rooms buffers roomy)

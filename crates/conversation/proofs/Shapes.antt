@@ -15,14 +15,14 @@ use Rattle.text.specs.Classes.{between, isDigit, isPrintable, matching, sameTex
 use Rattle.text.proofs.Decimal.{digit-high}
 use Rattle.values.specs.Edition.{editionTables}
 use Rattle.values.specs.Registers.{goodDigits, goodSerial}
-use Rattle.values.specs.Texts.{serialText}
+use Rattle.values.specs.Texts.{parted, serialText, wiredText}
 use Rattle.frames.specs.Frames.{closed, frameOf, bareFrame}
 use Rattle.frames.specs.Commands.{bracketed}
-use Rattle.frames.specs.Session.{signOn, closingSignOn, signOnTo, confirmation, goodSpeed, enterData, passwordData}
+use Rattle.frames.specs.Session.{signOn, closingSignOn, signOnTo, wiredLine, wiredSignOn, confirmation, goodSpeed, enterData, passwordData}
 use Rattle.datasets.proofs.Characters.{Within, within}
 use Rattle.commands.specs.Building.{goodChoice}
 use Rattle.commands.specs.Spoken.{Command, enter, password, readClock, readSerial, readAccount, readTotal, readZone, readTable, writeClock, writeAccount, writeTable, goodFields, lettersOf, dataOf, spoken}
-use Rattle.commands.specs.Messages.{Message, call, close, callTo, confirm, command, leave, textOf, goodMessage}
+use Rattle.commands.specs.Messages.{Message, call, close, callTo, callWired, confirm, command, leave, textOf, goodMessage}
 use Rattle.dialogue.specs.Messages.{allowedAt, allowedIn}
 use Rattle.dialogue.proofs.Commands.{bodyOf}
 use Rattle.readback.proofs.Commands.{command-printable, letters-printable}
@@ -66,17 +66,32 @@ digits-mild n s h = every-weaker isDigit mild digit-mild s (and-right (eqb (leng
 
 -- ---- the sign-on and the confirmation
 
+parted-mild : (x : ℕ) (s : List ℕ) → mild x ≡ true → goodSerial s ≡ true → every mild (parted x s) ≡ true
+unfolding every
+parted-mild x s k h =
+    let digits = digits-mild 10 s h in
+    every-append mild (take 3 s) (x ∷ drop 3 s) (every-take mild 3 s digits) (rw k (every-drop mild 3 s digits))
+
 shape-to : (mode : ℕ) (s : List ℕ) → goodSerial s ≡ true → Shape mode (signOnTo s)
 unfolding signOnTo serialText every mild
 shape-to mode s h =
-    let digits = digits-mild 10 s h in
     record {
       first = 47;
       inside = 63 ∷ (serialText s ++ (33 ∷ 13 ∷ []));
       last = 10;
       is = ap (λ (l : List ℕ). 47 ∷ 63 ∷ l) (sym (append-assoc (serialText s) (33 ∷ 13 ∷ []) (10 ∷ [])));
-      opens-none = all-mild mode (63 ∷ (serialText s ++ (33 ∷ 13 ∷ [])))
-          (every-append mild (serialText s) (33 ∷ 13 ∷ []) (every-append mild (take 3 s) (32 ∷ drop 3 s) (every-take mild 3 s digits) (every-drop mild 3 s digits)) refl);
+      opens-none = all-mild mode (63 ∷ (serialText s ++ (33 ∷ 13 ∷ []))) (every-append mild (serialText s) (33 ∷ 13 ∷ []) (parted-mild 32 s refl h) refl);
+    }
+
+shape-wired : (mode : ℕ) (s : List ℕ) → goodSerial s ≡ true → Shape mode (wiredSignOn s)
+unfolding wiredLine wiredText every mild
+shape-wired mode s h =
+    record {
+      first = 47;
+      inside = 65 ∷ (wiredText s ++ (13 ∷ []));
+      last = 10;
+      is = ap (λ (l : List ℕ). 47 ∷ 65 ∷ l) (sym (append-assoc (wiredText s) (13 ∷ []) (10 ∷ [])));
+      opens-none = all-mild mode (65 ∷ (wiredText s ++ (13 ∷ []))) (every-append mild (wiredText s) (13 ∷ []) (parted-mild 46 s refl h) refl);
     }
 
 equal-mild : (c n : ℕ) → mild n ≡ true → eqb c n ≡ true → mild c ≡ true
@@ -165,6 +180,7 @@ shaped mode close h k =
     unfold closingSignOn in
     (record { first = 47; inside = 67 ∷ 33 ∷ 13 ∷ []; last = 10; is = refl; opens-none = all-mild mode (67 ∷ 33 ∷ 13 ∷ []) (unfold every mild in refl) })
 shaped mode (callTo s) h k = shape-to mode s h
+shaped mode (callWired s) h k = shape-wired mode s h
 shaped mode (confirm v y) h k = shape-confirm mode v y (and-left (goodSpeed v) (goodChoice y) h) (and-right (goodSpeed v) (goodChoice y) h)
 shaped mode (command c) h k = shape-command mode c h k
 shaped mode leave h k =

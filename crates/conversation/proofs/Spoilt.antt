@@ -18,7 +18,9 @@ use Rattle.receiving.specs.declared.Hearing.the-variants.{Drop, Hold, Restart, 
 use Rattle.receiving.specs.Hearing.{hearing, listening, confirming, framing}
 use Rattle.receiving.specs.Receivers.{lastHeld}
 use Rattle.deciding.specs.Verdict.{verdict}
-use Rattle.meter.specs.Outcomes.{Outcome, atPlace, fallen, nak}
+use Rattle.state.specs.Link.{linkOf, isWired}
+use Rattle.meter.specs.Link.{refusedReply, afterRefusal}
+use Rattle.meter.specs.Outcomes.{Outcome, atPlace, nak}
 use Rattle.meter.specs.Acting.{acted}
 use Rattle.meter.specs.Character.{symbol, lineEnded, confirmed, heard, taken, character}
 use Rattle.promises.proofs.Choices as choice
@@ -57,7 +59,7 @@ falls mode x low h = second (leb 2 mode && eqb x 1) (eqb x 47) (rw (le-leb mode 
     second true b h = absurd (let z : _≡_ {A = ℕ} 0 1 = cc in omega arith)
     second false b h = h
 
-module _ (m : Meter) (c : ℕ) (d : Bool) where
+module _ (m : Meter) (c : ℕ) (d : Bool) (optical : isWired (linkOf m) ≡ false) where
   abbrev seen : Bool
   seen = marked (m .receiver) || d
 
@@ -90,14 +92,14 @@ module _ (m : Meter) (c : ℕ) (d : Bool) where
   confirm-quiet z h = rw h (record { registers = refl; attempts = refl; reply = inl refl; spoilt = λ e. inr (refl, λ q. omega arith); modes = λ x e. falls (m .mode) x (omega arith) e })
 
   nak-quiet : (n : ℕ) → (m .mode ≡ 1 → ⊥) → Quiet m c (nak n m)
-  unfolding fallen
+  unfolding afterRefusal refusedReply
   nak-quiet n k =
       record {
         registers = refl;
         attempts = refl;
-        reply = inr refl;
-        spoilt = λ e. inr (refl, choice.told (λ (i : ℕ). i ≡ 1 → ⊥) (eqb (m .mode) 2) (λ two q. omega arith) (λ not-two. k));
-        modes = λ x e. choice.told (λ (i : ℕ). stray i x ≡ false) (eqb (m .mode) 2) (λ two. falls (m .mode) x (omega (arith, eqb-true (m .mode) 2 two)) e) (λ not-two. e);
+        reply = rw optical (inr refl);
+        spoilt = λ e. inr (refl, rw optical (choice.told (λ (i : ℕ). i ≡ 1 → ⊥) (eqb (m .mode) 2) (λ two q. omega arith) (λ not-two. k)));
+        modes = λ x e. rw optical (choice.told (λ (i : ℕ). stray i x ≡ false) (eqb (m .mode) 2) (λ two. falls (m .mode) x (omega (arith, eqb-true (m .mode) 2 two)) e) (λ not-two. e));
       }
 
   -- a place changes nothing of it
@@ -167,14 +169,14 @@ module _ (m : Meter) (c : ℕ) (d : Bool) where
 
 -- ---- a byte
 
-module _ (m : Meter) (f : wellFormed m ≡ true) (b : ℕ) where
+module _ (m : Meter) (f : wellFormed m ≡ true) (optical : isWired (linkOf m) ≡ false) (b : ℕ) where
   damaged-zero : damagedAt b ≡ true → symbol b ≡ 0
   unfolding symbol
   damaged-zero h = rw h
 
   byte-quiet : ((marked (m .receiver) || damagedAt b) ≡ true) ⊎ ((m .receiver .count ≡ 0) × (m .mode ≡ 1 → ⊥)) → Quiet m (symbol b) (character m replyRoom b)
   unfolding character taken
-  byte-quiet h = rw f (heard-quiet m (symbol b) (damagedAt b) damaged-zero h)
+  byte-quiet h = rw f (heard-quiet m (symbol b) (damagedAt b) optical damaged-zero h)
 
   -- a damaged one, whatever is held
   pub damaged-quiet : damagedAt b ≡ true → Quiet m (symbol b) (character m replyRoom b)

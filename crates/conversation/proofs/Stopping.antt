@@ -21,7 +21,10 @@ use Rattle.state.specs.WellFormed.{speedGood, registersGood}
 use Rattle.state.specs.Setting.{withAttempts}
 use Rattle.state.proofs.Parts.{formed}
 use Rattle.replies.specs.Fixed.{refused}
-use Rattle.meter.specs.Outcomes.{Outcome, fallen, silent, saying}
+use Rattle.state.specs.Link.{linkOf, isWired}
+use Rattle.state.proofs.Parts.{rest-good, fast-good}
+use Rattle.meter.specs.Link.{refusedReply, afterRefusal}
+use Rattle.meter.specs.Outcomes.{Outcome, silent, saying}
 use Rattle.commands.specs.Spoken.{password, goodFields, lettersOf}
 use Rattle.commands.specs.Messages.{Message, callTo, command, goodMessage}
 use Rattle.session.specs.declared.Session.{Session}
@@ -30,13 +33,13 @@ use Rattle.session.specs.Standing.{factGood}
 use Rattle.session.specs.Starting.{Told, Opening, Opens, sessionOf}
 use Rattle.session.specs.Turns.{Turn, standing}
 use Rattle.session.proofs.Laws.{told-is}
-use Rattle.dialogue.specs.Messages.{allowedAt, allowedIn, triedWith, obeyed, outcomeOf, Listens}
-use Rattle.dialogue.proofs.Held.{idle}
+use Rattle.dialogue.specs.Messages.{allowedAt, allowedIn, triedWith, obeyed, outcomeOf, Listens, names}
+use Rattle.dialogue.proofs.Held.{idle, resting}
 use Rattle.dialogue.proofs.Dialogue.{idle-listens}
 use Rattle.conversation.specs.Conversation.{Talk, begun, heardAs, converse, asking, stopped}
 use Rattle.conversation.specs.Ends.{Waits, Calls, Roomy, StopsAfter, talkOf, Stops}
 use Rattle.conversation.proofs.Exchange.{Ended, exchange-is, heard-nak, heard-nothing, stays-long}
-use Rattle.conversation.proofs.Course.{RightHere, right-call, right-confirm, stage, talks, talk-last}
+use Rattle.conversation.proofs.Course.{RightHere, right-call, right-confirm, stage, stage-optical, talks, talk-last}
 use Rattle.conversation.proofs.Started.{Began, sound, begins, SomeBegan, some-began}
 use Rattle.conversation.proofs.Done.{waits-is, waiting, ours}
 
@@ -49,13 +52,13 @@ not-same s t h = pick (sameText s t) refl
 
 -- ---- the exchange that stops it
 
-module _ (t : Told) (work : List ℕ) (o : Opening) (count : ℕ) (began : Began t count o) (a : ℕ) (g : Registers) (few : a ≤ 3) (good : registersGood g ≡ true)
+module _ (t : Told) (work : List ℕ) (o : Opening) (count : ℕ) (began : Began t count o) (a : ℕ) (g : Registers) (few : a ≤ 3) (good : registersGood g ≡ true) (optical : isWired (g .facts .link) ≡ false)
     (rooms : ℕ → ℕ → ℕ) (buffers : ℕ → ℕ) (roomy : Roomy rooms buffers) where
   abbrev s : Session
   s = sessionOf t count
 
   abbrev m : Meter
-  m = idle 0 a 0 g
+  m = idle 0 a (resting g) g
 
   abbrev at : ℕ → Meter
   at = stage (s .count) a 3 a (λ i. g)
@@ -67,20 +70,20 @@ module _ (t : Told) (work : List ℕ) (o : Opening) (count : ℕ) (began : Began
   -- some messages go well, and the next is answered with NAK or nothing
   module _ (last : ℕ) (within : last ≤ 2) (rights : (k : ℕ) → k < last → RightHere s work (k + 1) (at k) (at (suc k)))
       (built : goodMessage editionTables (messageAt s work (last + 1)) ≡ true) (hears : Listens (at last) (messageAt s work (last + 1)))
-      (reply : List ℕ) (fact b : ℕ) (fewer : b ≤ 3) (outcome : (outcomeOf (at last) (messageAt s work (last + 1)) .reply ≡ reply) × (outcomeOf (at last) (messageAt s work (last + 1)) .next ≡ idle 0 b 0 g))
+      (reply : List ℕ) (fact b : ℕ) (fewer : b ≤ 3) (outcome : (outcomeOf (at last) (messageAt s work (last + 1)) .reply ≡ reply) × (outcomeOf (at last) (messageAt s work (last + 1)) .next ≡ idle 0 b (resting g) g))
       (other : (fact ≡ 2) ⊎ (fact ≡ 4))
       (turned : (room : ℕ) → 64 ≤ room → heardAs (standing s (last + 1) 0) work (onWire reply) room ≡ stopped s (last + 1) fact) where
     talk-is : (k : ℕ) → talkOf t work o m rooms buffers k ≡ converse rooms buffers work (record { turn = asking s work 1; meter = at 0 }) k
     unfolding stage
     talk-is k = ap (λ (x : Talk). converse rooms buffers work x k) (begins t count o began work m)
 
-    stops-here : talkOf t work o m rooms buffers (suc last) ≡ record { turn = stopped s (last + 1) fact; meter = idle 0 b 0 g }
+    stops-here : talkOf t work o m rooms buffers (suc last) ≡ record { turn = stopped s (last + 1) fact; meter = idle 0 b (resting g) g }
     stops-here =
         talk-is (suc last)
-        ∙ talk-last s work (sound t count o began) at last (omega (arith, counted)) rights built rooms (roomy .replies) buffers (roomy .messages) (stopped s (last + 1) fact) (idle 0 b 0 g)
+        ∙ talk-last s work (sound t count o began) at last (omega (arith, counted)) rights built rooms (roomy .replies) buffers (roomy .messages) (stopped s (last + 1) fact) (idle 0 b (resting g) g)
         (exchange-is s work (sound t count o began) (rooms last) (roomy .replies last) (buffers last) (roomy .messages last) (last + 1) (omega arith) (omega (arith, counted)) (at last) built hears
         ∙ ap₂ (λ (r : List ℕ) (x : Meter). record { turn = heardAs (standing s (last + 1) 0) work (onWire r) (buffers last); meter = x }) (outcome .0) (outcome .1)
-        ∙ ap (λ (u : Turn). record { turn = u; meter = idle 0 b 0 g }) (turned (buffers last) (roomy .messages last)))
+        ∙ ap (λ (u : Turn). record { turn = u; meter = idle 0 b (resting g) g }) (turned (buffers last) (roomy .messages last)))
 
     ended : Ended s (suc last) fact
     unfolding factGood
@@ -105,19 +108,20 @@ module _ (t : Told) (work : List ℕ) (o : Opening) (count : ℕ) (began : Began
     heard-each k h =
         ⊎-elim (λ l. subst Heard {x = last} {y = k} (omega arith) (built, hears)) (λ l. (rights k l .good, rights k l .hears)) (le-or-lt last k)
 
-    pub stops-at : Stops t work o m rooms buffers (suc last) fact (idle 0 b 0 g)
+    pub stops-at : Stops t work o m rooms buffers (suc last) fact (idle 0 b (resting g) g)
     stops-at =
-        subst (λ (x : Session). StopsAfter x work (talkOf t work o m rooms buffers) (suc last) fact (idle 0 b 0 g)) (sym (ap (λ (x : Opening). x .session) (began .is)))
+        subst (λ (x : Session). StopsAfter x work (talkOf t work o m rooms buffers) (suc last) fact (idle 0 b (resting g) g)) (sym (ap (λ (x : Opening). x .session) (began .is)))
         (record {
           within = omega (arith, counted);
           going = λ k h. ap (λ (x : Talk). x .turn) (stands-at k h);
           built = λ k h. heard-each k h .0;
           heard = λ k h. subst (λ (x : Meter). Listens x (messageAt s work (k + 1))) (sym (ap (λ (x : Talk). x .meter) (stands-at k h))) (heard-each k h .1);
+          optical = λ k h. ap (λ (x : Talk). isWired (linkOf (x .meter))) (stands-at k h) ∙ stage-optical (s .count) a 3 a (λ i. g) (λ i. optical) k;
           stops = ap (λ (x : Talk). x .turn) stops-here ∙ ap (λ (n : ℕ). stopped s n fact) {x = last + 1} {y = suc last} (omega arith);
           meter = ap (λ (x : Talk). x .meter) stops-here;
-          waits = waiting b g fewer good;
-          stays = stays-long s work (suc last) fact ended rooms buffers (begun o m) (idle 0 b 0 g)
-              (stops-here ∙ ap (λ (n : ℕ). record { turn = stopped s n fact; meter = idle 0 b 0 g }) {x = last + 1} {y = suc last} (omega arith));
+          waits = waiting b g fewer good optical;
+          stays = stays-long s work (suc last) fact ended rooms buffers (begun o m) (idle 0 b (resting g) g)
+              (stops-here ∙ ap (λ (n : ℕ). record { turn = stopped s n fact; meter = idle 0 b (resting g) g }) {x = last + 1} {y = suc last} (omega arith));
         })
 
   -- ---- the password
@@ -136,33 +140,33 @@ module _ (t : Told) (work : List ℕ) (o : Opening) (count : ℕ) (began : Began
 
     first-two : (k : ℕ) → k < 2 → RightHere s work (k + 1) (at k) (at (suc k))
     unfolding stage
-    first-two zero h = right-call s work a g few good (ours t count o began m calls)
+    first-two zero h = right-call s work a g few good (ours t count o began m optical calls)
     first-two (suc zero) h = right-confirm s work a g few good
     first-two (suc (suc k)) h = absurd (omega arith)
 
     password-heard : Listens (at 2) given
     unfolding stage allowedIn allowedAt lettersOf sameText matching
-    password-heard = idle-listens 2 a 5 g given (record { known = lit≤ tt; attempts = few; speed = unfold speedGood in refl; registers = good }) refl
+    password-heard = idle-listens 2 a 5 g given (record { known = lit≤ tt; attempts = few; speed = fast-good (g .facts .link) 2 (lit≤ tt); registers = good }) refl
 
     password-tried : outcomeOf (at 2) given ≡ triedWith (idle 2 a 5 g) (t .password)
     unfolding stage outcomeOf obeyed
     password-tried = refl
 
     -- NAK at message 3
-    pub refused-there : (b number : ℕ) → b ≤ 3 → triedWith (idle 2 a 5 g) (t .password) ≡ saying number 5 refused (idle 0 b 0 g) → Stops t work o m rooms buffers 3 2 (idle 0 b 0 g)
+    pub refused-there : (b number : ℕ) → b ≤ 3 → triedWith (idle 2 a 5 g) (t .password) ≡ saying number 5 refused (idle 0 b (resting g) g) → Stops t work o m rooms buffers 3 2 (idle 0 b (resting g) g)
     refused-there b number fewer e =
-        let outcome : outcomeOf (at 2) (messageAt s work 3) ≡ saying number 5 refused (idle 0 b 0 g) = ap (outcomeOf (at 2)) is-password ∙ password-tried ∙ e in
+        let outcome : outcomeOf (at 2) (messageAt s work 3) ≡ saying number 5 refused (idle 0 b (resting g) g) = ap (outcomeOf (at 2)) is-password ∙ password-tried ∙ e in
         stops-at 2 (lit≤ tt) first-two (subst (λ (x : Message). goodMessage editionTables x ≡ true) (sym is-password) password-good)
         (subst (Listens (at 2)) (sym is-password) password-heard) refused 2 b fewer (ap (λ (x : Outcome). x .reply) outcome, ap (λ (x : Outcome). x .next) outcome) (inl refl)
         (λ room long. heard-nak s work (sound t count o began) 3 (lit≤ tt) (omega (arith, counted)) room long)
 
-    pub wrong : (t .password ≡ g .facts .password → ⊥) → a < 3 → Stops t work o m rooms buffers 3 2 (idle 0 (a + 1) 0 g)
-    unfolding triedWith fallen
-    wrong other left = refused-there (a + 1) 10 (omega arith) (rw (ne-eqb a 3 (λ e. omega arith), not-same (t .password) (g .facts .password) other))
+    pub wrong : (t .password ≡ g .facts .password → ⊥) → a < 3 → Stops t work o m rooms buffers 3 2 (idle 0 (a + 1) (resting g) g)
+    unfolding triedWith refusedReply afterRefusal
+    wrong other left = refused-there (a + 1) 10 (omega arith) (rw (ne-eqb a 3 (λ e. omega arith), not-same (t .password) (g .facts .password) other, optical))
 
     pub locked : a ≡ 3 → Stops t work o m rooms buffers 3 2 m
-    unfolding triedWith fallen
-    locked e = refused-there a 11 few (rw (eq-eqb a 3 e))
+    unfolding triedWith refusedReply afterRefusal
+    locked e = refused-there a 11 few (rw (eq-eqb a 3 e, optical))
 
   -- ---- another meter's serial
 
@@ -177,11 +181,11 @@ module _ (t : Told) (work : List ℕ) (o : Opening) (count : ℕ) (began : Began
 
     call-heard : Listens (at 0) (callTo (t .serial))
     unfolding stage allowedIn
-    call-heard = idle-listens 0 a 0 g (callTo (t .serial)) (record { known = lit≤ tt; attempts = few; speed = unfold speedGood in refl; registers = good }) refl
+    call-heard = idle-listens 0 a (resting g) g (callTo (t .serial)) (record { known = lit≤ tt; attempts = few; speed = rest-good (g .facts .link) 0; registers = good }) refl
 
     not-called : outcomeOf (at 0) (callTo (t .serial)) ≡ silent 0 m
-    unfolding stage outcomeOf
-    not-called = rw (not-same (t .serial) (g .facts .serial) other, not-same (t .serial) (replicate 10 48) some)
+    unfolding stage outcomeOf names
+    not-called = rw (optical, not-same (t .serial) (g .facts .serial) other, not-same (t .serial) (replicate 10 48) some)
 
     pub unanswered : Stops t work o m rooms buffers 1 4 m
     unanswered =
@@ -204,7 +208,7 @@ module _ (t : Told) (work : List ℕ) (room : ℕ) (o : Opening) (opens : Opens 
       let f = formed m (w .formed) in
       let e = waits-is m w in
       subst (λ (x : Meter). Stops t work o x rooms buffers 3 2 (withAttempts x (x .attempts + 1))) (sym e)
-      (wrong t work o (begun-so .count) (begun-so .began) (m .attempts) (m .registers) (f .attempts) (f .registers) rooms buffers roomy (subst (Calls t) e calls) access other left)
+      (wrong t work o (begun-so .count) (begun-so .began) (m .attempts) (m .registers) (f .attempts) (f .registers) (w .optical) rooms buffers roomy (subst (Calls t) e calls) access other left)
 
   -- any password once three were wrong: NAK at message 3, and the meter is as it was
   pub spent-password-stops : Calls t m → t .access ≡ 1 → m .attempts ≡ 3 → Stops t work o m rooms buffers 3 2 m
@@ -212,11 +216,11 @@ module _ (t : Told) (work : List ℕ) (room : ℕ) (o : Opening) (opens : Opens 
       let f = formed m (w .formed) in
       let e = waits-is m w in
       subst (λ (x : Meter). Stops t work o x rooms buffers 3 2 x) (sym e)
-      (locked t work o (begun-so .count) (begun-so .began) (m .attempts) (m .registers) (f .attempts) (f .registers) rooms buffers roomy (subst (Calls t) e calls) access three)
+      (locked t work o (begun-so .count) (begun-so .began) (m .attempts) (m .registers) (f .attempts) (f .registers) (w .optical) rooms buffers roomy (subst (Calls t) e calls) access three)
 
   -- another meter's serial: silence at the sign-on, and the meter is as it was
   pub other-serial-stops : t .named ≡ 1 → (t .serial ≡ m .registers .facts .serial → ⊥) → (t .serial ≡ replicate 10 (char "0") → ⊥) → Stops t work o m rooms buffers 1 4 m
   other-serial-stops named other some =
       let f = formed m (w .formed) in
       subst (λ (x : Meter). Stops t work o x rooms buffers 1 4 x) (sym (waits-is m w))
-      (unanswered t work o (begun-so .count) (begun-so .began) (m .attempts) (m .registers) (f .attempts) (f .registers) rooms buffers roomy named other some)
+      (unanswered t work o (begun-so .count) (begun-so .began) (m .attempts) (m .registers) (f .attempts) (f .registers) (w .optical) rooms buffers roomy named other some)

@@ -1,6 +1,6 @@
 -- Request [7], end to end: which meter a session is for, and how their conversation goes.
 use mathlib.Core.Path.{_≡_}
-use mathlib.Core.Bool.{true, cond}
+use mathlib.Core.Bool.{true, false, cond}
 use mathlib.Core.Logic.{_⊎_}
 use mathlib.Core.List.{List, List·Memᴰ}
 use Prim.Native.Nat.{ℕ, _+_, _/_, _≤_, _<_}
@@ -13,6 +13,7 @@ use Rattle.frames.specs.Frames.{blockOf, onWire}
 use Rattle.state.specs.Sizes.{replyRoom, tables}
 use Rattle.state.specs.declared.Meter.{Meter}
 use Rattle.state.specs.WellFormed.{wellFormed}
+use Rattle.state.specs.Link.{linkOf, isWired}
 use Rattle.state.specs.Setting.{withAttempts, withTables}
 use Rattle.replies.specs.declared.Ask.{Ask}
 use Rattle.replies.specs.Shown.{rowOf}
@@ -28,9 +29,10 @@ use Rattle.recital.specs.Recital.{answerSays, ReadsBack}
 use Rattle.delivery.specs.Acknowledged.{rowsAfter, deliveredTo}
 use Rattle.conversation.specs.Conversation.{Talk, begun, replyTo, heardAs, exchangeOf, converse, asking, stopped}
 
--- well-formed, in listening mode, with an empty receiver
+-- well-formed, on the optical link, in listening mode, with an empty receiver
 pub record Waits (m : Meter) : Type 0 where
   pub formed : wellFormed m ≡ true
+  pub optical : isWired (linkOf m) ≡ false
   pub listening : m .mode ≡ 0
   pub empty : m .receiver .count ≡ 0
 
@@ -61,6 +63,7 @@ pub record StopsAfter (s : Session) (work : List ℕ) (talk : ℕ → Talk) (n f
   pub going : (k : ℕ) → k < n → talk k .turn ≡ asking s work (k + 1)
   pub built : (k : ℕ) → k < n → goodMessage editionTables (messageAt s work (k + 1)) ≡ true
   pub heard : (k : ℕ) → k < n → Listens (talk k .meter) (messageAt s work (k + 1))
+  pub optical : (k : ℕ) → k < n → isWired (linkOf (talk k .meter)) ≡ false
   pub stops : talk n .turn ≡ stopped s n fact
   pub meter : talk n .meter ≡ after
   pub waits : Waits after

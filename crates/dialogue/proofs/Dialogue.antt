@@ -1,12 +1,12 @@
 -- Every message of the head, given byte by byte to a meter that listens for it, is taken as what it is. Assumes nothing.
 use mathlib.Core.Path.{_≡_, refl, sym, ap₂, subst, _∙_}
-use mathlib.Core.Bool.{Bool, true, false, cond, _||_}
+use mathlib.Core.Bool.{Bool, true, false, cond, not, _&&_, _||_}
 use mathlib.Core.List.{List, [], _∷_, _++_}
 use Prim.Native.Nat.{ℕ, suc, _-_, _≤_}
 use native.Mathlib.Omega.{arith}
 use borrow.Author.Tests.{eqb-true, le-ltb}
 use lib.Dec.{eqb, lit≤}
-use lib.ListN.{length, take, drop, replicate, length-append, length-map}
+use lib.ListN.{length, take, drop, length-append, length-map}
 use lib.Seq.{take-append-seam}
 use Rattle.line.specs.Characters.{sent}
 use Rattle.line.specs.Checksum.{bccOf}
@@ -17,21 +17,24 @@ use Rattle.values.specs.Edition.{editionTables}
 use Rattle.values.specs.Texts.{serialText}
 use Rattle.values.proofs.Rules.{digits-long, serial-text-long}
 use Rattle.frames.specs.Frames.{closed, frameOf, bareFrame, onWire}
-use Rattle.frames.specs.Session.{signOn, closingSignOn, signOnTo, confirmation, goodSpeed}
+use Rattle.frames.specs.Session.{signOn, closingSignOn, signOnTo, wiredSignOn, confirmation, goodSpeed}
+use Rattle.frames.proofs.Lines.{wired-line-long}
 use Rattle.state.specs.declared.Registers.{Registers}
 use Rattle.state.specs.declared.Meter.{Meter}
-use Rattle.state.proofs.Parts.{slow-low}
+use Rattle.state.specs.Link.{linkOf, isWired}
+use Rattle.state.proofs.Parts.{rest-low}
+use Rattle.meter.specs.Link.{slowToo}
 use Rattle.meter.specs.Outcomes.{Outcome}
 use Rattle.commands.specs.declared.Built.{Built}
 use Rattle.commands.specs.Building.{goodChoice, builtIn, keptOr, Builds}
 use Rattle.commands.specs.Spoken.{Command, enter, password, readClock, readSerial, readAccount, readTotal, readZone, readTable, writeClock, writeAccount, writeTable, spoken}
 use Rattle.dialogue.specs.Feeding.{saidIn, atLast}
-use Rattle.commands.specs.Messages.{Message, call, close, callTo, confirm, command, leave, textOf, goodMessage}
-use Rattle.dialogue.specs.Messages.{allowedIn, triedWith, obeyed, outcomeOf, Listens, Taken, misheard}
+use Rattle.commands.specs.Messages.{Message, call, close, callTo, callWired, confirm, command, leave, textOf, goodMessage}
+use Rattle.dialogue.specs.Messages.{allowedIn, triedWith, obeyed, names, digitHeard, heardOn, outcomeOf, Listens, Taken, misheard}
 use Rattle.dialogue.proofs.Feeding.{Fed, fed-in}
-use Rattle.dialogue.proofs.Held.{Fit, idle, idle-formed, idle-is, fit-is}
+use Rattle.dialogue.proofs.Held.{Fit, resting, idle, idle-formed, idle-is, fit-is}
 use Rattle.dialogue.proofs.Commands.{bodyOf, command-fed}
-use Rattle.dialogue.proofs.Session.{call-fed, close-fed, call-to-fed, confirm-fed, leave-fed}
+use Rattle.dialogue.proofs.Session.{call-fed, close-fed, call-to-fed, call-wired-fed, confirm-fed, leave-fed}
 
 -- nothing at each byte but the last, and there what the message comes to
 abbrev pub FedAs : Meter → Message → Type 0
@@ -40,6 +43,9 @@ FedAs m x = Fed m (onWire (textOf x)) (atLast (length (textOf x) - 1) (m .speed)
 long-to : (s : List ℕ) → length s ≡ 10 → length (signOnTo s) - 1 ≡ 15
 unfolding signOnTo
 long-to s h = omega (arith, serial-text-long s h, length-append (serialText s) (33 ∷ 13 ∷ 10 ∷ []))
+
+long-wired : (s : List ℕ) → length s ≡ 10 → length (wiredSignOn s) - 1 ≡ 14
+long-wired s h = omega (arith, wired-line-long 65 s h)
 
 long-command : (c : Command) → length (spoken c) - 1 ≡ suc (suc (length (bodyOf c)))
 unfolding spoken frameOf closed
@@ -51,11 +57,11 @@ long-command c =
 at-mode : (mode n a s : ℕ) (g : Registers) (x : Message) → eqb mode n ≡ true → FedAs (idle n a s g) x → FedAs (idle mode a s g) x
 at-mode mode n a s g x e f = subst (λ (k : ℕ). FedAs (idle k a s g) x) (sym (eqb-true mode n e)) f
 
--- and in modes 0 and 1 the speed is 0
-at-low : (mode n a s : ℕ) (g : Registers) (x : Message) → n ≤ 1 → eqb mode n ≡ true → Fit mode a s g → (Fit n a 0 g → FedAs (idle n a 0 g) x) → FedAs (idle mode a s g) x
+-- and in modes 0 and 1 the speed is that of the link
+at-low : (mode n a s : ℕ) (g : Registers) (x : Message) → n ≤ 1 → eqb mode n ≡ true → Fit mode a s g → (Fit n a (resting g) g → FedAs (idle n a (resting g) g) x) → FedAs (idle mode a s g) x
 at-low mode n a s g x low e fit f =
     let here : Fit n a s g = subst (λ (k : ℕ). Fit k a s g) (eqb-true mode n e) fit in
-    let slow : s ≡ 0 = slow-low n s low (here .speed) in
+    let slow : s ≡ resting g = rest-low (g .facts .link) n s low (here .speed) in
     at-mode mode n a s g x e (subst (λ (k : ℕ). FedAs (idle n a k g) x) (sym slow) (f (subst (λ (k : ℕ). Fit n a k g) slow here)))
 
 pub message-fed : (mode a s : ℕ) (g : Registers) (x : Message) → Fit mode a s g → goodMessage editionTables x ≡ true → allowedIn x mode ≡ true → FedAs (idle mode a s g) x
@@ -65,8 +71,13 @@ message-fed mode a s g close fit h k = unfold closingSignOn in (at-low mode 0 a 
 message-fed mode a s g (callTo x) fit h k =
     at-low mode 0 a s g (callTo x) (lit≤ tt) k fit
     (λ f.
-    subst (λ (n : ℕ). Fed (idle 0 a 0 g) (onWire (signOnTo x)) (atLast n 0 (saidIn (outcomeOf (idle 0 a 0 g) (callTo x)))) (outcomeOf (idle 0 a 0 g) (callTo x) .next))
+    subst (λ (n : ℕ). Fed (idle 0 a (resting g) g) (onWire (signOnTo x)) (atLast n (resting g) (saidIn (outcomeOf (idle 0 a (resting g) g) (callTo x)))) (outcomeOf (idle 0 a (resting g) g) (callTo x) .next))
     (sym (long-to x (digits-long 10 x h))) (call-to-fed a g f x h))
+message-fed mode a s g (callWired x) fit h k =
+    at-low mode 0 a s g (callWired x) (lit≤ tt) k fit
+    (λ f.
+    subst (λ (n : ℕ). Fed (idle 0 a (resting g) g) (onWire (wiredSignOn x)) (atLast n (resting g) (saidIn (outcomeOf (idle 0 a (resting g) g) (callWired x)))) (outcomeOf (idle 0 a (resting g) g) (callWired x) .next))
+    (sym (long-wired x (digits-long 10 x h))) (call-wired-fed a g f x h))
 message-fed mode a s g (confirm v y) fit h k =
     unfold confirmation in
     at-low mode 1 a s g (confirm v y) (lit≤ tt) k fit
@@ -124,11 +135,27 @@ command-heard m (writeClock c) = refl
 command-heard m (writeAccount a) = refl
 command-heard m (writeTable n row) = refl
 
-pub never-misheard : (m : Meter) (x : Message) → misheard (outcomeOf m x .number) ≡ false
-unfolding outcomeOf misheard
-never-misheard m call = refl
-never-misheard m close = refl
-never-misheard m (callTo s) = either (sameText s (m .registers .facts .serial) || sameText s (replicate 10 48)) _ _ refl refl
-never-misheard m (confirm v y) = either (eqb y 49) _ _ refl refl
-never-misheard m (command c) = command-heard m c
-never-misheard m leave = refl
+pub never-misheard : (m : Meter) (x : Message) → heardOn (linkOf m) x ≡ true → misheard (outcomeOf m x .number) ≡ false
+unfolding outcomeOf misheard heardOn
+never-misheard m call h = either (not (isWired (linkOf m))) _ _ refl refl
+never-misheard m close h = either (not (isWired (linkOf m))) _ _ refl refl
+never-misheard m (callTo s) h = either (not (isWired (linkOf m)) && names m s) _ _ refl refl
+never-misheard m (callWired s) h = either (isWired (linkOf m) && names m s) _ _ refl refl
+never-misheard m (confirm v y) h = rw h (either (eqb y 49) _ _ refl refl)
+never-misheard m (command c) h = command-heard m c
+never-misheard m leave h = refl
+
+-- on the optical link that is every message that the head says
+pub heard-optical : (x : Message) (link : ℕ) → isWired link ≡ false → heardOn link x ≡ true
+unfolding heardOn digitHeard slowToo
+heard-optical call link h = refl
+heard-optical close link h = refl
+heard-optical (callTo s) link h = refl
+heard-optical (callWired s) link h = refl
+heard-optical (confirm v y) link h = rw h (last (eqb v 53))
+  where
+    last : (p : Bool) → (p || true) ≡ true
+    last true = refl
+    last false = refl
+heard-optical (command c) link h = refl
+heard-optical leave link h = refl

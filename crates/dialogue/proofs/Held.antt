@@ -20,6 +20,7 @@ use Rattle.state.specs.declared.Registers.{Registers}
 use Rattle.state.specs.declared.Meter.{Meter}
 use Rattle.state.specs.WellFormed.{limit, firstGood, markGood, hurtGood, heldGood, receiverGood, speedGood, registersGood, wellFormed}
 use Rattle.state.specs.Making.{emptyReceiver}
+use Rattle.state.specs.Link.{restSpeed}
 use Rattle.state.specs.Setting.{meterIn, withHeld, withMark, withReceiver}
 use Rattle.state.proofs.Limits.{limit-most}
 use Rattle.state.proofs.Parts.{formed, well-formed, formed-receiver, receiver-good, held-long}
@@ -31,6 +32,10 @@ use Rattle.meter.specs.Outcomes.{silent}
 use Rattle.meter.specs.Character.{symbol, heard, taken, character}
 use Rattle.dialogue.specs.Feeding.{Said, quiet}
 use Rattle.dialogue.proofs.Feeding.{Fed, fed-none, fed-next}
+
+-- the speed of its link
+abbrev pub resting : Registers → ℕ
+resting g = restSpeed (g .facts .link)
 
 -- in a mode, with so many attempts, at a speed, with an empty receiver
 abbrev pub idle : ℕ → ℕ → ℕ → Registers → Meter
@@ -60,7 +65,7 @@ pub record Rule (mode c : ℕ) (p : ℕ → Bool) : Type 0 where
 pub record Fit (mode a s : ℕ) (g : Registers) : Type 0 where
   pub known : mode ≤ 4
   pub attempts : a ≤ 3
-  pub speed : speedGood mode s ≡ true
+  pub speed : speedGood (g .facts .link) mode s ≡ true
   pub registers : registersGood g ≡ true
 
 small-is : (c : ℕ) → c < 128 → between 0 127 c ≡ true

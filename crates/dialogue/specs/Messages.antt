@@ -1,10 +1,10 @@
 -- Demand 2: the mode that allows what the head says, and what a meter with an empty receiver makes of it.
 use mathlib.Core.Path.{_≡_}
-use mathlib.Core.Bool.{Bool, true, cond, _&&_, _||_}
+use mathlib.Core.Bool.{Bool, true, cond, not, _&&_, _||_}
 use mathlib.Core.List.{List}
 use Prim.Native.Nat.{ℕ, _+_, _-_, _*_, _≤_}
 use lib.Dec.{eqb, leb}
-use lib.ListN.{length, replicate}
+use lib.ListN.{length}
 use Rattle.line.specs.Quoted.{char}
 use Rattle.text.specs.Classes.{sameText}
 use Rattle.values.specs.declared.Energy.the-variants.{Total}
@@ -25,10 +25,12 @@ use Rattle.replies.specs.Fixed.{passwordAsk}
 use Rattle.state.specs.Setting.{inMode, withSpeed, withAttempts, withRegisters, withClock, withAccount, withTables, withRow}
 use Rattle.deciding.specs.declared.Verdict.{Verdict}
 use Rattle.deciding.specs.declared.Verdict.the-variants as verdict
+use Rattle.state.specs.Link.{linkOf, isWired}
+use Rattle.meter.specs.Link.{zeros, slowToo}
 use Rattle.meter.specs.Outcomes.{Outcome, speedOf, silent, saying, nak, ack}
 use Rattle.meter.specs.Character.{signedOn, periodClosed, readOut}
 use Rattle.commands.specs.Spoken.{Command, enter, password, readClock, readSerial, readAccount, readTotal, readZone, readTable, writeClock, writeAccount, writeTable, lettersOf}
-use Rattle.commands.specs.Messages.{Message, call, close, callTo, confirm, command, leave}
+use Rattle.commands.specs.Messages.{Message, call, close, callTo, callWired, confirm, command, leave}
 use Rattle.dialogue.specs.Feeding.{saidIn, answered, left, atLast}
 
 -- P1 in mode 2, R1 in 3 and 4, W1 in 4
@@ -40,6 +42,7 @@ unfoldable pub allowedIn : Message → ℕ → Bool
 allowedIn call mode = eqb mode 0
 allowedIn close mode = eqb mode 0
 allowedIn (callTo serial) mode = eqb mode 0
+allowedIn (callWired serial) mode = eqb mode 0
 allowedIn (confirm v y) mode = eqb mode 1
 allowedIn (command c) mode = allowedAt c mode
 allowedIn leave mode = leb 2 mode && leb mode 4
@@ -83,16 +86,31 @@ obeyed m (writeClock c) = ack (speedOf m) (withRegisters m (withClock (m .regist
 obeyed m (writeAccount a) = ack (speedOf m) (withRegisters m (withAccount (m .registers) a))
 obeyed m (writeTable n row) = ack (speedOf m) (withRegisters m (withTables (m .registers) (withRow (m .registers .tables) n row)))
 
--- every reply in a session at its speed, a confirmation at the one that it names; a meter that is called by its own serial, or by zeros, identifies itself; another says nothing;
--- [12]: `/C!` finds any meter and closes a period, and '6' asks for the closed periods too
+-- [14]: '5' on either link, '0' where the link has it
+unfoldable pub digitHeard : ℕ → ℕ → Bool
+digitHeard link v = eqb v (char "5") || slowToo link
+
+-- one answers a sign-on or says nothing
+abbrev pub signedOnIf : Bool → Meter → Outcome
+signedOnIf called m = cond called (signedOn m) (silent 0 m)
+
+-- its own serial, or zeros
+unfoldable pub names : Meter → List ℕ → Bool
+names m serial = sameText serial (m .registers .facts .serial) || sameText serial zeros
+
+-- every reply in a session at its speed, a confirmation at the one that it names; a meter that is called by its own serial, or by zeros, answers; another says nothing;
+-- [12]: `/C!` finds any meter and closes a period, and '6' asks for the closed periods too;
+-- [14]: each link has its own sign-ons, and is deaf to those of the other; the wired one does not know the digit '0'
 unfoldable pub outcomeOf : Meter → Message → Outcome
-outcomeOf m call = signedOn m
-outcomeOf m close = signedOn (periodClosed m)
-outcomeOf m (callTo serial) =
-    cond (sameText serial (m .registers .facts .serial) || sameText serial (replicate 10 (char "0"))) (signedOn m) (silent 0 m)
+outcomeOf m call = signedOnIf (not (isWired (linkOf m))) m
+outcomeOf m close = cond (not (isWired (linkOf m))) (signedOn (periodClosed m)) (silent 0 m)
+outcomeOf m (callTo serial) = signedOnIf (not (isWired (linkOf m)) && names m serial) m
+outcomeOf m (callWired serial) = signedOnIf (isWired (linkOf m) && names m serial) m
 outcomeOf m (confirm v y) =
-    cond (eqb y (char "1")) (saying 1 (speedSaid v) passwordAsk (withSpeed (inMode m 2) (speedSaid v)))
-    (readOut m (speedSaid v) (cond (eqb y (char "6")) (longData editionTables (m .registers)) (blockData editionTables (m .registers))))
+    cond (digitHeard (linkOf m) v)
+    (cond (eqb y (char "1")) (saying 1 (speedSaid v) passwordAsk (withSpeed (inMode m 2) (speedSaid v)))
+    (readOut m (speedSaid v) (cond (eqb y (char "6")) (longData editionTables (m .registers)) (blockData editionTables (m .registers)))))
+    (silent 2 (inMode m 0))
 outcomeOf m (command c) = obeyed m c
 outcomeOf m leave = ack (speedOf m) (inMode m 0)
 
@@ -106,6 +124,16 @@ pub record Listens (m : Meter) (x : Message) : Type 0 where
 pub record Taken (m : Meter) (x : Message) (bytes : List ℕ) : Type 0 where
   pub said : (rooms : ℕ → ℕ) → ((i : ℕ) → replyRoom ≤ rooms i) → answered m rooms bytes ≡ atLast (length bytes - 1) (speedOf m) (saidIn (outcomeOf m x))
   pub after : (rooms : ℕ → ℕ) → ((i : ℕ) → replyRoom ≤ rooms i) → left m rooms bytes ≡ outcomeOf m x .next
+
+-- [14]: a confirmation that the link knows
+unfoldable pub heardOn : ℕ → Message → Bool
+heardOn link (confirm v y) = digitHeard link v
+heardOn link call = true
+heardOn link close = true
+heardOn link (callTo serial) = true
+heardOn link (callWired serial) = true
+heardOn link (command c) = true
+heardOn link leave = true
 
 -- confirmation wrong, parity, BCC, too long, shape, unknown, not allowed, data
 unfoldable pub misheard : ℕ → Bool

@@ -1,3 +1,4 @@
 pub mod Closing
 pub mod Table
 pub mod Sealing
+pub mod Lines

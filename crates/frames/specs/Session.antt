@@ -5,7 +5,7 @@ use Prim.Native.Nat.{ℕ}
 use lib.Dec.{eqb}
 use Rattle.line.specs.Quoted.{char, chars}
 use Rattle.line.specs.Controls.{ACK}
-use Rattle.values.specs.Texts.{serialText}
+use Rattle.values.specs.Texts.{serialText, wiredText}
 use Rattle.frames.specs.Commands.{bracketed}
 
 -- /?! CR LF
@@ -19,6 +19,16 @@ closingSignOn = chars "/C!\r\n"
 -- /?nnn nnnnnnn! CR LF
 unfoldable pub signOnTo : List ℕ → List ℕ
 signOnTo serial = chars "/?" ++ (serialText serial ++ chars "!\r\n")
+
+-- [14], the wired link: '/', a letter, nnn.nnnnnnn CR LF; 'A' calls the meter of a serial, 'g' is its answer
+unfoldable pub wiredLine : ℕ → List ℕ → List ℕ
+wiredLine letter serial = chars "/" ++ (letter ∷ (wiredText serial ++ chars "\r\n"))
+
+abbrev pub wiredSignOn : List ℕ → List ℕ
+wiredSignOn serial = wiredLine (char "A") serial
+
+abbrev pub wiredAnswer : List ℕ → List ℕ
+wiredAnswer serial = wiredLine (char "g") serial
 
 -- ACK 0 V Y CR LF
 unfoldable pub confirmation : ℕ → ℕ → List ℕ

@@ -5,6 +5,7 @@ ghost use Prim.Native.Nat.{_+_, _≤_};
 ghost use lib.ListN.{length, take, drop};
 ghost use Rattle.text.specs.Writing.{holding};
 ghost use Rattle.frames.specs.Frames.{sealed, onWire};
+ghost use Rattle.frames.specs.Session.{wiredLine};
 
 // Puts ETX after the first n characters, and the BCC of all from the second on after that.
 fn close(buf: &mut [u8], n: usize)
@@ -34,4 +35,17 @@ pub fn seal(buf: &mut [u8], n: usize) -> usize
     close(buf, n);
     send(buf, n + 2);
     n + 2
+}
+
+// A line of the wired link: its letter and a serial, without parity.
+pub fn wired_line(letter: u8, serial: &[u8]) -> [u8; 15]
+    requires { ⌜ length (now serial) ≡ 10 ⌝ }
+    ensures { λ r. ⌜ r ≡ wiredLine letter (now (serial .entry)) ⌝ }
+{
+    let mut shown = [0u8; 15];
+    let start = [b'/', letter];
+    let a = text::put(&mut shown, 0, &start);
+    let b = values::writing::put_wired(&mut shown, a, serial);
+    text::put(&mut shown, b, b"\r\n");
+    shown
 }

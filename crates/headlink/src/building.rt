@@ -6,7 +6,7 @@ ghost use Rattle.values.specs.Edition.{editionTables};
 ghost use Rattle.values.specs.Registers.{goodSerial, goodPassword, goodAccount, goodRow, goodTable, goodZone};
 ghost use Rattle.frames.specs.Frames.{frameOf, bareFrame, onWire};
 ghost use Rattle.frames.specs.Commands.{B0, P1, R1, W1, askClock, askSerial, askAccount, askEnergy, askTable, setClock, setAccount, setTable};
-ghost use Rattle.frames.specs.Session.{signOn, closingSignOn, signOnTo, confirmation, goodSpeed, enterData, passwordData};
+ghost use Rattle.frames.specs.Session.{signOn, closingSignOn, signOnTo, wiredSignOn, confirmation, goodSpeed, enterData, passwordData};
 ghost use Rattle.commands.specs.Building.{goodChoice, Builds};
 use clock::Clock;
 use clock::Date;
@@ -40,6 +40,20 @@ pub extern "C" fn dirgemist_head_sign_on_to(serial: &[u8], out: &mut [u8], size:
     ensures { λ r. ⌜ Builds (now (out .entry)) (goodSerial (now (serial .entry))) (onWire (signOnTo (now (serial .entry)))) (record { number = r; length = now (size .exit) }) (now (out .exit)) ⌝ }
 {
     let b = commands::sign_on_to(out, serial);
+    *size = b.length;
+    b.number
+}
+
+// The sign-on on the wired link.
+#[no_mangle]
+pub extern "C" fn dirgemist_head_sign_on_wired(
+    serial: &[u8],
+    out: &mut [u8],
+    size: &mut usize,
+) -> u8
+    ensures { λ r. ⌜ Builds (now (out .entry)) (goodSerial (now (serial .entry))) (onWire (wiredSignOn (now (serial .entry)))) (record { number = r; length = now (size .exit) }) (now (out .exit)) ⌝ }
+{
+    let b = commands::sign_on_wired(out, serial);
     *size = b.length;
     b.number
 }

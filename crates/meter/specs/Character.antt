@@ -18,9 +18,11 @@ use Rattle.receiving.specs.Receivers.{heldText, lastHeld, hurtPlace, keptReceiv
 use Rattle.deciding.specs.Verdict.{verdict}
 use Rattle.replies.specs.Block.{blockData}
 use Rattle.replies.specs.Periods.{longData}
-use Rattle.replies.specs.Fixed.{identification, passwordAsk}
+use Rattle.replies.specs.Fixed.{passwordAsk}
 use Rattle.state.specs.Setting.{withReceiver, inMode, withSpeed, withRegisters}
 use Rattle.state.specs.Closing.{closing}
+use Rattle.state.specs.Link.{linkOf, restSpeed}
+use Rattle.meter.specs.Link.{identified}
 use Rattle.meter.specs.Outcomes.{Outcome, silent, unheard, saying, nak, atPlace}
 use Rattle.meter.specs.SignOn.{signsOnBy, closesBy, wantsBlock, wantsPeriods, wantsProgram}
 use Rattle.meter.specs.Acting.{acted}
@@ -29,9 +31,9 @@ use Rattle.meter.specs.Acting.{acted}
 unfoldable pub symbol : ℕ → ℕ
 symbol b = cond (damagedAt b) 0 (seven b)
 
--- answered at speed 0, then mode 1
+-- answered as the link rules and at its speed, then mode 1
 abbrev pub signedOn : Meter → Outcome
-signedOn m = saying 1 0 identification (inMode m 1)
+signedOn m = saying 1 (restSpeed (linkOf m)) (identified (linkOf m) (m .registers .facts .serial)) (inMode m 1)
 
 -- the meter with a period closed
 abbrev pub periodClosed : Meter → Meter
@@ -41,8 +43,8 @@ periodClosed m = withRegisters m (closing (m .registers))
 unfoldable pub lineEnded : Meter → Outcome
 lineEnded m =
     cond (marked (m .receiver)) (silent 0 (inMode m 0))
-    (cond (signsOnBy (heldText (m .receiver)) (m .registers .facts .serial)) (signedOn m)
-    (cond (closesBy (heldText (m .receiver))) (signedOn (periodClosed m))
+    (cond (signsOnBy (linkOf m) (heldText (m .receiver)) (m .registers .facts .serial)) (signedOn m)
+    (cond (closesBy (linkOf m) (heldText (m .receiver))) (signedOn (periodClosed m))
     (silent 0 (inMode m 0))))
 
 -- six characters, the last of them c: unmarked ACK 0 V Y CR LF; the reply goes at V's speed, and a session that starts keeps it
@@ -56,9 +58,9 @@ readOut m speed content = saying 1 speed (blockOf content) (inMode m 0)
 unfoldable pub confirmed : Meter → ℕ → Bool → Outcome
 confirmed m c damaged =
     cond (marked (m .receiver) || damaged) (silent 2 (inMode m 0))
-    (cond (wantsBlock (heldText (m .receiver)) c) (readOut m (confirmedSpeed m) (blockData tables (m .registers)))
-    (cond (wantsPeriods (heldText (m .receiver)) c) (readOut m (confirmedSpeed m) (longData tables (m .registers)))
-    (cond (wantsProgram (heldText (m .receiver)) c) (saying 1 (confirmedSpeed m) passwordAsk (withSpeed (inMode m 2) (confirmedSpeed m)))
+    (cond (wantsBlock (linkOf m) (heldText (m .receiver)) c) (readOut m (confirmedSpeed m) (blockData tables (m .registers)))
+    (cond (wantsPeriods (linkOf m) (heldText (m .receiver)) c) (readOut m (confirmedSpeed m) (longData tables (m .registers)))
+    (cond (wantsProgram (linkOf m) (heldText (m .receiver)) c) (saying 1 (confirmedSpeed m) passwordAsk (withSpeed (inMode m 2) (confirmedSpeed m)))
     (silent 2 (inMode m 0)))))
 
 -- a whole frame, c being its BCC; [2]: where one of its characters was damaged, the answer has the place of the first, else 0

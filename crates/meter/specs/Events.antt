@@ -9,12 +9,13 @@ use Rattle.state.specs.WellFormed.{wellFormed}
 use Rattle.state.specs.Setting.{inMode, withAttempts, withRegisters, withCounters}
 use Rattle.tariff.specs.Zones.{zoneIn, counted}
 use Rattle.tariff.specs.Months.{secondLater}
-use Rattle.replies.specs.Fixed.{refused}
+use Rattle.state.specs.Link.{linkOf, restSpeed}
+use Rattle.meter.specs.Link.{refusedReply}
 use Rattle.meter.specs.Outcomes.{Outcome, silent, unheard, saying}
 
--- mode 1 replies NAK at speed 0 and goes to mode 0; modes 2 to 4 go to mode 0 unanswered; mode 0 empties the receiver
+-- mode 1 replies NAK, or what the link rules, and goes to mode 0; modes 2 to 4 go to mode 0 unanswered; mode 0 empties the receiver
 unfoldable pub afterSilence : Meter → Outcome
-afterSilence m = cond (eqb (m .mode) 0) (silent 0 (inMode m 0)) (cond (eqb (m .mode) 1) (saying 1 0 refused (inMode m 0)) (silent 1 (inMode m 0)))
+afterSilence m = cond (eqb (m .mode) 0) (silent 0 (inMode m 0)) (cond (eqb (m .mode) 1) (saying 1 (restSpeed (linkOf m)) (refusedReply (linkOf m)) (inMode m 0)) (silent 1 (inMode m 0)))
 
 unfoldable pub silence : Meter → ℕ → Outcome
 silence m room = cond (ltb room replyRoom) (unheard 12 m) (cond (wellFormed m) (afterSilence m) (unheard 14 m))

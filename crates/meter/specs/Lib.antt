@@ -1,3 +1,4 @@
+pub mod Link
 pub mod Outcomes
 pub mod Acting
 pub mod SignOn

@@ -1,12 +1,12 @@
 -- What a call answers: the number, the reply as characters, its speed, the place of the first damaged character with 3, and the next state.
-use mathlib.Core.Bool.{cond}
 use mathlib.Core.List.{List, []}
 use Prim.Native.Nat.{ℕ}
-use lib.Dec.{eqb}
 use lib.ListN.{length}
 use Rattle.state.specs.declared.Meter.{Meter}
 use Rattle.state.specs.Setting.{inMode}
-use Rattle.replies.specs.Fixed.{accepted, refused}
+use Rattle.state.specs.Link.{linkOf}
+use Rattle.replies.specs.Fixed.{accepted}
+use Rattle.meter.specs.Link.{refusedReply, afterRefusal}
 use Rattle.meter.specs.declared.Answer.{Answer}
 
 pub record Outcome : Type 0 where
@@ -40,13 +40,9 @@ saying number speed reply next = record { number = number; speed = speed; reply 
 abbrev pub atPlace : Outcome → ℕ → Outcome
 atPlace o place = record { number = o .number; speed = o .speed; reply = o .reply; place = place; next = o .next }
 
--- modes 3 and 4 stay; mode 2 falls to mode 0
-unfoldable pub fallen : ℕ → ℕ
-fallen mode = cond (eqb mode 2) 0 mode
-
--- refusals 3 to 11 reply NAK, at the session's speed
+-- refusals 3 to 11 reply what the link rules, at the session's speed
 abbrev pub nak : ℕ → Meter → Outcome
-nak number m = saying number (speedOf m) refused (inMode m (fallen (m .mode)))
+nak number m = saying number (speedOf m) (refusedReply (linkOf m)) (inMode m (afterRefusal (linkOf m) (m .mode)))
 
 -- ACK, at the session's speed
 abbrev pub ack : ℕ → Meter → Outcome

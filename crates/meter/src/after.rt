@@ -11,7 +11,10 @@ ghost use Rattle.meter.specs.Outcomes.{answerOf};
 ghost use Rattle.meter.specs.Events.{afterSilence, afterTick, afterPulse, afterPowerUp};
 use crate::Answer;
 use crate::answers;
+use crate::link;
 use state::Meter;
+use state::link::link_of;
+use state::link::rest_speed;
 use state::setting::in_mode;
 use state::setting::with_attempts;
 use state::setting::with_counters;
@@ -27,11 +30,12 @@ pub fn silence(m: Meter, reply: &mut [u8]) -> Answer
         return answers::quiet(0, in_mode(m, 0));
     }
     if m.mode == 1 {
-        let length = replies::refuse(reply);
+        let link = link_of(m);
+        let length = link::refuse(link, reply);
         return Answer {
             number: 1,
             length,
-            speed: 0,
+            speed: rest_speed(link),
             place: 0,
             next: in_mode(m, 0),
         };

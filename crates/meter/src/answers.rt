@@ -4,10 +4,14 @@ ghost use Prim.Native.Nat.{_≤_};
 ghost use lib.ListN.{length};
 ghost use Rattle.text.specs.Writing.{holding};
 ghost use Rattle.frames.specs.Frames.{onWire};
-ghost use Rattle.replies.specs.Fixed.{accepted, refused};
-ghost use Rattle.meter.specs.Outcomes.{answerOf, atPlace, fallen, silent, unheard, nak, ack};
+ghost use Rattle.state.specs.Link.{linkOf};
+ghost use Rattle.replies.specs.Fixed.{accepted};
+ghost use Rattle.meter.specs.Link.{refusedReply};
+ghost use Rattle.meter.specs.Outcomes.{answerOf, atPlace, silent, unheard, nak, ack};
 use crate::Answer;
+use crate::link;
 use state::Meter;
+use state::link::link_of;
 use state::setting::in_mode;
 
 // No reply; the speed is the next state's.
@@ -36,25 +40,20 @@ pub fn unheard_with(number: u8, m: Meter) -> Answer
     }
 }
 
-fn fall(mode: u8) -> u8
-    ensures { λ r. ⌜ r ≡ fallen mode ⌝ }
-{
-    if mode == 2 { 0 } else { mode }
-}
-
-// NAK at the session's speed, with a place; mode 2 falls to mode 0.
+// A refusal as the link rules it, at the session's speed, with a place.
 pub fn refuse_at(number: u8, place: u8, m: Meter, reply: &mut [u8]) -> Answer
     requires { ⌜ 1 ≤ length (now reply) ⌝ }
     ensures result { λ r. ⌜ r ≡ answerOf (atPlace (nak number m) place) ⌝ }
-    ensures held { λ _. ⌜ now (reply .exit) ≡ holding (now (reply .entry)) (onWire refused) ⌝ }
+    ensures held { λ _. ⌜ now (reply .exit) ≡ holding (now (reply .entry)) (onWire (refusedReply (linkOf m))) ⌝ }
 {
-    let length = replies::refuse(reply);
+    let link = link_of(m);
+    let length = link::refuse(link, reply);
     Answer {
         number,
         length,
         speed: m.speed,
         place,
-        next: in_mode(m, fall(m.mode)),
+        next: in_mode(m, link::fall(link, m.mode)),
     }
 }
 
@@ -62,7 +61,7 @@ pub fn refuse_at(number: u8, place: u8, m: Meter, reply: &mut [u8]) -> Answer
 pub fn refuse(number: u8, m: Meter, reply: &mut [u8]) -> Answer
     requires { ⌜ 1 ≤ length (now reply) ⌝ }
     ensures result { λ r. ⌜ r ≡ answerOf (nak number m) ⌝ }
-    ensures held { λ _. ⌜ now (reply .exit) ≡ holding (now (reply .entry)) (onWire refused) ⌝ }
+    ensures held { λ _. ⌜ now (reply .exit) ≡ holding (now (reply .entry)) (onWire (refusedReply (linkOf m))) ⌝ }
 {
     refuse_at(number, 0, m, reply)
 }

@@ -20,6 +20,7 @@ mod acting;
 mod after;
 mod answers;
 pub mod events;
+mod link;
 mod lines;
 pub mod passing;
 

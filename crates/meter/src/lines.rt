@@ -8,58 +8,35 @@ ghost use Rattle.frames.specs.Frames.{blockOf, onWire};
 ghost use Rattle.frames.specs.Session.{speedSaid};
 ghost use Rattle.replies.specs.Block.{blockData};
 ghost use Rattle.replies.specs.Periods.{longData};
-ghost use Rattle.replies.specs.Fixed.{identification};
 ghost use Rattle.state.specs.Sizes.{tables, replyRoom};
 ghost use Rattle.state.specs.WellFormed.{wellFormed};
 ghost use Rattle.meter.specs.Outcomes.{answerOf};
 ghost use Rattle.meter.specs.Character.{signedOn, periodClosed, lineEnded, readOut, confirmed};
-ghost use Rattle.meter.specs.SignOn.{ourLine, signsOnBy, closesBy, confirms, wantsBlock, wantsPeriods, wantsProgram};
+ghost use Rattle.meter.specs.SignOn.{confirms, wantsBlock, wantsPeriods, wantsProgram};
 use crate::Answer;
 use crate::answers;
+use crate::link;
 use state::Meter;
+use state::link::link_of;
+use state::link::rest_speed;
 use state::setting::in_mode;
 use state::setting::with_registers;
 use state::setting::with_speed;
 
-// The sign-on that names a serial, but for its LF.
-fn our_line(serial: &[u8]) -> [u8; 15]
-    requires { ⌜ length (now serial) ≡ 10 ⌝ }
-    ensures { λ r. ⌜ r ≡ ourLine (now (serial .entry)) ⌝ }
-{
-    let mut shown = [0u8; 15];
-    let a = text::put(&mut shown, 0, b"/?");
-    let b = values::writing::put_serial(&mut shown, a, serial);
-    text::put(&mut shown, b, b"!\r");
-    shown
-}
-
-// Whether a line, which its LF has ended, signs on.
-fn signs_on(line: &[u8], serial: &[u8]) -> bool
-    requires { ⌜ length (now serial) ≡ 10 ⌝ }
-    ensures { λ r. ⌜ r ≡ signsOnBy (now (line .entry)) (now (serial .entry)) ⌝ }
-{
-    let ours = our_line(serial);
-    (text::same(line, b"/?!\r") | text::same(line, &ours)) | text::same(line, b"/?000 0000000!\r")
-}
-
-// Whether it closes a period.
-fn closes(line: &[u8]) -> bool
-    ensures { λ r. ⌜ r ≡ closesBy (now (line .entry)) ⌝ }
-{
-    text::same(line, b"/C!\r")
-}
-
-// The identification, then mode 1.
+// The answer to a sign-on, then mode 1.
 fn sign_on(m: Meter, reply: &mut [u8]) -> Answer
-    requires { ⌜ replyRoom ≤ length (now reply) ⌝ }
+    requires { ⌜ (length (m .registers .facts .serial) ≡ 10) × (replyRoom ≤ length (now reply)) ⌝ }
     ensures result { λ r. ⌜ r ≡ answerOf (signedOn m) ⌝ }
-    ensures held { λ _. ⌜ now (reply .exit) ≡ holding (now (reply .entry)) (onWire identification) ⌝ }
+    ensures held { λ _. ⌜ now (reply .exit) ≡ holding (now (reply .entry)) (onWire (signedOn m .reply)) ⌝ }
 {
-    let length = replies::identify(reply);
+    let g = m.registers;
+    let f = g.facts;
+    let serial = f.serial;
+    let length = link::identify(f.link, &serial, reply);
     Answer {
         number: 1,
         length,
-        speed: 0,
+        speed: rest_speed(f.link),
         place: 0,
         next: in_mode(m, 1),
     }
@@ -89,44 +66,45 @@ pub fn end_line(m: Meter, reply: &mut [u8]) -> Answer
         return answers::quiet(0, in_mode(m, 0));
     }
     let line = text::first(&held, r.count as usize);
-    if signs_on(line, &serial) {
+    if link::signs_on(f.link, line, &serial) {
         return sign_on(m, reply);
     }
-    if closes(line) {
+    if link::closes(f.link, line) {
         return sign_on(close_period(m), reply);
     }
     answers::quiet(0, in_mode(m, 0))
 }
 
-// Whether five characters and one more are a confirmation with Y, at 9600 baud or at 300.
-fn confirms(five: &[u8], c: u8, y: u8) -> bool
-    ensures { λ r. ⌜ r ≡ confirms (now (five .entry)) c y ⌝ }
+// Whether five characters and one more are a confirmation with Y, at 9600 baud or, where the link has it, at 300.
+fn confirms(link: u8, five: &[u8], c: u8, y: u8) -> bool
+    ensures { λ r. ⌜ r ≡ confirms link (now (five .entry)) c y ⌝ }
 {
     let fast = [line::ACK, b'0', b'5', y, line::CR];
     let slow = [line::ACK, b'0', b'0', y, line::CR];
     let ended = c == line::LF;
-    (text::same(five, &fast) & ended) | (text::same(five, &slow) & ended)
+    (text::same(five, &fast) & ended)
+        | (link::slow_too(link) & (text::same(five, &slow) & ended))
 }
 
 // Whether they confirm a reading.
-fn wants_block(five: &[u8], c: u8) -> bool
-    ensures { λ r. ⌜ r ≡ wantsBlock (now (five .entry)) c ⌝ }
+fn wants_block(link: u8, five: &[u8], c: u8) -> bool
+    ensures { λ r. ⌜ r ≡ wantsBlock link (now (five .entry)) c ⌝ }
 {
-    confirms(five, c, b'0') | confirms(five, c, b'7')
+    confirms(link, five, c, b'0') | confirms(link, five, c, b'7')
 }
 
 // Whether they confirm a reading with the closed periods.
-fn wants_periods(five: &[u8], c: u8) -> bool
-    ensures { λ r. ⌜ r ≡ wantsPeriods (now (five .entry)) c ⌝ }
+fn wants_periods(link: u8, five: &[u8], c: u8) -> bool
+    ensures { λ r. ⌜ r ≡ wantsPeriods link (now (five .entry)) c ⌝ }
 {
-    confirms(five, c, b'6')
+    confirms(link, five, c, b'6')
 }
 
 // Whether they confirm programming.
-fn wants_program(five: &[u8], c: u8) -> bool
-    ensures { λ r. ⌜ r ≡ wantsProgram (now (five .entry)) c ⌝ }
+fn wants_program(link: u8, five: &[u8], c: u8) -> bool
+    ensures { λ r. ⌜ r ≡ wantsProgram link (now (five .entry)) c ⌝ }
 {
-    confirms(five, c, b'1')
+    confirms(link, five, c, b'1')
 }
 
 // The speed identifier of a confirmation's digit.
@@ -182,15 +160,16 @@ pub fn confirm(m: Meter, c: u8, damaged: bool, reply: &mut [u8]) -> Answer
     if marked {
         return answers::quiet(2, in_mode(m, 0));
     }
+    let link = link_of(m);
     let speed = speed_said(held[2]);
     let five = text::first(&held, r.count as usize);
-    if wants_block(five, c) {
+    if wants_block(link, five, c) {
         return read_out(m, speed, reply);
     }
-    if wants_periods(five, c) {
+    if wants_periods(link, five, c) {
         return read_out_long(m, speed, reply);
     }
-    if wants_program(five, c) {
+    if wants_program(link, five, c) {
         let length = replies::ask_password(reply);
         return Answer {
             number: 1,

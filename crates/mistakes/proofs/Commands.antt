@@ -16,10 +16,10 @@ use Rattle.text.specs.Layout.{layoutText}
 use Rattle.clock.specs.Dates.{leap, thirty, daysIn, realDate, realTime}
 use Rattle.clock.specs.Seconds.{realClock}
 use Rattle.values.specs.Registers.{goodDigits, isAccountCharacter, goodAccount, goodRow, goodTable, goodZone}
-use Rattle.values.specs.Texts.{serialText, tableText, clockText}
+use Rattle.values.specs.Texts.{serialText, wiredText, tableText, clockText}
 use Rattle.frames.specs.Frames.{closed, frameOf, bareFrame}
 use Rattle.frames.specs.Commands.{bracketed, askClock, askSerial, askAccount, askEnergy, askTable, setClock, setAccount, setTable}
-use Rattle.frames.specs.Session.{signOn, closingSignOn, signOnTo, confirmation, goodSpeed, enterData, passwordData}
+use Rattle.frames.specs.Session.{signOn, closingSignOn, signOnTo, wiredLine, confirmation, goodSpeed, enterData, passwordData}
 use Rattle.commands.specs.declared.Built.{Built}
 use Rattle.commands.specs.Building.{goodChoice, builtIn, keptOr}
 use Rattle.mistakes.specs.Samples.{serial, password}
@@ -37,12 +37,13 @@ by-byte : (at : ℕ) {buf : List ℕ} {ok : Bool} {command wrong : List ℕ} →
 by-byte at e r b = byte at e (b .held)
 
 pub commands : Commands
-unfolding ones seven sent bccOf every holding between isDigit isLetter decimal layoutText leap thirty daysIn realDate realTime realClock goodDigits isAccountCharacter goodAccount goodRow goodTable goodZone serialText tableText clockText closed frameOf bareFrame bracketed askClock askSerial askAccount askEnergy askTable setClock setAccount setTable signOn closingSignOn signOnTo confirmation goodSpeed enterData passwordData goodChoice builtIn keptOr serial password broken
+unfolding ones seven sent bccOf every holding between isDigit isLetter decimal layoutText leap thirty daysIn realDate realTime realClock goodDigits isAccountCharacter goodAccount goodRow goodTable goodZone serialText wiredText tableText clockText closed frameOf bareFrame bracketed askClock askSerial askAccount askEnergy askTable setClock setAccount setTable signOn closingSignOn signOnTo wiredLine confirmation goodSpeed enterData passwordData goodChoice builtIn keptOr serial password broken
 commands =
     record {
       «sign_on» = (by-byte 0 refl, by-length refl);
       close = (by-byte 1 refl, by-byte 1 refl);
       «sign_on_to» = (by-number refl, by-byte 5 refl);
+      «sign_on_wired» = (by-number refl, by-byte 5 refl);
       confirm = (by-number refl, by-number refl);
       confirm-speed = (by-number refl, by-number refl);
       enter = (by-byte 2 refl, by-number refl);

@@ -9,7 +9,8 @@ use Rattle.clock.specs.Seconds.{realClock}
 use Rattle.values.specs.Registers.{goodSerial, goodPassword, goodAccount, goodRow, goodTable, goodZone}
 use Rattle.frames.specs.Frames.{frameOf, bareFrame, onWire}
 use Rattle.frames.specs.Commands.{B0, P0, P1, R1, W1, bracketed, askClock, askSerial, askAccount, askEnergy, askTable, setClock, setAccount, setTable}
-use Rattle.frames.specs.Session.{signOn, closingSignOn, signOnTo, confirmation, goodSpeed, enterData, passwordData}
+use Rattle.values.specs.Texts.{serialText}
+use Rattle.frames.specs.Session.{signOn, closingSignOn, signOnTo, wiredSignOn, confirmation, goodSpeed, enterData, passwordData}
 use Rattle.commands.specs.declared.Built.{Built}
 use Rattle.commands.specs.Building.{goodChoice, Builds}
 use Rattle.mistakes.specs.Samples.{clockAt, serial, password}
@@ -39,6 +40,9 @@ pub record Commands : Type 0 where
   -- nine digits; no space after three of them
   pub «sign_on_to» : NotAnswered room (goodSerial (replicate 9 49)) (onWire (signOnTo (replicate 9 49))) 1 15
       × NotLeft room (goodSerial serial) (onWire (signOnTo serial)) (holding room (onWire (chars "/?" ++ (serial ++ (chars "!\r\n")))))
+  -- nine digits; a space for the dot
+  pub «sign_on_wired» : NotAnswered room (goodSerial (replicate 9 49)) (onWire (wiredSignOn (replicate 9 49))) 1 14
+      × NotLeft room (goodSerial serial) (onWire (wiredSignOn serial)) (holding room (onWire (chars "/A" ++ (serialText serial ++ (chars "\r\n")))))
   -- '8' confirmed; '6' refused
   pub confirm : NotAnswered room (goodSpeed 53 && goodChoice 56) (onWire (confirmation 53 56)) 1 6
       × NotAnswered room (goodSpeed 53 && goodChoice 54) (onWire (confirmation 53 54)) 9 0

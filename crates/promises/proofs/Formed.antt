@@ -2,12 +2,12 @@
 use mathlib.Core.Path.{_≡_, refl, sym, ap}
 use mathlib.Core.Bool.{Bool, true, false, cond, not, _&&_, _||_}
 use mathlib.Core.Logic.{_⊎_, inl, inr}
-use mathlib.Core.List.{List, [], _∷_}
+use mathlib.Core.List.{List, [], _∷_, _++_}
 use Prim.Native.Nat.{ℕ, zero, suc, _+_, _-_, _*_, _%_, _<_, _≤_}
 use native.Mathlib.Omega.{arith}
 use borrow.Author.Tests.{le-leb, lt-ltb, ltb-true, eq-eqb, ne-eqb, eqb-true, eqb-false}
 use lib.Dec.{eqb, leb, ltb}
-use lib.ListN.{length, drop, getD, set, length-set}
+use lib.ListN.{length, take, drop, getD, set, length-set}
 use lib.Seq.{drop-nil, drop-set-lt, getD-set-other}
 use Rattle.line.specs.Runs.{every}
 use Rattle.line.specs.Characters.{damagedAt, seven}
@@ -15,6 +15,7 @@ use Rattle.line.proofs.Runs.{and-left, and-right, and-both, every-set}
 use Rattle.line.proofs.Parity.{seven-lt}
 use Rattle.text.specs.Classes.{between, sameText}
 use Rattle.text.specs.Writing.{stored}
+use Rattle.text.proofs.Matching.{same-is}
 use Rattle.text.proofs.Writing.{length-stored, every-stored}
 use Rattle.clock.specs.Seconds.{realClock, nextSecond}
 use Rattle.clock.specs.declared.Clock.{Clock}
@@ -26,12 +27,13 @@ use Rattle.state.specs.declared.Receiver.{Receiver}
 use Rattle.state.specs.declared.Counters.{Counters}
 use Rattle.state.specs.declared.Archive.{Archive}
 use Rattle.state.specs.declared.Registers.{Registers}
-use Rattle.frames.specs.Session.{speedSaid}
+use Rattle.frames.specs.Session.{speedSaid, confirmation}
 use Rattle.state.specs.declared.Meter.{Meter}
+use Rattle.state.specs.Link.{linkOf, isWired, restSpeed}
 use Rattle.state.specs.WellFormed.{limit, firstGood, markGood, heldGood, receiverGood, below, zonesGood, sumOf, total, countersGood, tablesGood, archiveGood, registersGood, wellFormed, marked, speedGood, hurtGood}
 use Rattle.state.specs.Making.{emptyReceiver}
 use Rattle.state.specs.Closing.{periodOf, closing}
-use Rattle.state.proofs.Parts.{Formed, formed, well-formed, FormedRegisters, formed-registers, registers-good, FormedReceiver, formed-receiver, receiver-good, total-is-sum, speed-kept}
+use Rattle.state.proofs.Parts.{Formed, formed, well-formed, FormedRegisters, formed-registers, registers-good, FormedReceiver, formed-receiver, receiver-good, total-is-sum, speed-kept, fast-good}
 use Rattle.state.proofs.Totals.{grows-alike}
 use Rattle.state.specs.Setting.{withReceiver, inMode, withAttempts, withRegisters, withClock, withAccount, withTables, withArchive, withCounters, withZones, withTotal, withRow, rowStart, zonePlace, counterOf, withSpeed}
 use Rattle.tariff.specs.Zones.{zoneIn, grown, counted}
@@ -43,8 +45,9 @@ use Rattle.receiving.specs.Receivers.{heldText, lastHeld, keptReceiver, restart
 use Rattle.receiving.proofs.Laws.{Room, hold-room, restart-first}
 use Rattle.deciding.specs.declared.Verdict.{Verdict}
 use Rattle.deciding.specs.Verdict.{verdict}
-use Rattle.meter.specs.Outcomes.{Outcome, fallen}
-use Rattle.meter.specs.SignOn.{signsOnBy, closesBy, wantsBlock, wantsPeriods, wantsProgram}
+use Rattle.meter.specs.Outcomes.{Outcome}
+use Rattle.meter.specs.Link.{slowToo, afterRefusal}
+use Rattle.meter.specs.SignOn.{signsOnBy, closesBy, confirms, wantsBlock, wantsPeriods, wantsProgram}
 use Rattle.meter.specs.Acting.{passwordGiven, accountGiven, rowGiven, tried, acted}
 use Rattle.meter.specs.Character.{symbol, periodClosed, lineEnded, confirmedSpeed, confirmed, heard, taken, character}
 use Rattle.meter.specs.Events.{afterSilence, silence, tick, pulse, powerUp}
@@ -150,7 +153,7 @@ kept-good mode r c d g room s =
 in-mode : (m : Meter) (mode : ℕ) → wellFormed m ≡ true → mode ≤ 4 → wellFormed (inMode m mode) ≡ true
 in-mode m mode h k =
     let f = formed m h in
-    well-formed (inMode m mode) (record { mode = k; attempts = f .attempts; speed = speed-kept (m .mode) mode (m .speed) (f .speed); receiver = empty-good mode; registers = f .registers })
+    well-formed (inMode m mode) (record { mode = k; attempts = f .attempts; speed = speed-kept (linkOf m) (m .mode) mode (m .speed) (f .speed); receiver = empty-good mode; registers = f .registers })
 
 with-receiver : (m : Meter) (r : Receiver) → wellFormed m ≡ true → receiverGood (m .mode) r ≡ true → wellFormed (withReceiver m r) ≡ true
 with-receiver m r h k =
@@ -162,20 +165,47 @@ with-attempts m a h k =
     let f = formed m h in
     well-formed (withAttempts m a) (record { mode = f .mode; attempts = k; speed = f .speed; receiver = f .receiver; registers = f .registers })
 
-with-registers : (m : Meter) (g : Registers) → wellFormed m ≡ true → registersGood g ≡ true → wellFormed (withRegisters m g) ≡ true
-with-registers m g h k =
+-- registers of the same link
+with-registers : (m : Meter) (g : Registers) → wellFormed m ≡ true → registersGood g ≡ true → g .facts .link ≡ linkOf m → wellFormed (withRegisters m g) ≡ true
+with-registers m g h k same =
     let f = formed m h in
-    well-formed (withRegisters m g) (record { mode = f .mode; attempts = f .attempts; speed = f .speed; receiver = f .receiver; registers = k })
+    well-formed (withRegisters m g) (record { mode = f .mode; attempts = f .attempts; speed = rw same (f .speed); receiver = f .receiver; registers = k })
 
-with-speed : (m : Meter) (s : ℕ) → wellFormed m ≡ true → speedGood (m .mode) s ≡ true → wellFormed (withSpeed m s) ≡ true
+with-speed : (m : Meter) (s : ℕ) → wellFormed m ≡ true → speedGood (linkOf m) (m .mode) s ≡ true → wellFormed (withSpeed m s) ≡ true
 with-speed m s h k =
     let f = formed m h in
     well-formed (withSpeed m s) (record { mode = f .mode; attempts = f .attempts; speed = k; receiver = f .receiver; registers = f .registers })
 
--- whatever digit was confirmed, its speed is one of a session
-said-good : (v : ℕ) → speedGood 2 (speedSaid v) ≡ true
-unfolding speedGood speedSaid
-said-good v = choice.either (λ (s : ℕ). (eqb s 0 || (leb 2 2 && eqb s 5)) ≡ true) (eqb v 53) refl refl
+-- whatever digit was confirmed, its speed is one of a session; on the wired link it is '5'
+said-good : (link v : ℕ) → (isWired link ≡ true → v ≡ 53) → speedGood link 2 (speedSaid v) ≡ true
+unfolding speedSaid
+said-good link v five =
+    choice.told (λ (s : ℕ). speedGood link 2 s ≡ true) (eqb v 53) (λ e. fast-good link 2 (omega arith)) (λ e. slow (isWired link) refl e)
+  where
+    slow : (w : Bool) → isWired link ≡ w → eqb v 53 ≡ false → speedGood link 2 0 ≡ true
+    slow true w e = absurd (eqb-false v 53 e (five w))
+    slow false w e = unfold speedGood restSpeed in rw w
+
+-- the third of the characters that are held, and one more
+third : (n : ℕ) (held : List ℕ) (c v y : ℕ) → take n held ++ (c ∷ []) ≡ 6 ∷ 48 ∷ v ∷ y ∷ 13 ∷ 10 ∷ [] → getD held 2 0 ≡ v
+third zero held c v y e = absurd (omega (arith, ap length e))
+third (suc n) [] c v y e = absurd (omega (arith, ap length e))
+third (suc zero) (a ∷ held) c v y e = absurd (omega (arith, ap length e))
+third (suc (suc n)) (a ∷ []) c v y e = absurd (omega (arith, ap length e))
+third (suc (suc zero)) (a ∷ b ∷ held) c v y e = absurd (omega (arith, ap length e))
+third (suc (suc (suc n))) (a ∷ b ∷ []) c v y e = absurd (omega (arith, ap length e))
+third (suc (suc (suc n))) (a ∷ b ∷ x ∷ held) c v y e = ap (λ (l : List ℕ). getD l 2 0) e
+
+-- what starts a session on the wired link has the digit '5'
+five-said : (link n : ℕ) (held : List ℕ) (c : ℕ) → wantsProgram link (take n held) c ≡ true → isWired link ≡ true → getD held 2 0 ≡ 53
+unfolding wantsProgram confirms slowToo confirmation
+five-said link n held c h w =
+    let five = sameText (take n held ++ (c ∷ [])) (6 ∷ 48 ∷ 53 ∷ 49 ∷ 13 ∷ 10 ∷ []) in
+    third n held c 53 49 (same-is (take n held ++ (c ∷ [])) (6 ∷ 48 ∷ 53 ∷ 49 ∷ 13 ∷ 10 ∷ []) (alone five (rw w at h)))
+  where
+    alone : (p : Bool) → (p || false) ≡ true → p ≡ true
+    alone true h = refl
+    alone false h = h
 
 own : (m : Meter) → wellFormed m ≡ true → FormedRegisters (m .registers)
 own m h = formed-registers (m .registers) (formed m h .registers)
@@ -240,13 +270,13 @@ counted-good c zone wh h =
 
 -- ---- a character
 
-fallen-small : (mode : ℕ) → mode ≤ 4 → fallen mode ≤ 4
-unfolding fallen
-fallen-small mode h = choice.either (λ (k : ℕ). k ≤ 4) (eqb mode 2) (omega arith) h
+fallen-small : (link mode : ℕ) → mode ≤ 4 → afterRefusal link mode ≤ 4
+unfolding afterRefusal
+fallen-small link mode h = choice.either (λ (k : ℕ). k ≤ 4) (isWired link || eqb mode 2) (omega arith) h
 
 module _ (m : Meter) (h : wellFormed m ≡ true) where
-  falls : wellFormed (inMode m (fallen (m .mode))) ≡ true
-  falls = in-mode m (fallen (m .mode)) h (fallen-small (m .mode) (formed m h .mode))
+  falls : wellFormed (inMode m (afterRefusal (linkOf m) (m .mode))) ≡ true
+  falls = in-mode m (afterRefusal (linkOf m) (m .mode)) h (fallen-small (linkOf m) (m .mode) (formed m h .mode))
 
   tried-stays : Stays (tried m)
   unfolding tried Stays
@@ -257,10 +287,10 @@ module _ (m : Meter) (h : wellFormed m ≡ true) where
       let below : m .attempts + 1 ≤ 3 = omega (arith, f .attempts, eqb-false (m .attempts) 3 e) in
       choice.either Stays (sameText (passwordGiven m) (m .registers .facts .password))
       (in-mode (withAttempts m 0) 4 (with-attempts m 0 h (omega arith)) (omega arith))
-      (in-mode (withAttempts m (m .attempts + 1)) (fallen (m .mode)) (with-attempts m (m .attempts + 1) h below) (fallen-small (m .mode) (f .mode))))
+      (in-mode (withAttempts m (m .attempts + 1)) (afterRefusal (linkOf m) (m .mode)) (with-attempts m (m .attempts + 1) h below) (fallen-small (linkOf m) (m .mode) (f .mode))))
 
-  wrote-stays : (g : Registers) → registersGood g ≡ true → wellFormed (withReceiver (withRegisters m g) emptyReceiver) ≡ true
-  wrote-stays g k = with-receiver (withRegisters m g) emptyReceiver (with-registers m g h k) (empty-good (m .mode))
+  wrote-stays : (g : Registers) → registersGood g ≡ true → g .facts .link ≡ linkOf m → wellFormed (withReceiver (withRegisters m g) emptyReceiver) ≡ true
+  wrote-stays g k same = with-receiver (withRegisters m g) emptyReceiver (with-registers m g h k same) (empty-good (m .mode))
 
   frame-stays : (mark : Bool) (sum : ℕ) → Stays (acted m (verdict (m .mode) (heldText (m .receiver)) mark sum))
   unfolding acted Stays
@@ -274,11 +304,11 @@ module _ (m : Meter) (h : wellFormed m ≡ true) where
         read = λ a k. with-receiver m emptyReceiver h (empty-good (m .mode));
         write = λ e f.
             record {
-              clock = λ c i r. wrote-stays _ (clock-good (m .registers) c (own m h) r);
-              account = λ r. wrote-stays _ (account-good (m .registers) (accountGiven m) (own m h) (account-is (m .receiver .count) (m .receiver .held) r));
+              clock = λ c i r. wrote-stays _ (clock-good (m .registers) c (own m h) r) refl;
+              account = λ r. wrote-stays _ (account-good (m .registers) (accountGiven m) (own m h) (account-is (m .receiver .count) (m .receiver .held) r)) refl;
               table = λ t i g r.
                   choice.either Stays (goodTable tables (t .0))
-                  (wrote-stays _ (tables-good (m .registers) (t .0) (rowGiven m) (own m h) (row-is (m .receiver .count) (m .receiver .held) r)))
+                  (wrote-stays _ (tables-good (m .registers) (t .0) (rowGiven m) (own m h) (row-is (m .receiver .count) (m .receiver .held) r)) refl)
                   falls;
               wrong = falls;
             };
@@ -293,14 +323,18 @@ module _ (m : Meter) (h : wellFormed m ≡ true) where
   heard-stays c d Empty e s = with-receiver m _ h (empty-good (m .mode))
   heard-stays c d Line e s =
       choice.either Stays (marked (m .receiver)) (in-mode m 0 h (omega arith))
-      (choice.either Stays (signsOnBy (heldText (m .receiver)) (m .registers .facts .serial)) (in-mode m 1 h (omega arith))
-      (choice.either Stays (closesBy (heldText (m .receiver)))
-      (in-mode (periodClosed m) 1 (with-registers m _ h (closing-good (m .registers) (formed m h .registers))) (omega arith)) (in-mode m 0 h (omega arith))))
+      (choice.either Stays (signsOnBy (linkOf m) (heldText (m .receiver)) (m .registers .facts .serial)) (in-mode m 1 h (omega arith))
+      (choice.either Stays (closesBy (linkOf m) (heldText (m .receiver)))
+      (in-mode (periodClosed m) 1 (with-registers m _ h (closing-good (m .registers) (formed m h .registers)) refl) (omega arith)) (in-mode m 0 h (omega arith))))
   heard-stays c d Confirm e s =
       choice.either Stays (marked (m .receiver) || d) (in-mode m 0 h (omega arith))
-      (choice.either Stays (wantsBlock (heldText (m .receiver)) c) (in-mode m 0 h (omega arith))
-      (choice.either Stays (wantsPeriods (heldText (m .receiver)) c) (in-mode m 0 h (omega arith))
-      (choice.either Stays (wantsProgram (heldText (m .receiver)) c) (with-speed (inMode m 2) (confirmedSpeed m) (in-mode m 2 h (omega arith)) (said-good (getD (m .receiver .held) 2 0))) (in-mode m 0 h (omega arith)))))
+      (choice.either Stays (wantsBlock (linkOf m) (heldText (m .receiver)) c) (in-mode m 0 h (omega arith))
+      (choice.either Stays (wantsPeriods (linkOf m) (heldText (m .receiver)) c) (in-mode m 0 h (omega arith))
+      (choice.given Stays (wantsProgram (linkOf m) (heldText (m .receiver)) c)
+      (λ e.
+      with-speed (inMode m 2) (confirmedSpeed m) (in-mode m 2 h (omega arith))
+      (said-good (linkOf m) (getD (m .receiver .held) 2 0) (five-said (linkOf m) (m .receiver .count) (m .receiver .held) c e)))
+      (in-mode m 0 h (omega arith)))))
   heard-stays c d Frame e s = frame-stays (marked (m .receiver) || d) c
   heard-stays c d TooLong e s = falls
 
@@ -327,16 +361,20 @@ module _ (m : Meter) (h : wellFormed m ≡ true) where
       let next = clock-good g (nextSecond (g .clock)) (own m h) (next-second-real (g .clock) (own m h .clock)) in
       choice.either (λ (x : Registers). registersGood x ≡ true) (monthStarts (nextSecond (g .clock))) (closing-good (withClock g (nextSecond (g .clock))) next) next
 
+  same-link : secondLater (m .registers) .facts .link ≡ linkOf m
+  unfolding monthClosed
+  same-link = choice.either (λ (x : Registers). x .facts .link ≡ linkOf m) (monthStarts (nextSecond (m .registers .clock))) refl refl
+
   pub tick-stays : wellFormed (tick m .next) ≡ true
   unfolding tick Stays
-  tick-stays = choice.either Stays (wellFormed m) (with-registers m (secondLater (m .registers)) h second-good) h
+  tick-stays = choice.either Stays (wellFormed m) (with-registers m (secondLater (m .registers)) h second-good same-link) h
 
   pub pulse-stays : (wh : ℕ) → wellFormed (pulse m wh .next) ≡ true
   unfolding pulse Stays
   pulse-stays wh =
       choice.either Stays (ltb 1000000 wh) h
       (choice.either Stays (wellFormed m)
-      (with-registers m _ h (counters-good (m .registers) _ (own m h) (counted-good (m .registers .counters) (zoneIn (m .registers)) wh (own m h .counters)))) h)
+      (with-registers m _ h (counters-good (m .registers) _ (own m h) (counted-good (m .registers .counters) (zoneIn (m .registers)) wh (own m h .counters))) refl) h)
 
   pub power-up-stays : wellFormed (powerUp m .next) ≡ true
   unfolding powerUp Stays

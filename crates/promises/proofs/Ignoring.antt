@@ -12,6 +12,7 @@ use Rattle.line.specs.Characters.{damagedAt}
 use Rattle.line.proofs.Runs.{and-left, and-right, and-both}
 use Rattle.state.specs.Sizes.{replyRoom}
 use Rattle.state.specs.declared.Meter.{Meter}
+use Rattle.state.specs.Link.{linkOf}
 use Rattle.state.specs.WellFormed.{limit, firstGood, markGood, hurtGood, heldGood, receiverGood, speedGood, registersGood, wellFormed, marked}
 use Rattle.state.proofs.Parts.{formed, well-formed, formed-receiver, receiver-good}
 use Rattle.receiving.specs.declared.Hearing.{Hearing}
@@ -50,7 +51,7 @@ exactly : (m : Meter) → wellFormed m ≡ (unplacedFormed (unplaced m) && hurtG
 unfolding wellFormed receiverGood unplacedFormed
 exactly m =
     let r = m .receiver in
-    aside ((leb (m .mode) 4 && leb (m .attempts) 3) && speedGood (m .mode) (m .speed)) (leb (r .count) (limit (m .mode)))
+    aside ((leb (m .mode) 4 && leb (m .attempts) 3) && speedGood (linkOf m) (m .mode) (m .speed)) (leb (r .count) (limit (m .mode)))
     (firstGood (m .mode) (r .count) (getD (r .held) 0 0)) (markGood (r .count) (r .mark)) (hurtGood (r .count) (r .mark) (r .place)) (heldGood (r .held) (r .count)) (registersGood (m .registers))
 
 pub refuses-places : RefusesPlaces
@@ -156,11 +157,11 @@ module _ (m : Meter) where
   heard-nowhere c d Restart n = refl
   heard-nowhere c d Empty n = refl
   heard-nowhere c d Line n =
-      either-nowhere (marked (m .receiver)) _ _ refl (either-nowhere (signsOnBy (heldText (m .receiver)) (m .registers .facts .serial)) _ _ refl (either-nowhere (closesBy (heldText (m .receiver))) _ _ refl refl))
+      either-nowhere (marked (m .receiver)) _ _ refl (either-nowhere (signsOnBy (linkOf m) (heldText (m .receiver)) (m .registers .facts .serial)) _ _ refl (either-nowhere (closesBy (linkOf m) (heldText (m .receiver))) _ _ refl refl))
   heard-nowhere c d Confirm n =
       either-nowhere (marked (m .receiver) || d) _ _ refl
-      (either-nowhere (wantsBlock (heldText (m .receiver)) c) _ _ refl
-      (either-nowhere (wantsPeriods (heldText (m .receiver)) c) _ _ refl (either-nowhere (wantsProgram (heldText (m .receiver)) c) _ _ refl refl)))
+      (either-nowhere (wantsBlock (linkOf m) (heldText (m .receiver)) c) _ _ refl
+      (either-nowhere (wantsPeriods (linkOf m) (heldText (m .receiver)) c) _ _ refl (either-nowhere (wantsProgram (linkOf m) (heldText (m .receiver)) c) _ _ refl refl)))
   heard-nowhere c d Frame n = go (marked (m .receiver)) d n
     where
       go : (k d : Bool) → (acted m (verdict (m .mode) (heldText (m .receiver)) (k || d) c) .number ≡ 3 → ⊥)

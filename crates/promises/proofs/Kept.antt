@@ -1,11 +1,12 @@
 -- What a character can change. Only an accepted W1 changes the clock, the account or the tables, in programming mode, and then only that
 -- register, to what the frame tells; `/C!` closes a period; any other answer changes no register. One walk over the verdicts (`verdict-all`). Assumes nothing.
 use mathlib.Core.Path.{_≡_, refl, sym, ap}
-use mathlib.Core.Bool.{Bool, true, false, _||_}
+use mathlib.Core.Bool.{Bool, true, false, not, _||_}
 use mathlib.Core.List.{List}
 use Prim.Native.Nat.{ℕ, _-_, _*_}
 use lib.Dec.{eqb, ltb}
-use borrow.Author.Tests.{eqb-true}
+use borrow.Author.Tests.{eqb-true, not-true}
+use Rattle.line.proofs.Runs.{and-left, and-right}
 use Rattle.line.specs.Characters.{damagedAt}
 use Rattle.text.specs.Classes.{sameText}
 use Rattle.text.specs.Writing.{stored}
@@ -15,6 +16,7 @@ use Rattle.values.specs.Registers.{goodTable}
 use Rattle.state.specs.Sizes.{replyRoom, tables}
 use Rattle.state.specs.declared.Registers.{Registers}
 use Rattle.state.specs.declared.Meter.{Meter}
+use Rattle.state.specs.Link.{linkOf, isWired}
 use Rattle.state.specs.WellFormed.{wellFormed, marked}
 use Rattle.state.specs.Setting.{withAccount, withTables, withRow}
 use Rattle.receiving.specs.declared.Hearing.{Hearing}
@@ -24,6 +26,7 @@ use Rattle.receiving.specs.Receivers.{heldText, lastHeld, hurtPlace}
 use Rattle.deciding.specs.declared.Verdict.{Verdict}
 use Rattle.deciding.specs.Verdict.{verdict}
 use Rattle.meter.specs.Outcomes.{Outcome, atPlace}
+use Rattle.meter.specs.Link.{closes}
 use Rattle.meter.specs.SignOn.{signsOnBy, closesBy, wantsBlock, wantsPeriods, wantsProgram}
 use Rattle.meter.specs.Acting.{passwordGiven, tried, acted}
 use Rattle.meter.specs.Character.{symbol, lineEnded, confirmed, heard, taken, character}
@@ -79,18 +82,19 @@ module _ (m : Meter) (b : ℕ) where
       refl
 
   line-kept : hearing (m .mode) (m .receiver .count) (lastHeld (m .receiver)) (symbol b) ≡ Line → Kept m b (lineEnded m)
-  unfolding lineEnded closesBy
+  unfolding lineEnded closes
   line-kept f =
       choice.told (Kept m b) (marked (m .receiver)) (λ e. same refl)
       (λ u.
-      choice.either (Kept m b) (signsOnBy (heldText (m .receiver)) (m .registers .facts .serial)) (same refl)
-      (choice.given (Kept m b) (closesBy (heldText (m .receiver)))
+      choice.either (Kept m b) (signsOnBy (linkOf m) (heldText (m .receiver)) (m .registers .facts .serial)) (same refl)
+      (choice.given (Kept m b) (closesBy (linkOf m) (heldText (m .receiver)))
       (λ e.
       closed (record {
         listening = eqb-true (m .mode) 0 (line-is (m .mode) (m .receiver .count) (lastHeld (m .receiver)) (symbol b) f .0);
         completed = f;
         unmarked = u;
-        said = same-is _ _ e;
+        optical = not-true (isWired (linkOf m)) (and-left (not (isWired (linkOf m))) _ e);
+        said = same-is _ _ (and-right (not (isWired (linkOf m))) _ e);
       }) refl refl)
       (same refl)))
 
@@ -98,9 +102,9 @@ module _ (m : Meter) (b : ℕ) where
   unfolding confirmed
   confirmed-kept c d =
       choice.either (Kept m b) (marked (m .receiver) || d) (same refl)
-      (choice.either (Kept m b) (wantsBlock (heldText (m .receiver)) c) (same refl)
-      (choice.either (Kept m b) (wantsPeriods (heldText (m .receiver)) c) (same refl)
-      (choice.either (Kept m b) (wantsProgram (heldText (m .receiver)) c) (same refl) (same refl))))
+      (choice.either (Kept m b) (wantsBlock (linkOf m) (heldText (m .receiver)) c) (same refl)
+      (choice.either (Kept m b) (wantsPeriods (linkOf m) (heldText (m .receiver)) c) (same refl)
+      (choice.either (Kept m b) (wantsProgram (linkOf m) (heldText (m .receiver)) c) (same refl) (same refl))))
 
   heard-kept : (h : Hearing) → hearing (m .mode) (m .receiver .count) (lastHeld (m .receiver)) (symbol b) ≡ h → Kept m b (heard m (symbol b) (damagedAt b) h)
   unfolding heard

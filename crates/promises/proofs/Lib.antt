@@ -13,3 +13,4 @@ pub mod Life
 pub mod Adding
 pub mod Hurt
 pub mod Ignoring
+pub mod Wire

@@ -5,12 +5,16 @@ use mathlib.Core.List.{List, [], _∷_, _++_}
 use Prim.Native.Nat.{ℕ}
 use native.Mathlib.Omega.{arith}
 use lib.Dec.{eqb, leb}
+use borrow.Author.Tests.{not-true}
+use Rattle.line.proofs.Runs.{and-left, and-right}
 use Rattle.text.specs.Classes.{sameText, matching}
 use Rattle.text.proofs.Matching.{same-is}
 use Rattle.frames.specs.Session.{signOn, closingSignOn, signOnTo}
 use Rattle.receiving.specs.declared.Hearing.{Hearing}
 use Rattle.receiving.specs.declared.Hearing.the-variants.{Drop, Hold, Restart, Empty, Line, Confirm, Frame, TooLong}
 use Rattle.receiving.specs.Hearing.{listening, confirming, framing, hearing}
+use Rattle.state.specs.Link.{isWired}
+use Rattle.meter.specs.Link.{opticalCall, calls, closes}
 use Rattle.meter.specs.SignOn.{signsOnBy, closesBy}
 
 pub line-is : (mode count last c : ℕ) → hearing mode count last c ≡ Line → (eqb mode 0 ≡ true) × (eqb c 10 ≡ true)
@@ -40,6 +44,11 @@ line-is mode count last c = go (eqb mode 0) (eqb mode 1)
     go false true h = absurd (collected (leb 5 count) h)
     go false false h = absurd (framed (not (eqb count 0) && eqb last 3) (eqb c 1) (eqb count 0) (leb 63 count) h)
 
-pub closes-only : (held serial : List ℕ) → closesBy held ≡ true → signsOnBy held serial ≡ false
-unfolding closesBy closingSignOn signsOnBy signOn signOnTo sameText matching
-closes-only held serial h = rw (same-is (held ++ (10 ∷ [])) (47 ∷ 67 ∷ 33 ∷ 13 ∷ 10 ∷ []) h)
+pub closes-only : (link : ℕ) (held serial : List ℕ) → closesBy link held ≡ true → signsOnBy link held serial ≡ false
+unfolding closes closingSignOn calls
+closes-only link held serial h =
+    let line = sameText (held ++ (10 ∷ [])) (47 ∷ 67 ∷ 33 ∷ 13 ∷ 10 ∷ []) in
+    rw (not-true (isWired link) (and-left (not (isWired link)) line h)) (other (same-is (held ++ (10 ∷ [])) (47 ∷ 67 ∷ 33 ∷ 13 ∷ 10 ∷ []) (and-right (not (isWired link)) line h)))
+  where
+    other : held ++ (10 ∷ []) ≡ 47 ∷ 67 ∷ 33 ∷ 13 ∷ 10 ∷ [] → opticalCall (held ++ (10 ∷ [])) serial ≡ false
+    other e = unfold opticalCall signOn signOnTo sameText matching in rw e

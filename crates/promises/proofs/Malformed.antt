@@ -11,6 +11,7 @@ use Rattle.text.specs.Writing.{holding}
 use Rattle.frames.specs.Frames.{onWire}
 use Rattle.state.specs.Sizes.{replyRoom}
 use Rattle.state.specs.declared.Meter.{Meter}
+use Rattle.state.specs.Link.{linkOf}
 use Rattle.state.specs.WellFormed.{wellFormed, marked}
 use Rattle.receiving.specs.declared.Hearing.{Hearing}
 use Rattle.receiving.specs.declared.Hearing.the-variants.{Drop, Hold, Restart, Empty, Line, Confirm, Frame, TooLong}
@@ -96,13 +97,13 @@ heard-never m c d Restart = λ e. omega arith
 heard-never m c d Empty = λ e. omega arith
 heard-never m c d Line =
     choice.either Never (marked (m .receiver)) (λ e. omega arith)
-    (choice.either Never (signsOnBy (heldText (m .receiver)) (m .registers .facts .serial)) (λ e. omega arith)
-    (choice.either Never (closesBy (heldText (m .receiver))) (λ e. omega arith) (λ e. omega arith)))
+    (choice.either Never (signsOnBy (linkOf m) (heldText (m .receiver)) (m .registers .facts .serial)) (λ e. omega arith)
+    (choice.either Never (closesBy (linkOf m) (heldText (m .receiver))) (λ e. omega arith) (λ e. omega arith)))
 heard-never m c d Confirm =
     choice.either Never (marked (m .receiver) || d) (λ e. omega arith)
-    (choice.either Never (wantsBlock (heldText (m .receiver)) c) (λ e. omega arith)
-    (choice.either Never (wantsPeriods (heldText (m .receiver)) c) (λ e. omega arith)
-    (choice.either Never (wantsProgram (heldText (m .receiver)) c) (λ e. omega arith) (λ e. omega arith))))
+    (choice.either Never (wantsBlock (linkOf m) (heldText (m .receiver)) c) (λ e. omega arith)
+    (choice.either Never (wantsPeriods (linkOf m) (heldText (m .receiver)) c) (λ e. omega arith)
+    (choice.either Never (wantsProgram (linkOf m) (heldText (m .receiver)) c) (λ e. omega arith) (λ e. omega arith))))
 heard-never m c d Frame = frame-never m (marked (m .receiver) || d) c
 heard-never m c d TooLong = λ e. omega arith
 

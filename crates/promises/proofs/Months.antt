@@ -24,6 +24,7 @@ use Rattle.state.specs.declared.Counters.{Counters}
 use Rattle.state.specs.declared.Archive.{Archive}
 use Rattle.state.specs.declared.Registers.{Registers}
 use Rattle.state.specs.declared.Meter.{Meter}
+use Rattle.state.specs.Link.{linkOf, isWired}
 use Rattle.state.specs.WellFormed.{below, zonesGood, total, countersGood, noTime, periodGood, unused, everyPeriod, archiveGood, wellFormed, marked}
 use Rattle.state.specs.Making.{noPeriod}
 use Rattle.state.specs.Closing.{archiveOf, periodsOf, closedWith, periodOf, closing}
@@ -37,6 +38,7 @@ use Rattle.deciding.specs.Verdict.{verdict}
 use Rattle.tariff.specs.Months.{monthStarts, monthClosed}
 use Rattle.state.specs.Setting.{inMode, withClock}
 use Rattle.meter.specs.Outcomes.{Outcome, silent, unheard}
+use Rattle.meter.specs.Link.{closes}
 use Rattle.meter.specs.SignOn.{signsOnBy, closesBy, wantsBlock, wantsPeriods, wantsProgram}
 use Rattle.meter.specs.Acting.{passwordGiven, tried, acted}
 use Rattle.meter.specs.Character.{symbol, signedOn, periodClosed, lineEnded, confirmed, heard, taken, character}
@@ -88,9 +90,13 @@ period-good clock c h k =
 
 -- ---- the archive after a character
 
-nothing-closes : closesBy [] ≡ false
-unfolding closesBy closingSignOn sameText matching
-nothing-closes = refl
+nothing-closes : (link : ℕ) → closesBy link [] ≡ false
+unfolding closes closingSignOn sameText matching
+nothing-closes link = never (not (isWired link))
+  where
+    never : (b : Bool) → (b && false) ≡ false
+    never true = refl
+    never false = refl
 
 module _ (m : Meter) where
   abbrev now-kept : Archive
@@ -102,14 +108,14 @@ module _ (m : Meter) where
   abbrev kept-in : Outcome → Archive
   kept-in o = o .next .registers .archive
 
-  line-keeps : kept-in (lineEnded m) ≡ cond (not (marked (m .receiver)) && closesBy (heldText (m .receiver))) later now-kept
+  line-keeps : kept-in (lineEnded m) ≡ cond (not (marked (m .receiver)) && closesBy (linkOf m) (heldText (m .receiver))) later now-kept
   unfolding lineEnded
-  line-keeps = go (marked (m .receiver)) (signsOnBy (heldText (m .receiver)) (m .registers .facts .serial)) refl (closesBy (heldText (m .receiver))) refl
+  line-keeps = go (marked (m .receiver)) (signsOnBy (linkOf m) (heldText (m .receiver)) (m .registers .facts .serial)) refl (closesBy (linkOf m) (heldText (m .receiver))) refl
     where
-      go : (p q : Bool) → signsOnBy (heldText (m .receiver)) (m .registers .facts .serial) ≡ q → (r : Bool) → closesBy (heldText (m .receiver)) ≡ r
+      go : (p q : Bool) → signsOnBy (linkOf m) (heldText (m .receiver)) (m .registers .facts .serial) ≡ q → (r : Bool) → closesBy (linkOf m) (heldText (m .receiver)) ≡ r
           → kept-in (cond p (silent 0 (inMode m 0)) (cond q (signedOn m) (cond r (signedOn (periodClosed m)) (silent 0 (inMode m 0))))) ≡ cond (not p && r) later now-kept
       go true q a r b = refl
-      go false true a true b = absurd (let z : _≡_ {A = ℕ} 0 1 = (let d = closes-only (heldText (m .receiver)) (m .registers .facts .serial) b in cc) in omega arith)
+      go false true a true b = absurd (let z : _≡_ {A = ℕ} 0 1 = (let d = closes-only (linkOf m) (heldText (m .receiver)) (m .registers .facts .serial) b in cc) in omega arith)
       go false true a false b = refl
       go false false a true b = refl
       go false false a false b = refl
@@ -118,9 +124,9 @@ module _ (m : Meter) where
   unfolding confirmed
   confirmed-keeps c d =
       choice.either (λ (o : Outcome). kept-in o ≡ now-kept) (marked (m .receiver) || d) refl
-      (choice.either (λ (o : Outcome). kept-in o ≡ now-kept) (wantsBlock (heldText (m .receiver)) c) refl
-      (choice.either (λ (o : Outcome). kept-in o ≡ now-kept) (wantsPeriods (heldText (m .receiver)) c) refl
-      (choice.either (λ (o : Outcome). kept-in o ≡ now-kept) (wantsProgram (heldText (m .receiver)) c) refl refl)))
+      (choice.either (λ (o : Outcome). kept-in o ≡ now-kept) (wantsBlock (linkOf m) (heldText (m .receiver)) c) refl
+      (choice.either (λ (o : Outcome). kept-in o ≡ now-kept) (wantsPeriods (linkOf m) (heldText (m .receiver)) c) refl
+      (choice.either (λ (o : Outcome). kept-in o ≡ now-kept) (wantsProgram (linkOf m) (heldText (m .receiver)) c) refl refl)))
 
   tried-keeps : kept-in (tried m) ≡ now-kept
   unfolding tried
@@ -154,16 +160,16 @@ module _ (m : Meter) where
       let zero-mode = eqb (m .mode) 0 in
       let feed = eqb c 10 in
       let plain = not (marked (m .receiver)) in
-      let said = closesBy (heldText (m .receiver)) in
+      let said = closesBy (linkOf m) (heldText (m .receiver)) in
       let ends = and-left feed (plain && said) (and-right zero-mode (feed && (plain && said)) h) in
       let line = and-right plain said (and-right feed (plain && said) (and-right zero-mode (feed && (plain && said)) h)) in
       rw (and-left zero-mode (feed && (plain && said)) h, eqb-true c 10 ends) (go (eqb (m .receiver .count) 0) refl line)
     where
-      go : (p : Bool) → eqb (m .receiver .count) 0 ≡ p → closesBy (heldText (m .receiver)) ≡ true → cond p Drop Line ≡ Line
+      go : (p : Bool) → eqb (m .receiver .count) 0 ≡ p → closesBy (linkOf m) (heldText (m .receiver)) ≡ true → cond p Drop Line ≡ Line
       go true e l =
           let n = eqb-true (m .receiver .count) 0 e in
-          let empty : closesBy [] ≡ true = rw n at l in
-          absurd (let z : _≡_ {A = ℕ} 0 1 = (let f = nothing-closes in cc) in omega arith)
+          let empty : closesBy (linkOf m) [] ≡ true = rw n at l in
+          absurd (let z : _≡_ {A = ℕ} 0 1 = (let f = nothing-closes (linkOf m) in cc) in omega arith)
       go false e l = refl
 
   -- what ends no line closes nothing

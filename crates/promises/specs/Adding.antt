@@ -40,7 +40,7 @@ pub record Bare : Type 0 where
 -- what such a state is well-formed by: document 01's ranges
 unfoldable pub bareFormed : Bare → Bool
 bareFormed b =
-    (((leb (b .mode) 4 && leb (b .attempts) 3) && speedGood (b .mode) (b .speed)) && receiverGood (b .mode) (b .receiver))
+    (((leb (b .mode) 4 && leb (b .attempts) 3) && speedGood (b .facts .link) (b .mode) (b .speed)) && receiverGood (b .mode) (b .receiver))
     && (factoryGood (b .facts) (b .account) (b .clock) && (zonesGood (b .zones) && (tablesGood tables (b .tables) && archiveGood (b .archive))))
 
 -- a state whose total is forgotten, and one whose total is added up

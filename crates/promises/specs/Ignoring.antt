@@ -26,7 +26,7 @@ pub record Unplaced : Type 0 where
 -- what such a state is well-formed by
 unfoldable pub unplacedFormed : Unplaced → Bool
 unplacedFormed u =
-    (((leb (u .mode) 4 && leb (u .attempts) 3) && speedGood (u .mode) (u .speed))
+    (((leb (u .mode) 4 && leb (u .attempts) 3) && speedGood (u .registers .facts .link) (u .mode) (u .speed))
     && cond (leb (u .count) (limit (u .mode))) ((firstGood (u .mode) (u .count) (getD (u .held) 0 0) && markGood (u .count) (u .mark)) && heldGood (u .held) (u .count)) false)
     && registersGood (u .registers)
 

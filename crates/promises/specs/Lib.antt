@@ -3,3 +3,4 @@ pub mod Adding
 pub mod Hurt
 pub mod Ignoring
 pub mod Months
+pub mod Wire

@@ -8,6 +8,7 @@ use Rattle.clock.specs.declared.Clock.{Clock}
 use Rattle.state.specs.Sizes.{replyRoom}
 use Rattle.state.specs.declared.Archive.{Archive}
 use Rattle.state.specs.declared.Meter.{Meter}
+use Rattle.state.specs.Link.{linkOf}
 use Rattle.state.specs.WellFormed.{marked}
 use Rattle.state.specs.Closing.{closedWith, periodOf}
 use Rattle.receiving.specs.Receivers.{heldText}
@@ -19,7 +20,7 @@ use Rattle.meter.specs.declared.Event.the-variants.{Character, Silence, Tick, P
 
 -- LF in mode 0, after an unmarked `/C!` CR
 unfoldable pub closesHere : Meter → ℕ → Bool
-closesHere m c = eqb (m .mode) 0 && (eqb c LF && (not (marked (m .receiver)) && closesBy (heldText (m .receiver))))
+closesHere m c = eqb (m .mode) 0 && (eqb c LF && (not (marked (m .receiver)) && closesBy (linkOf m) (heldText (m .receiver))))
 
 -- that, with room for a reply; the tick that reaches 00:00:00 on the first of a month; and nothing else
 unfoldable pub closesAt : Meter → ℕ → Event → Bool

@@ -20,6 +20,7 @@ use Rattle.state.specs.Closing.{closing}
 use Rattle.state.specs.Sizes.{tables}
 use Rattle.state.specs.declared.Registers.{Registers}
 use Rattle.state.specs.declared.Meter.{Meter}
+use Rattle.state.specs.Link.{linkOf, isWired}
 use Rattle.replies.specs.declared.Ask.{Ask}
 use Rattle.replies.specs.declared.Ask.the-variants as ask
 use Rattle.state.specs.Setting.{withClock, withAccount, withTables, withRow}
@@ -59,6 +60,7 @@ pub record Called (m : Meter) (b : ℕ) : Type 0 where
   pub listening : m .mode ≡ 0
   pub completed : hearing (m .mode) (m .receiver .count) (lastHeld (m .receiver)) (symbol b) ≡ Line
   pub unmarked : marked (m .receiver) ≡ false
+  pub optical : isWired (linkOf m) ≡ false
   pub said : heldText (m .receiver) ++ (LF ∷ []) ≡ closingSignOn
 
 -- the registers after an outcome: as they were, or with the one register that an accepted write names, and what it tells of it,

@@ -11,9 +11,9 @@ use lib.ListN.{length, take, drop, length-append}
 use lib.Dec.{leb, eqb}
 use Rattle.frames.specs.Commands.{B0, P1, R1, W1, bracketed, askClock, askSerial, askAccount, askEnergy, askTable, setClock, setAccount, setTable}
 use Rattle.frames.specs.Frames.{bareFrame, closed, frameOf, onWire}
-use Rattle.frames.specs.Session.{signOn, signOnTo, confirmation, enterData, passwordData}
+use Rattle.frames.specs.Session.{signOn, signOnTo, wiredLine, wiredSignOn, confirmation, enterData, passwordData}
 use Rattle.values.specs.Registers.{goodSerial, goodDigits, isAccountCharacter, goodAccount, goodRow, goodTable}
-use Rattle.values.specs.Texts.{serialText, tableForm, clockForm, tableText, clockText}
+use Rattle.values.specs.Texts.{parted, serialText, wiredText, tableForm, clockForm, tableText, clockText}
 use Rattle.datasets.proofs.Characters.{layout-within}
 use Rattle.values.proofs.Rules.{digits-long, account-long, row-long, zone-most, table-text-long, clock-text-long}
 use Rattle.readback.proofs.Sending.{closed-characters, sent-undamaged-all, sent-comes-back-all, frame-characters, closed-sums}
@@ -200,16 +200,29 @@ pub sign-on-comes-back : map seven (onWire signOn) ≡ signOn
 unfolding signOn every isCharacter
 sign-on-comes-back = sent-comes-back-all signOn refl
 
-serial-characters : (s : List ℕ) → goodSerial s ≡ true → every isCharacter (serialText s) ≡ true
-unfolding serialText every isCharacter
-serial-characters s h =
+parted-characters : (x : ℕ) (s : List ℕ) → isCharacter x ≡ true → goodSerial s ≡ true → every isCharacter (parted x s) ≡ true
+unfolding every
+parted-characters x s k h =
     let all = every-weaker isPrintable isCharacter character-of s (digits-printable 10 s h) in
-    every-append isCharacter (take 3 s) (32 ∷ drop 3 s) (every-take isCharacter 3 s all) (every-drop isCharacter 3 s all)
+    every-append isCharacter (take 3 s) (x ∷ drop 3 s) (every-take isCharacter 3 s all) (rw k (every-drop isCharacter 3 s all))
+
+serial-characters : (s : List ℕ) → goodSerial s ≡ true → every isCharacter (serialText s) ≡ true
+unfolding serialText isCharacter
+serial-characters s h = parted-characters 32 s refl h
+
+wired-characters : (s : List ℕ) → goodSerial s ≡ true → every isCharacter (wiredText s) ≡ true
+unfolding wiredText isCharacter
+wired-characters s h = parted-characters 46 s refl h
 
 pub sign-on-to-comes-back : (s : List ℕ) → goodSerial s ≡ true → map seven (onWire (signOnTo s)) ≡ signOnTo s
 unfolding signOnTo every isCharacter
 sign-on-to-comes-back s h =
     sent-comes-back-all (signOnTo s) (every-append isCharacter (serialText s) (33 ∷ 13 ∷ 10 ∷ []) (serial-characters s h) refl)
+
+pub wired-sign-on-comes-back : (s : List ℕ) → goodSerial s ≡ true → map seven (onWire (wiredSignOn s)) ≡ wiredSignOn s
+unfolding wiredLine every isCharacter
+wired-sign-on-comes-back s h =
+    sent-comes-back-all (wiredSignOn s) (every-append isCharacter (wiredText s) (13 ∷ 10 ∷ []) (wired-characters s h) refl)
 
 pub confirmation-comes-back : (v y : ℕ) → v ≤ 127 → y ≤ 127 → map seven (onWire (confirmation v y)) ≡ confirmation v y
 unfolding confirmation every isCharacter

@@ -28,8 +28,8 @@ module _ (m : Meter) (f : wellFormed m ≡ true) where
   unfolding outcomeOf obeyed answerSays answerable counts energyNo
   answers-learnt =
       record {
-        block = λ v y k h e n. record { content = blockData editionTables (m .registers); reply = rw (e, n); reads = block-reads-back m f };
-        periods = λ v k. record { content = longData editionTables (m .registers); reply = refl; reads = long-reads-back m f };
+        block = λ v y k d h e n. record { content = blockData editionTables (m .registers); reply = rw (d, e, n); reads = block-reads-back m f };
+        periods = λ v k d. record { content = longData editionTables (m .registers); reply = rw d; reads = long-reads-back m f };
         clock = learns _ ask.Clock refl refl;
         own-serial = learns _ ask.Serial refl refl;
         own-account = learns _ ask.Account refl refl;

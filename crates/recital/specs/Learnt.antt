@@ -11,13 +11,14 @@ use Rattle.frames.specs.Frames.{blockOf}
 use Rattle.frames.specs.Session.{goodSpeed}
 use Rattle.state.specs.Sizes.{tables}
 use Rattle.state.specs.declared.Meter.{Meter}
+use Rattle.state.specs.Link.{linkOf}
 use Rattle.state.specs.Setting.{counterOf}
 use Rattle.state.specs.WellFormed.{total}
 use Rattle.replies.specs.Shown.{rowOf}
 use Rattle.commands.specs.Building.{goodChoice}
 use Rattle.commands.specs.Spoken.{readClock, readSerial, readAccount, readTotal, readZone, readTable}
 use Rattle.commands.specs.Messages.{Message, confirm, command}
-use Rattle.dialogue.specs.Messages.{outcomeOf}
+use Rattle.dialogue.specs.Messages.{digitHeard, outcomeOf}
 use Rattle.recital.specs.Recital.{Register, serial, date, time, account, energy, row, blockSays, longSays, ReadsBack}
 
 -- the reply to a message is a block that reads back as these registers
@@ -26,11 +27,11 @@ pub record Learns (m : Meter) (x : Message) (xs : List Register) : Type 0 where
   pub reply : outcomeOf m x .reply ≡ blockOf content
   pub reads : ReadsBack content xs
 
--- a confirmation that asks for no programming, at either speed, is answered with the whole block, with the closed periods where it asks for them, and each R1 with what it
+-- a confirmation that asks for no programming, at either speed that the link knows, is answered with the whole block, with the closed periods where it asks for them, and each R1 with what it
 -- asks for
 pub record Answers (m : Meter) : Type 0 where
-  pub block : (v y : ℕ) → goodSpeed v ≡ true → goodChoice y ≡ true → eqb y (char "1") ≡ false → eqb y (char "6") ≡ false → Learns m (confirm v y) (blockSays (m .registers))
-  pub periods : (v : ℕ) → goodSpeed v ≡ true → Learns m (confirm v (char "6")) (longSays (m .registers))
+  pub block : (v y : ℕ) → goodSpeed v ≡ true → digitHeard (linkOf m) v ≡ true → goodChoice y ≡ true → eqb y (char "1") ≡ false → eqb y (char "6") ≡ false → Learns m (confirm v y) (blockSays (m .registers))
+  pub periods : (v : ℕ) → goodSpeed v ≡ true → digitHeard (linkOf m) v ≡ true → Learns m (confirm v (char "6")) (longSays (m .registers))
   pub clock : Learns m (command readClock) (time (m .registers .clock .time) ∷ date (m .registers .clock .date) ∷ [])
   pub own-serial : Learns m (command readSerial) (serial (m .registers .facts .serial) ∷ [])
   pub own-account : Learns m (command readAccount) (account (m .registers .account) ∷ [])

@@ -5,6 +5,7 @@ ghost use Prim.Native.Nat.{_+_, _*_, _≤_};
 ghost use lib.ListN.{length};
 ghost use Rattle.text.specs.Writing.{holding};
 ghost use Rattle.frames.specs.Frames.{blockOf, onWire};
+ghost use Rattle.frames.specs.Session.{wiredAnswer};
 ghost use Rattle.state.specs.Sizes.{tables, replyRoom};
 ghost use Rattle.replies.specs.Shown.{Lengths};
 ghost use Rattle.replies.specs.Answers.{askedData};
@@ -45,6 +46,16 @@ pub fn identify(buf: &mut [u8]) -> usize
     ensures held { λ _. ⌜ now (buf .exit) ≡ holding (now (buf .entry)) (onWire identification) ⌝ }
 {
     send(buf, b"/ZZZ5SUB-VP01.00*\r\n")
+}
+
+// The answer to a sign-on on the wired link: our serial.
+pub fn answer_call(buf: &mut [u8], serial: &[u8]) -> usize
+    requires { ⌜ (length (now serial) ≡ 10) × (15 ≤ length (now buf)) ⌝ }
+    ensures whole { λ r. ⌜ r ≡ 15 ⌝ }
+    ensures held { λ _. ⌜ now (buf .exit) ≡ holding (now (buf .entry)) (onWire (wiredAnswer (now (serial .entry)))) ⌝ }
+{
+    let shown = frames::wired_line(b'g', serial);
+    send(buf, &shown)
 }
 
 // ACK, for what was accepted.

@@ -4,7 +4,7 @@ use mathlib.Core.Bool.{Bool, true, false, cond, not, _&&_, _||_}
 use mathlib.Core.List.{List, [], _∷_}
 use Prim.Native.Nat.{ℕ, zero, suc, _*_, _≤_, _<_}
 use native.Mathlib.Omega.{arith}
-use borrow.Author.Tests.{leb-true, le-leb, lt-leb, eqb-true, ltb-true}
+use borrow.Author.Tests.{leb-true, le-leb, lt-leb, eqb-true, eq-eqb, ltb-true}
 use lib.Dec.{eqb, leb, ltb}
 use lib.ListN.{length, drop, getD}
 use Rattle.line.specs.Runs.{every}
@@ -20,7 +20,8 @@ use Rattle.state.specs.declared.Archive.{Archive}
 use Rattle.state.specs.declared.Registers.{Registers}
 use Rattle.state.specs.declared.Meter.{Meter}
 use Rattle.state.specs.Sizes.{heldPlaces, rowLength, tables, counterEnd}
-use Rattle.state.specs.WellFormed.{limit, firstGood, markGood, heldGood, receiverGood, below, zonesGood, total, countersGood, tablesGood, archiveGood, factsGood, factoryGood, registersGood, wellFormed, speedGood, hurtGood}
+use Rattle.state.specs.WellFormed.{limit, firstGood, markGood, heldGood, receiverGood, below, zonesGood, total, countersGood, tablesGood, archiveGood, editionGood, linkGood, decimalsGood, factsGood, factoryGood, registersGood, wellFormed, speedGood, hurtGood}
+use Rattle.state.specs.Link.{linkOf, isWired, restSpeed}
 use Rattle.state.specs.Setting.{zonePlace, counterOf, speedIn}
 
 -- what is asked only after two tests have passed, and what has failed before it
@@ -33,7 +34,7 @@ then-none a b c h = rw (← and-assoc a b c, h)
 pub record Formed (m : Meter) : Type 0 where
   pub mode : m .mode ≤ 4
   pub attempts : m .attempts ≤ 3
-  pub speed : speedGood (m .mode) (m .speed) ≡ true
+  pub speed : speedGood (linkOf m) (m .mode) (m .speed) ≡ true
   pub receiver : receiverGood (m .mode) (m .receiver) ≡ true
   pub registers : registersGood (m .registers) ≡ true
 
@@ -41,7 +42,7 @@ pub formed : (m : Meter) → wellFormed m ≡ true → Formed m
 unfolding wellFormed
 formed m h =
     let numbers = leb (m .mode) 4 && leb (m .attempts) 3 in
-    let s = speedGood (m .mode) (m .speed) in
+    let s = speedGood (linkOf m) (m .mode) (m .speed) in
     let r = receiverGood (m .mode) (m .receiver) in
     let rest = and-left ((numbers && s) && r) (registersGood (m .registers)) h in
     let small = and-left (numbers && s) r rest in
@@ -58,24 +59,51 @@ pub well-formed : (m : Meter) → Formed m → wellFormed m ≡ true
 unfolding wellFormed
 well-formed m f = rw (le-leb (m .mode) 4 (f .mode), le-leb (m .attempts) 3 (f .attempts), f .speed, f .receiver, f .registers)
 
--- modes 0 and 1 have speed 0
+-- modes 0 and 1 have the speed of the link
 alone : (z f : Bool) → (z || (false && f)) ≡ true → z ≡ true
 alone true f h = refl
 alone false f h = h
 
-pub slow-low : (mode speed : ℕ) → mode ≤ 1 → speedGood mode speed ≡ true → speed ≡ 0
+pub rest-low : (link mode speed : ℕ) → mode ≤ 1 → speedGood link mode speed ≡ true → speed ≡ restSpeed link
 unfolding speedGood
-slow-low mode speed l h = eqb-true speed 0 (alone (eqb speed 0) (eqb speed 5) (rw (lt-leb 2 mode (omega (arith, l))) at h))
+rest-low link mode speed l h =
+    eqb-true speed (restSpeed link) (alone (eqb speed (restSpeed link)) (eqb speed 5) (rw (lt-leb 2 mode (omega (arith, l))) at h))
+
+pub rest-good : (link mode : ℕ) → speedGood link mode (restSpeed link) ≡ true
+unfolding speedGood
+rest-good link mode = rw (eq-eqb (restSpeed link) (restSpeed link) refl)
 
 -- a speed that is good in one mode is good in every other, if that keeps it as `speedIn` says
-pub speed-kept : (mode other speed : ℕ) → speedGood mode speed ≡ true → speedGood other (speedIn other speed) ≡ true
+pub speed-kept : (link mode other speed : ℕ) → speedGood link mode speed ≡ true → speedGood link other (speedIn link other speed) ≡ true
 unfolding speedGood
-speed-kept mode other speed h = go (leb 2 mode) (leb 2 other) h
+speed-kept link mode other speed h = go (leb 2 mode) (leb 2 other) h
   where
-    go : (p q : Bool) → (eqb speed 0 || (p && eqb speed 5)) ≡ true → (eqb (cond q speed 0) 0 || (q && eqb (cond q speed 0) 5)) ≡ true
+    rest : ℕ
+    rest = restSpeed link
+
+    go : (p q : Bool) → (eqb speed rest || (p && eqb speed 5)) ≡ true → (eqb (cond q speed rest) rest || (q && eqb (cond q speed rest) 5)) ≡ true
     go true true h = h
-    go false true h = rw (alone (eqb speed 0) (eqb speed 5) h)
-    go p false h = refl
+    go false true h = rw (alone (eqb speed rest) (eqb speed 5) h)
+    go p false h = rw (eq-eqb rest rest refl)
+
+-- the wired link has 5 throughout
+pub wired-speed : (link mode speed : ℕ) → isWired link ≡ true → speedGood link mode speed ≡ true → speed ≡ 5
+unfolding speedGood restSpeed
+wired-speed link mode speed w h = eqb-true speed 5 (either (eqb speed 5) (leb 2 mode) (rw w at h))
+  where
+    either : (f p : Bool) → (f || (p && f)) ≡ true → f ≡ true
+    either true p h = refl
+    either false true h = h
+    either false false h = h
+
+-- and every mode may have it
+pub fast-good : (link mode : ℕ) → 2 ≤ mode → speedGood link mode 5 ≡ true
+unfolding speedGood
+fast-good link mode h = rw (le-leb 2 mode h) (either (eqb 5 (restSpeed link)))
+  where
+    either : (p : Bool) → (p || true) ≡ true
+    either true = refl
+    either false = refl
 
 pub record FormedRegisters (g : Registers) : Type 0 where
   pub facts : factsGood (g .facts) ≡ true
@@ -113,13 +141,27 @@ registers-good g f = rw (f .facts, f .account, f .clock, f .counters, f .tables,
 pub record FormedFacts (f : Facts) : Type 0 where
   pub serial : goodSerial (f .serial) ≡ true
   pub password : goodPassword (f .password) ≡ true
+  pub edition : editionGood (f .edition) ≡ true
+  pub link : linkGood (f .link) ≡ true
+  pub decimals : decimalsGood (f .decimals) ≡ true
 
 pub formed-facts : (f : Facts) → factsGood f ≡ true → FormedFacts f
 unfolding factsGood
 formed-facts f h =
     let s = goodSerial (f .serial) in
     let p = goodPassword (f .password) in
-    record { serial = and-left s p h; password = and-right s p h }
+    let e = editionGood (f .edition) in
+    let l = linkGood (f .link) in
+    let d = decimalsGood (f .decimals) in
+    let texts = and-left (s && p) (e && (l && d)) h in
+    let numbers = and-right (s && p) (e && (l && d)) h in
+    record {
+      serial = and-left s p texts;
+      password = and-right s p texts;
+      edition = and-left e (l && d) numbers;
+      link = and-left l d (and-right e (l && d) numbers);
+      decimals = and-right l d (and-right e (l && d) numbers);
+    }
 
 pub record FormedReceiver (mode : ℕ) (r : Receiver) : Type 0 where
   pub count : r .count ≤ limit mode

@@ -1,4 +1,5 @@
 pub mod Sizes
+pub mod Link
 pub mod WellFormed
 pub mod Making
 pub mod Setting

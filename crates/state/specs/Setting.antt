@@ -11,6 +11,7 @@ use Rattle.state.specs.declared.Counters.{Counters}
 use Rattle.state.specs.declared.Archive.{Archive}
 use Rattle.state.specs.declared.Registers.{Registers}
 use Rattle.state.specs.declared.Meter.{Meter}
+use Rattle.state.specs.Link.{linkOf, restSpeed}
 use Rattle.state.specs.Sizes.{rowLength}
 use Rattle.state.specs.Making.{emptyReceiver}
 
@@ -29,13 +30,13 @@ meterIn mode attempts speed r g = record { mode = mode; attempts = attempts; spe
 abbrev pub withReceiver : Meter → Receiver → Meter
 withReceiver m r = meterIn (m .mode) (m .attempts) (m .speed) r (m .registers)
 
--- a session keeps its speed; modes 0 and 1 have 0
-abbrev pub speedIn : ℕ → ℕ → ℕ
-speedIn mode speed = cond (leb 2 mode) speed 0
+-- a session keeps its speed; modes 0 and 1 have that of the link
+abbrev pub speedIn : ℕ → ℕ → ℕ → ℕ
+speedIn link mode speed = cond (leb 2 mode) speed (restSpeed link)
 
 -- in another mode, the receiver empty
 abbrev pub inMode : Meter → ℕ → Meter
-inMode m mode = meterIn mode (m .attempts) (speedIn mode (m .speed)) emptyReceiver (m .registers)
+inMode m mode = meterIn mode (m .attempts) (speedIn (linkOf m) mode (m .speed)) emptyReceiver (m .registers)
 
 abbrev pub withSpeed : Meter → ℕ → Meter
 withSpeed m speed = meterIn (m .mode) (m .attempts) speed (m .receiver) (m .registers)

@@ -17,6 +17,7 @@ use Rattle.state.specs.declared.Period.{Period}
 use Rattle.state.specs.declared.Archive.{Archive}
 use Rattle.state.specs.declared.Registers.{Registers}
 use Rattle.state.specs.declared.Meter.{Meter}
+use Rattle.state.specs.Link.{linkOf, restSpeed}
 use Rattle.state.specs.Sizes.{heldPlaces, rowLength, tables, counterEnd, periodPlaces}
 
 -- at most 31 held in mode 0, 5 in mode 1, 63 in modes 2 to 4
@@ -104,9 +105,22 @@ archiveGood a =
     (leb (a .count) periodPlaces && eqb (length (a .periods)) periodPlaces)
     && (everyPeriod periodGood (take (a .count) (a .periods)) && everyPeriod unused (drop (a .count) (a .periods)))
 
--- what a meter has for life: serial and password
+-- an edition that there is
+unfoldable pub editionGood : ℕ → Bool
+editionGood edition = eqb edition 1
+
+-- a link that there is: 1, the optical one, or 2, the wired one
+unfoldable pub linkGood : ℕ → Bool
+linkGood link = eqb link 1 || eqb link 2
+
+-- the decimals of a family that there is: 0 names document 01's
+unfoldable pub decimalsGood : ℕ → Bool
+decimalsGood decimals = eqb decimals 0
+
+-- what a meter has for life: serial, password, edition, link and decimals
 unfoldable pub factsGood : Facts → Bool
-factsGood f = goodSerial (f .serial) && goodPassword (f .password)
+factsGood f =
+    (goodSerial (f .serial) && goodPassword (f .password)) && (editionGood (f .edition) && (linkGood (f .link) && decimalsGood (f .decimals)))
 
 -- what a meter is made from: these, account and clock
 unfoldable pub factoryGood : Facts → List ℕ → Clock → Bool
@@ -116,10 +130,10 @@ unfoldable pub registersGood : Registers → Bool
 registersGood g =
     factoryGood (g .facts) (g .account) (g .clock) && (countersGood (g .counters) && (tablesGood tables (g .tables) && archiveGood (g .archive)))
 
--- speed identifier 0 in modes 0 and 1, 0 or 5 in modes 2 to 4
-unfoldable pub speedGood : ℕ → ℕ → Bool
-speedGood mode speed = eqb speed 0 || (leb 2 mode && eqb speed 5)
+-- speed identifier: on the optical link 0 in modes 0 and 1, 0 or 5 in modes 2 to 4; on the wired one 5
+unfoldable pub speedGood : ℕ → ℕ → ℕ → Bool
+speedGood link mode speed = eqb speed (restSpeed link) || (leb 2 mode && eqb speed 5)
 
 unfoldable pub wellFormed : Meter → Bool
 wellFormed m =
-    (((leb (m .mode) 4 && leb (m .attempts) 3) && speedGood (m .mode) (m .speed)) && receiverGood (m .mode) (m .receiver)) && registersGood (m .registers)
+    (((leb (m .mode) 4 && leb (m .attempts) 3) && speedGood (linkOf m) (m .mode) (m .speed)) && receiverGood (m .mode) (m .receiver)) && registersGood (m .registers)

@@ -12,6 +12,8 @@ use crate::HELD_PLACES;
 use crate::Meter;
 use crate::Receiver;
 use crate::Registers;
+use crate::link::link_of;
+use crate::link::rest_speed;
 use clock::Clock;
 use values::ROW_LENGTH;
 use values::TableNo;
@@ -56,11 +58,11 @@ pub fn with_receiver(m: Meter, r: Receiver) -> Meter
     next
 }
 
-// A session keeps its speed; modes 0 and 1 have 0.
-fn speed_in(mode: u8, speed: u8) -> u8
-    ensures { λ r. ⌜ r ≡ speedIn mode speed ⌝ }
+// A session keeps its speed; modes 0 and 1 have that of the link.
+fn speed_in(link: u8, mode: u8, speed: u8) -> u8
+    ensures { λ r. ⌜ r ≡ speedIn link mode speed ⌝ }
 {
-    if 2 <= mode { speed } else { 0 }
+    if 2 <= mode { speed } else { rest_speed(link) }
 }
 
 // In another mode, the receiver empty.
@@ -69,7 +71,7 @@ pub fn in_mode(m: Meter, mode: u8) -> Meter
 {
     let mut next = m;
     next.mode = mode;
-    next.speed = speed_in(mode, m.speed);
+    next.speed = speed_in(link_of(m), mode, m.speed);
     next.receiver = empty_receiver();
     next
 }

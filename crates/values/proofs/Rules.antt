@@ -16,7 +16,7 @@ use Rattle.text.specs.Layout.{layoutText}
 use Rattle.clock.specs.declared.Clock.{Clock}
 use Rattle.values.specs.Edition.{rowLength}
 use Rattle.values.specs.Registers.{goodDigits, isAccountCharacter, goodAccount, goodRow, goodZone}
-use Rattle.values.specs.Texts.{serialText, tableText, clockText}
+use Rattle.values.specs.Texts.{parted, serialText, wiredText, tableText, clockText}
 
 pub digits-long : (n : ℕ) (s : List ℕ) → goodDigits n s ≡ true → length s ≡ n
 unfolding goodDigits
@@ -34,11 +34,18 @@ pub zone-most : (n : ℕ) → goodZone n ≡ true → n ≤ 4
 unfolding goodZone between
 zone-most n h = leb-true n 4 (and-right (leb 1 n) (leb n 4) h)
 
+parted-long : (x : ℕ) (s : List ℕ) → length s ≡ 10 → length (parted x s) ≡ 11
+parted-long x s h =
+    let three : length (take 3 s) ≡ 3 = length-take-le 3 s (omega arith) in
+    length-append (take 3 s) (x ∷ drop 3 s) ∙ (rw three (omega (arith, length-drop 3 s)))
+
 pub serial-text-long : (s : List ℕ) → length s ≡ 10 → length (serialText s) ≡ 11
 unfolding serialText
-serial-text-long s h =
-    let three : length (take 3 s) ≡ 3 = length-take-le 3 s (omega arith) in
-    length-append (take 3 s) (32 ∷ drop 3 s) ∙ (rw three (omega (arith, length-drop 3 s)))
+serial-text-long s h = parted-long 32 s h
+
+pub wired-text-long : (s : List ℕ) → length s ≡ 10 → length (wiredText s) ≡ 11
+unfolding wiredText
+wired-text-long s h = parted-long 46 s h
 
 pub table-text-long : (n : ℕ) → length (tableText n) ≡ 2
 unfolding tableText layoutText decimal

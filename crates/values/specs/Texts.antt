@@ -9,9 +9,17 @@ use Rattle.clock.specs.declared.Time.{Time}
 use Rattle.clock.specs.declared.Clock.{Clock}
 use Rattle.clock.specs.declared.Stamp.{Stamp}
 
+-- a serial's digits, with a character between the third and the fourth
+abbrev pub parted : ℕ → List ℕ → List ℕ
+parted between s = take 3 s ++ (between ∷ drop 3 s)
+
 -- nnn nnnnnnn
 unfoldable pub serialText : List ℕ → List ℕ
-serialText s = take 3 s ++ (chars " " ++ drop 3 s)
+serialText s = parted (char " ") s
+
+-- nnn.nnnnnnn, on the wired link
+unfoldable pub wiredText : List ℕ → List ℕ
+wiredText s = parted (char ".") s
 
 -- xx
 abbrev pub tableForm : List Piece

@@ -4,12 +4,24 @@ ghost use Prim.Native.Nat.{_+_, _-_, _≤_, _<_};
 ghost use lib.ListN.{length};
 ghost use Rattle.text.specs.Writing.{stored};
 ghost use Rattle.values.specs.Edition.{counterDigits, counterDecimals};
-ghost use Rattle.values.specs.Texts.{serialText, tableText, dateText, timeText, clockText, stampText, counterText};
+ghost use Rattle.values.specs.Texts.{parted, serialText, wiredText, tableText, dateText, timeText, clockText, stampText, counterText};
 use crate::TableNo;
 use clock::Clock;
 use clock::Date;
 use clock::Stamp;
 use clock::Time;
+
+// A serial with a character between its third digit and the fourth.
+fn put_parted(buf: &mut [u8], at: usize, s: &[u8], between: u8) -> usize
+    requires { ⌜ (length (now s) ≡ 10) × (at + 11 ≤ length (now buf)) ⌝ }
+    ensures next { λ r. ⌜ r ≡ at + 11 ⌝ }
+    ensures held { λ _. ⌜ now (buf .exit) ≡ stored (now (buf .entry)) at (parted between (now (s .entry))) ⌝ }
+{
+    let one = [between];
+    let a = text::put(buf, at, &s[0..3]);
+    let b = text::put(buf, a, &one);
+    text::put(buf, b, &s[3..10])
+}
 
 // A serial as `nnn nnnnnnn`.
 pub fn put_serial(buf: &mut [u8], at: usize, s: &[u8]) -> usize
@@ -17,9 +29,16 @@ pub fn put_serial(buf: &mut [u8], at: usize, s: &[u8]) -> usize
     ensures next { λ r. ⌜ r ≡ at + 11 ⌝ }
     ensures held { λ _. ⌜ now (buf .exit) ≡ stored (now (buf .entry)) at (serialText (now (s .entry))) ⌝ }
 {
-    let a = text::put(buf, at, &s[0..3]);
-    let b = text::put(buf, a, b" ");
-    text::put(buf, b, &s[3..10])
+    put_parted(buf, at, s, b' ')
+}
+
+// A serial as `nnn.nnnnnnn`.
+pub fn put_wired(buf: &mut [u8], at: usize, s: &[u8]) -> usize
+    requires { ⌜ (length (now s) ≡ 10) × (at + 11 ≤ length (now buf)) ⌝ }
+    ensures next { λ r. ⌜ r ≡ at + 11 ⌝ }
+    ensures held { λ _. ⌜ now (buf .exit) ≡ stored (now (buf .entry)) at (wiredText (now (s .entry))) ⌝ }
+{
+    put_parted(buf, at, s, b'.')
 }
 
 // A table's number as `xx`.

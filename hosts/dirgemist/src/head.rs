@@ -31,6 +31,13 @@ extern "C" {
         out_length: usize,
         length: *mut usize,
     ) -> u8;
+    fn dirgemist_head_sign_on_wired(
+        serial: *const u8,
+        serial_length: usize,
+        out: *mut u8,
+        out_length: usize,
+        length: *mut usize,
+    ) -> u8;
     fn dirgemist_head_confirm(
         speed: u8,
         choice: u8,
@@ -233,6 +240,18 @@ pub fn close(out: &mut [u8]) -> (u8, usize) {
 /// ```
 pub fn sign_on_to(serial: &[u8], out: &mut [u8]) -> (u8, usize) {
     lettered(dirgemist_head_sign_on_to, serial, out)
+}
+
+/// The sign-on on the wired link: to the meter of a serial, or with zeros to whichever is there.
+///
+/// ```
+/// use dirgemist::head;
+/// let mut out = [0; head::COMMAND_ROOM];
+/// assert_eq!(head::sign_on_wired(b"1234567890", &mut out), (head::DONE, 15));
+/// assert_eq!(head::sign_on_wired(b"123456789", &mut out), (9, 0));
+/// ```
+pub fn sign_on_wired(serial: &[u8], out: &mut [u8]) -> (u8, usize) {
+    lettered(dirgemist_head_sign_on_wired, serial, out)
 }
 
 /// The confirmation: the speed's character, `'0'` (300 baud) or `'5'` (9600), then `'0'`, `'7'`,

@@ -20,6 +20,7 @@ pub enum Command {
         account: [u8; 10],
         password: [u8; 8],
         clock: Clock,
+        kind: [u8; 3],
     },
     Set(Box<Meter>),
     Dump,
@@ -76,8 +77,9 @@ impl Bench {
                 account,
                 password,
                 clock,
+                kind,
             }) => {
-                let (number, meter) = Meter::new(serial, account, password, clock);
+                let (number, meter) = Meter::new(serial, account, password, clock, kind);
                 self.meter = meter;
                 put(transcript, format_args!("{number}\n"));
             }
@@ -174,12 +176,16 @@ pub fn parse(line: &[u8]) -> Option<Command> {
     }
     let fields: Vec<&[u8]> = line.split(|&byte| byte == b' ').collect();
     Some(match fields[..] {
-        [b"new", serial, account, password, ref clock @ ..] => Command::New {
-            serial: exactly(serial)?,
-            account: exactly(account)?,
-            password: exactly(password)?,
-            clock: clock_of(clock)?,
-        },
+        [b"new", serial, account, password, ref rest @ ..] => {
+            let (clock, kind) = rest.split_at_checked(6)?;
+            Command::New {
+                serial: exactly(serial)?,
+                account: exactly(account)?,
+                password: exactly(password)?,
+                clock: clock_of(clock)?,
+                kind: kind_of(kind)?,
+            }
+        }
         [b"set", ref fields @ ..] => Command::Set(Box::new(state(fields)?)),
         [b"dump"] => Command::Dump,
         [b"byte", byte] => character(byte, ROOM)?,
@@ -222,6 +228,18 @@ fn room_of(field: &[u8]) -> Option<usize> {
     (room <= ROOM_MOST).then_some(room)
 }
 
+/// Edition, link and decimals; from the right they may be left out.
+fn kind_of(fields: &[&[u8]]) -> Option<[u8; 3]> {
+    let mut kind = [1, 1, 0];
+    if fields.len() > kind.len() {
+        return None;
+    }
+    for (number, field) in kind.iter_mut().zip(fields) {
+        *number = decimal(field)?;
+    }
+    Some(kind)
+}
+
 fn clock_of(fields: &[&[u8]]) -> Option<Clock> {
     let [year, month, day, hour, minute, second] = fields else {
         return None;
@@ -261,6 +279,7 @@ fn archive(fields: &[&[u8]]) -> Option<(u8, [Period; PERIODS])> {
 
 /// The state of the fields that `dump` writes.
 fn state(fields: &[&[u8]]) -> Option<Meter> {
+    let (link, fields) = fields.split_last()?;
     let (fields, kept) = fields.split_at_checked(fields.len().checked_sub(ARCHIVE)?)?;
     let (closed, periods) = archive(kept)?;
     let [mode, count, mark, held, serial, account, password, attempts, clock @ .., c1, c2, c3, c4, tables, speed, place, total] =
@@ -290,6 +309,7 @@ fn state(fields: &[&[u8]]) -> Option<Meter> {
         tables: rows,
         closed,
         periods,
+        link: decimal(link)?,
     })
 }
 
@@ -346,6 +366,7 @@ pub fn dump(meter: &Meter) -> String {
             format_args!(" {year} {month} {day} {hour} {minute} {c1} {c2} {c3} {c4}"),
         );
     }
+    put(&mut line, format_args!(" {}", meter.link));
     line
 }
 

@@ -128,6 +128,7 @@ pub enum Command<'a> {
     SignOn,
     Close,
     SignOnTo(&'a [u8]),
+    SignOnWired(&'a [u8]),
     Confirm(u8, u8),
     Enter,
     Password(&'a [u8]),
@@ -156,7 +157,7 @@ fn framed(name: &str, data: &str) -> Vec<u8> {
 /// The characters of a command in seven bits; nothing where a field lies outside its rule.
 pub fn characters(command: &Command) -> Option<Vec<u8>> {
     let fields_good = match command {
-        Command::SignOnTo(serial) => serial_rule(serial),
+        Command::SignOnTo(serial) | Command::SignOnWired(serial) => serial_rule(serial),
         Command::Confirm(speed, choice) => b"05".contains(speed) && b"0167".contains(choice),
         Command::Password(password) => digits(password, 8),
         Command::ReadZone(zone) => (1..=4).contains(zone),
@@ -174,6 +175,10 @@ pub fn characters(command: &Command) -> Option<Vec<u8>> {
         Command::SignOn => b"/?!\r\n".to_vec(),
         Command::Close => b"/C!\r\n".to_vec(),
         Command::SignOnTo(serial) => format!("/?{}!\r\n", shown(serial)).into_bytes(),
+        Command::SignOnWired(serial) => {
+            let (start, rest) = serial.split_at(3);
+            format!("/A{}.{}\r\n", text(start), text(rest)).into_bytes()
+        }
         Command::Confirm(speed, choice) => vec![ACK, b'0', *speed, *choice, b'\r', b'\n'],
         Command::Enter => framed("P1", "()"),
         Command::Password(password) => framed("P1", &format!("({})", text(password))),

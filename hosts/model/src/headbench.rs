@@ -194,7 +194,7 @@ fn call(words: &[&[u8]]) -> Option<String> {
 fn build(name: &[u8], room: &[u8], fields: &[&[u8]]) -> Option<String> {
     let mut out = lent(room)?;
     let text = match (name, fields) {
-        (b"serial" | b"password" | b"setaccount", [field]) => hex(field)?,
+        (b"serial" | b"wired" | b"password" | b"setaccount", [field]) => hex(field)?,
         (b"settable", [_, row]) => hex(row)?,
         _ => Vec::new(),
     };
@@ -202,6 +202,7 @@ fn build(name: &[u8], room: &[u8], fields: &[&[u8]]) -> Option<String> {
         (b"any", []) => Command::SignOn,
         (b"close", []) => Command::Close,
         (b"serial", [_]) => Command::SignOnTo(&text),
+        (b"wired", [_]) => Command::SignOnWired(&text),
         (b"confirm", [speed, choice]) => {
             let ([speed], [choice]) = (exactly(speed)?, exactly(choice)?);
             Command::Confirm(speed, choice)

@@ -32,6 +32,10 @@ pub const PASSWORD: u8 = 2;
 pub const READ_ONLY: u8 = 3;
 pub const PROGRAMMING: u8 = 4;
 
+/// The links that there are.
+pub const OPTICAL: u8 = 1;
+pub const WIRED: u8 = 2;
+
 const IDENTIFICATION: &[u8] = b"/ZZZ5SUB-VP01.00*\r\n";
 const SIGN_ON: &[u8] = b"/?!\r\n";
 const CLOSING_SIGN_ON: &[u8] = b"/C!\r\n";
@@ -73,7 +77,7 @@ pub struct Meter {
     pub account: [u8; 10],
     pub password: [u8; 8],
     pub attempts: u8,
-    /// Speed identifier: 0 in modes 0 and 1; 0 or 5 in modes 2 to 4, as confirmed.
+    /// Speed identifier: 0 in modes 0 and 1; 0 or 5 in modes 2 to 4, as confirmed. On the wired link 5.
     pub speed: u8,
     pub clock: Clock,
     pub counters: [u32; 4],
@@ -84,6 +88,8 @@ pub struct Meter {
     pub closed: u8,
     /// The newest first; unused places are all 0.
     pub periods: [Period; PERIODS],
+    /// Which link it has, for life.
+    pub link: u8,
 }
 
 /// What a call gives back beside the state and the buffer.
@@ -309,27 +315,43 @@ impl Meter {
             tables: [[b'1'; 24]; 24],
             closed: 0,
             periods: [Period::default(); PERIODS],
+            link: OPTICAL,
         }
     }
 
-    /// A new state from the factory's facts, with 1; or 15 and the blank state.
+    /// A new state from the factory's facts, with 1; or the blank state, with 16 for an edition, then
+    /// 18 for decimals that there are none of, then 15.
     pub fn new(
         serial: [u8; 10],
         account: [u8; 10],
         password: [u8; 8],
         clock: Clock,
+        kind: [u8; 3],
     ) -> (u8, Meter) {
-        let meter = Meter {
+        let [edition, link, decimals] = kind;
+        let mut meter = Meter {
             serial,
             account,
             password,
             clock,
+            link,
             ..Meter::blank()
         };
-        if meter.facts_good() {
-            (1, meter)
+        meter.enter(LISTENING);
+        match (edition, decimals) {
+            (1, 0) if meter.facts_good() => (1, meter),
+            (1, 0) => (15, Meter::blank()),
+            (1, _) => (18, Meter::blank()),
+            _ => (16, Meter::blank()),
+        }
+    }
+
+    /// The speed outside a session: the wired link has one speed for everything.
+    fn rest(&self) -> u8 {
+        if self.link == WIRED {
+            5
         } else {
-            (15, Meter::blank())
+            0
         }
     }
 
@@ -341,6 +363,7 @@ impl Meter {
                 .all(|&character| account_character(character))
             && self.password.iter().all(u8::is_ascii_digit)
             && self.clock.is_real()
+            && (self.link == OPTICAL || self.link == WIRED)
     }
 
     fn receiver_good(&self) -> bool {
@@ -370,7 +393,7 @@ impl Meter {
             && self.receiver_good()
             && self.facts_good()
             && self.attempts <= 3
-            && (self.speed == 0 || self.speed == 5 && self.mode > CONFIRMATION)
+            && (self.speed == self.rest() || self.speed == 5 && self.mode > CONFIRMATION)
             && self.counters.iter().all(|&counter| counter < COUNTER_END)
             && self.total == total_of(&self.counters)
             && self
@@ -446,12 +469,12 @@ impl Meter {
         self.hold(Some(first));
     }
 
-    /// Another mode; outside a session there is no speed but 0.
+    /// Another mode; outside a session the speed is that of the link.
     fn enter(&mut self, mode: u8) {
         self.empty();
         self.mode = mode;
         if mode <= CONFIRMATION {
-            self.speed = 0;
+            self.speed = self.rest();
         }
     }
 
@@ -539,7 +562,7 @@ impl Meter {
         } else if got == Some(LF) {
             let line = [self.held(), &[LF]].concat();
             let unmarked = self.mark == 0;
-            let closing = unmarked && line == CLOSING_SIGN_ON;
+            let closing = unmarked && self.link == OPTICAL && line == CLOSING_SIGN_ON;
             let called = unmarked && self.called_by(&line);
             self.empty();
             if closing {
@@ -547,7 +570,11 @@ impl Meter {
             }
             if called || closing {
                 self.enter(CONFIRMATION);
-                return Step::reply(1, 0, IDENTIFICATION);
+                let answer = match self.link {
+                    WIRED => wired('g', &self.serial),
+                    _ => IDENTIFICATION.to_vec(),
+                };
+                return Step::reply(1, self.rest(), &answer);
             }
         } else if self.count == 31 {
             self.empty();
@@ -558,6 +585,9 @@ impl Meter {
     }
 
     fn called_by(&self, line: &[u8]) -> bool {
+        if self.link == WIRED {
+            return line == wired('A', &self.serial) || line == wired('A', b"0000000000");
+        }
         let ours = format!("/?{}!\r\n", self.shown_serial());
         line == SIGN_ON || line == ZERO_SIGN_ON || line == ours.as_bytes()
     }
@@ -569,7 +599,9 @@ impl Meter {
             return Step::quiet(0);
         }
         let wanted = match self.held() {
-            [ACK, b'0', b'0', choice, CR, LF] if self.mark == 0 => Some((0, *choice)),
+            [ACK, b'0', b'0', choice, CR, LF] if self.mark == 0 && self.link == OPTICAL => {
+                Some((0, *choice))
+            }
             [ACK, b'0', b'5', choice, CR, LF] if self.mark == 0 => Some((5, *choice)),
             _ => None,
         };
@@ -617,8 +649,13 @@ impl Meter {
         Step::quiet(0)
     }
 
-    /// NAK at the session's speed; mode 2 falls to mode 0.
+    /// NAK at the session's speed; mode 2 falls to mode 0. On the wired link nothing is said, and every
+    /// mode falls.
     fn refuse(&mut self, number: u8) -> Step {
+        if self.link == WIRED {
+            self.enter(LISTENING);
+            return Step::quiet(number);
+        }
         let speed = self.speed;
         let mode = if self.mode == PASSWORD {
             LISTENING
@@ -817,7 +854,7 @@ impl Meter {
         }
         let step = match self.mode {
             LISTENING => Step::quiet(0),
-            CONFIRMATION => Step::reply(1, 0, &[NAK]),
+            CONFIRMATION if self.link == OPTICAL => Step::reply(1, 0, &[NAK]),
             _ => Step::quiet(1),
         };
         self.enter(LISTENING);
@@ -899,6 +936,12 @@ pub fn total_of(counters: &[u32; 4]) -> u32 {
 /// `eeeeee.eee*kWh`.
 fn energy_text(wh: u64) -> String {
     format!("{:06}.{:03}*kWh", wh / 1000, wh % 1000)
+}
+
+/// A line of the wired link: a letter and a serial.
+fn wired(letter: char, serial: &[u8]) -> Vec<u8> {
+    let (start, rest) = serial.split_at(3);
+    format!("/{letter}{}.{}\r\n", text(start), text(rest)).into_bytes()
 }
 
 /// Nothing but digits.

@@ -2,7 +2,7 @@
 
 use crate::chance::Chance;
 use model::meter::{
-    bcc, days_in_month, total_of, Clock, Meter, Period, ETX, PERIODS, PLACES, SOH, STX,
+    bcc, days_in_month, total_of, Clock, Meter, Period, ETX, PERIODS, PLACES, SOH, STX, WIRED,
 };
 
 /// SOH, command, STX and data if there are any, ETX and the true BCC.
@@ -233,6 +233,24 @@ pub fn state(chance: &mut Chance, mode: u8) -> Meter {
     }
     close_some(chance, &mut meter);
     meter
+}
+
+/// The same on either link.
+pub fn on_some_link(chance: &mut Chance, meter: Meter) -> Meter {
+    if chance.percent(60) {
+        return meter;
+    }
+    Meter {
+        link: WIRED,
+        speed: 5,
+        ..meter
+    }
+}
+
+/// A line of the wired link.
+pub fn wired_line(letter: u8, serial: &[u8]) -> Vec<u8> {
+    let (start, rest) = serial.split_at(3);
+    [&[b'/', letter], start, b".", rest, b"\r\n"].concat()
 }
 
 /// The same with these characters held. The mark's place is that of the first 0, or the last.

@@ -6,11 +6,16 @@ use Rattle.state.proofs.is_well_formed.Tie as tie
 
 returns : tie.Need-returns
 unfolding wellFormed
-returns c = rw (c .registers-good .ensures, ← c .before .before .before .before .speed-good .ensures, ← c .before .before .before .receiver-good .ensures, c .before .before .if1 .taken)
+returns c =
+    let tested = c .before .before in
+    let speed = tested .before .before in
+    rw (c .registers-good .ensures, ← speed .before .before .before .link-of .ensures, ← speed .speed-good .ensures, ← tested .before .receiver-good .ensures, tested .if1 .taken)
 
 returns-2 : tie.Need-returns-2
 unfolding wellFormed
-returns-2 c = rw (← c .before .before .speed-good .ensures, ← c .before .receiver-good .ensures, c .if1 .left)
+returns-2 c =
+    let speed = c .before .before in
+    rw (← speed .before .before .before .link-of .ensures, ← speed .speed-good .ensures, ← c .before .receiver-good .ensures, c .if1 .left)
 
 pub is-well-formed-spec : {M : Type 1} → statement M
-is-well-formed-spec = tie.close (tie.spec (λ c κs. search needs) (λ c κs. search needs) (λ c κs. search needs) returns returns-2)
+is-well-formed-spec = tie.close (tie.spec (λ c κs. search needs) (λ c κs. search needs) (λ c κs. search needs) (λ c κs. search needs) returns returns-2)

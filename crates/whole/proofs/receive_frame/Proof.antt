@@ -17,7 +17,13 @@ take-frame-requires c κs = (sym (c .before .before .is-well-formed .ensures) �
 
 returns-2 : tie.Need-returns-2
 unfolding frameAt holding
-returns-2 c = (rw (le-ltb _ _ (c .before .before .before .before .before .before .if1 .left), ← c .before .before .before .before .before .is-well-formed .ensures, c .before .before .before .before .if2 .taken, c .before .before .take-frame .ensures .0), rw (le-ltb _ _ (c .before .before .before .before .before .before .if1 .left), ← c .before .before .before .before .before .is-well-formed .ensures, c .before .before .before .before .if2 .taken) (c .before .before .take-frame .ensures .1))
+returns-2 c =
+    let c2 = c .before .before in
+    let c4 = c2 .before .before in
+    let c5 = c4 .before in
+    let c6 = c5 .before in
+    let done = c2 .take-frame .ensures in
+    (rw (le-ltb _ _ (c6 .if1 .left), ← c5 .is-well-formed .ensures, c4 .if2 .taken, done .0), rw (le-ltb _ _ (c6 .if1 .left), ← c5 .is-well-formed .ensures, c4 .if2 .taken) (done .1))
 
 returns-3 : tie.Need-returns-3
 unfolding frameAt holding

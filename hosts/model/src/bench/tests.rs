@@ -16,7 +16,7 @@ fn sign_on_by_hand() {
     let none = " 0 0 0 0 0 0 0 0 0".repeat(12);
     let expected = format!(
         "0 0 0 {zeros} 30303030303030303030 20202020202020202020 3030303030303030 \
-         0 2000 1 1 0 0 0 0 0 0 0 {tables} 0 0 0 0{none}\n\
+         0 2000 1 1 0 0 0 0 0 0 0 {tables} 0 0 0 0{none} 1\n\
          0 0 0 - 0\n0 0 0 - 0\n0 0 0 - 0\n0 0 0 - 0\n\
          1 0 19 af5a5a5a355355422d565030b12e3030aa8d0a 0\n12 0 0 - 0\n1 0 1 95 0\n"
     );
@@ -37,6 +37,7 @@ fn dump_comes_back_through_set() {
     bench.meter.periods[11].minute = 255;
     bench.meter.periods[11].counters[3] = u32::MAX;
     bench.meter.periods[0].year = 1;
+    bench.meter.link = 255;
     let line = format!("set {}", dump(&bench.meter));
     assert_eq!(
         parse(line.as_bytes()),

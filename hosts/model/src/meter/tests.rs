@@ -14,7 +14,13 @@ fn meter_in(mode: u8) -> Meter {
         minute: 5,
         second: 9,
     };
-    let (number, meter) = Meter::new(*b"1234567890", *b"Kiln_7 old", *b"20304050", clock);
+    let (number, meter) = Meter::new(
+        *b"1234567890",
+        *b"Kiln_7 old",
+        *b"20304050",
+        clock,
+        [1, 1, 0],
+    );
     assert_eq!(number, 1);
     let speed = if mode < PASSWORD { 0 } else { 5 };
     Meter {
@@ -418,7 +424,7 @@ fn refusals_come_in_their_order() {
 #[test]
 fn bad_facts_give_the_blank_state() {
     let good = (*b"1234567890", *b"Kiln_7 old", *b"20304050", Clock::FIRST);
-    assert_eq!(Meter::new(good.0, good.1, good.2, good.3).0, 1);
+    assert_eq!(Meter::new(good.0, good.1, good.2, good.3, [1, 1, 0]).0, 1);
     let day = Clock {
         day: 32,
         ..Clock::FIRST
@@ -429,7 +435,7 @@ fn bad_facts_give_the_blank_state() {
         (good.0, good.1, *b"2030405:", good.3),
         (good.0, good.1, good.2, day),
     ] {
-        let got = Meter::new(serial, account, password, clock);
+        let got = Meter::new(serial, account, password, clock, [1, 1, 0]);
         assert_eq!(got, (15, Meter::blank()));
     }
     assert!(Meter::blank().well_formed());
@@ -681,4 +687,90 @@ fn archives_out_of_range_are_malformed() {
     assert!(full.well_formed());
     full.closed = 13;
     assert!(!full.well_formed());
+}
+
+/// The same on the wired link.
+fn wired_in(mode: u8) -> Meter {
+    Meter {
+        link: WIRED,
+        speed: 5,
+        ..meter_in(mode)
+    }
+}
+
+#[test]
+fn the_wire_has_its_own_sign_on() {
+    for (line, number, reply) in [
+        ("/A123.4567890\r\n", 1, "/g123.4567890\r\n"),
+        ("/A000.0000000\r\n", 1, "/g123.4567890\r\n"),
+        ("/A123.4567891\r\n", 0, ""),
+        ("/A123 4567890\r\n", 0, ""),
+        ("/g123.4567890\r\n", 0, ""),
+        ("/?!\r\n", 0, ""),
+        ("/?123 4567890!\r\n", 0, ""),
+        ("/C!\r\n", 0, ""),
+    ] {
+        let mut meter = wired_in(LISTENING);
+        let answer = send(&mut meter, line.as_bytes());
+        assert_eq!(answer, (number, 5, reply.as_bytes().to_vec()), "{line}");
+        assert_eq!((meter.mode, meter.speed, meter.closed), (number, 5, 0));
+    }
+    let mut meter = meter_in(LISTENING);
+    assert_eq!(send(&mut meter, b"/A123.4567890\r\n"), (0, 0, vec![]));
+}
+
+#[test]
+fn the_wire_knows_one_speed() {
+    for (digit, number, mode) in [(b'5', 1, PASSWORD), (b'0', 2, LISTENING)] {
+        let mut meter = wired_in(CONFIRMATION);
+        let answer = send(&mut meter, &[ACK, b'0', digit, b'1', CR, LF]);
+        assert_eq!(
+            (answer.0, answer.1, meter.mode, meter.speed),
+            (number, 5, mode, 5)
+        );
+    }
+    let slow = Meter {
+        speed: 0,
+        ..wired_in(PROGRAMMING)
+    };
+    assert!(!slow.well_formed());
+    assert!(wired_in(LISTENING).well_formed());
+}
+
+#[test]
+fn a_refusal_on_the_wire_says_nothing_and_drops_the_session() {
+    for mode in PASSWORD..=PROGRAMMING {
+        let mut meter = wired_in(mode);
+        let answer = send(&mut meter, &frame("R1", "T()", 0));
+        assert_eq!(answer, (4, 5, vec![]));
+        assert_eq!((meter.mode, meter.count), (LISTENING, 0));
+    }
+    let mut meter = wired_in(PASSWORD);
+    assert_eq!(
+        send(&mut meter, &true_frame("P1", "(00000000)")),
+        (10, 5, vec![])
+    );
+    assert_eq!((meter.mode, meter.attempts), (LISTENING, 1));
+    let mut meter = wired_in(CONFIRMATION);
+    let mut buffer = [0xAA; ROOM];
+    let answer = meter.silence(&mut buffer);
+    assert_eq!((answer.number, answer.speed, answer.length), (1, 5, 0));
+}
+
+#[test]
+fn a_link_is_one_of_two() {
+    for link in 0..=255 {
+        let made = Meter::new(
+            *b"1234567890",
+            *b"Kiln_7 old",
+            *b"20304050",
+            Clock::FIRST,
+            [1, link, 0],
+        );
+        let good = link == OPTICAL || link == WIRED;
+        assert_eq!(made.0, if good { 1 } else { 15 });
+        assert_eq!(made.1.speed, if link == WIRED { 5 } else { 0 });
+        let meter = Meter { link, ..made.1 };
+        assert_eq!(meter.well_formed(), good);
+    }
 }

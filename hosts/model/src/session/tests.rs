@@ -45,7 +45,7 @@ fn meter() -> Meter {
         minute: 5,
         second: 9,
     };
-    let (number, meter) = Meter::new(*SERIAL, *b"Kiln_7 old", *PASSWORD, clock);
+    let (number, meter) = Meter::new(*SERIAL, *b"Kiln_7 old", *PASSWORD, clock, [1, 1, 0]);
     assert_eq!(number, 1);
     meter
 }

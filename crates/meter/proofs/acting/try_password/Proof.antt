@@ -11,7 +11,9 @@ use Rattle.meter.proofs.acting.try_password.Tie as tie
 
 returns : tie.Need-returns
 unfolding tried holding
-returns c = let c4 = c .before .before .before .before in (rw (eq-eqb _ _ (c4 .if1 .taken), c .before .before .refuse .ensures .0), rw (eq-eqb _ _ (c4 .if1 .taken)) (c .before .before .refuse .ensures .1))
+returns c =
+    let c4 = c .before .before .before .before in
+    (rw (eq-eqb _ _ (c4 .if1 .taken), c .before .before .refuse .ensures .0), rw (eq-eqb _ _ (c4 .if1 .taken)) (c .before .before .refuse .ensures .1))
 
 slice-aggregate-same : tie.Need-slice-aggregate-same
 slice-aggregate-same c =
@@ -37,8 +39,7 @@ returns-2 c =
 
 add-with-attempts : tie.Need-add-with-attempts
 add-with-attempts c =
-    let c13 = c .before .before .before .before .before .before .before .before .before .before .before .before .before in
-    let start = c13 in
+    let start = c .before .before .before .before .before .before .before .before .before .before .before .before .before in
     omega (arith, formed (start .args .m) (start .pre .0) .attempts)
 
 returns-3 : tie.Need-returns-3
@@ -50,7 +51,7 @@ returns-3 c =
     let c8 = c6 .before .before in
     let c9 = c8 .before in
     let c11 = c9 .before .before in
-    (rw (ne-eqb _ _ (c11 .if1 .left), ← c9 .rest .ensures .1, ← c8 .first .ensures .1, ← c6 .same .ensures, c5 .if2 .left, c .before .before .refuse2 .ensures .0, c4 .with-attempts2 .ensures), rw (ne-eqb _ _ (c11 .if1 .left), ← c9 .rest .ensures .1, ← c8 .first .ensures .1, ← c6 .same .ensures, c5 .if2 .left) (c .before .before .refuse2 .ensures .1))
+    (rw (ne-eqb _ _ (c11 .if1 .left), ← c9 .rest .ensures .1, ← c8 .first .ensures .1, ← c6 .same .ensures, c5 .if2 .left, c .before .before .refuse2 .ensures .0, c4 .with-attempts2 .ensures), rw (ne-eqb _ _ (c11 .if1 .left), ← c9 .rest .ensures .1, ← c8 .first .ensures .1, ← c6 .same .ensures, c5 .if2 .left) (rw (c4 .with-attempts2 .ensures) at (c .before .before .refuse2 .ensures .1)))
 
 pub try-password-spec : {M : Type 1} → statement M
 try-password-spec = tie.close (tie.spec (λ c κs. search needs) (λ c. search needs) returns (λ c. search needs) (λ c κs. search needs) (λ c κs. search needs) slice-aggregate-same (λ c κs. search needs) (λ c κs. search needs) (λ c κs. search needs) accept-requires (λ c. search needs) returns-2 add-with-attempts (λ c κs. search needs) (λ c κs. search needs) (λ c. search needs) returns-3)

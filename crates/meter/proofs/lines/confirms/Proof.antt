@@ -5,7 +5,7 @@ use Rattle.meter.proofs.lines.confirms.Statement.{statement}
 use Rattle.meter.proofs.lines.confirms.Tie as tie
 
 returns : tie.Need-returns
-returns c = rw (c .same2 .ensures, c .before .before .same .ensures) (confirms-by-held _ _ _)
+returns c = rw (c .same2 .ensures, c .before .before .slow-too .ensures, c .before .before .before .same .ensures) (confirms-by-held _ _ _ _)
 
 pub confirms-spec : {M : Type 1} → statement M
-confirms-spec = tie.close (tie.spec (λ c. search needs) (λ c κs. search needs) (λ c. search needs) (λ c κs. search needs) returns)
+confirms-spec = tie.close (tie.spec (λ c. search needs) (λ c κs. search needs) (λ c κs. search needs) (λ c. search needs) (λ c κs. search needs) returns)

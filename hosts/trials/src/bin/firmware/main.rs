@@ -3,6 +3,7 @@
 //!
 //! `firmware [SEED [EVENTS]]`
 
+mod bus;
 mod play;
 mod proved;
 mod reached;
@@ -59,9 +60,16 @@ fn made(facts: &Facts) -> (u8, Meter) {
     );
     match fields {
         (Ok(serial), Ok(account), Ok(password)) => {
-            Meter::new(serial, account, password, facts.clock)
+            Meter::new(serial, account, password, facts.clock, facts.kind)
         }
-        _ => (15, Meter::blank()),
+        _ => {
+            let number = match facts.kind {
+                [1, _, 0] => 15,
+                [1, ..] => 18,
+                _ => 16,
+            };
+            (number, Meter::blank())
+        }
     }
 }
 
@@ -186,16 +194,19 @@ fn run() -> Result<(), String> {
     if !missed.is_empty() {
         return Err(format!("never reached: {}", missed.join("; ")));
     }
+    let lines = bus::trial(seed)?;
+    println!("firmware: {lines} lines to eight meters on one wire, only the one called answered");
     println!(
         "firmware: {} events, {} of slow sessions, {} with a place, {} cases of closed months ({} \
-         periods closed, {} blocks with periods), {} meters made, {} records checked, all equal; \
-         reached all of {}; answers {}",
+         periods closed, {} blocks with periods), {} on the wired link, {} meters made, {} records \
+         checked, all equal; reached all of {}; answers {}",
         reached.events,
         reached.slow,
         reached.hurt,
         reached.months,
         reached.closed,
         reached.blocks,
+        reached.wired,
         reached.made,
         reached.checks,
         reached::AIMS.len(),

@@ -1,7 +1,7 @@
 //! What happens to the meters: dialogues, noise, time, energy, facts good and bad, broken records.
 
 use crate::{Clock, Meter, Pair};
-use model::meter::{with_parity, Period, PERIODS, PLACES, ROOM};
+use model::meter::{with_parity, Period, PERIODS, PLACES, ROOM, WIRED};
 use trials::chance::Chance;
 use trials::words::*;
 
@@ -12,6 +12,8 @@ pub struct Facts {
     pub account: Vec<u8>,
     pub password: Vec<u8>,
     pub clock: Clock,
+    /// Edition, link and decimals.
+    pub kind: [u8; 3],
 }
 
 type Outcome = Result<(), String>;
@@ -37,7 +39,8 @@ pub fn play(pair: &mut Pair, seed: u64, events: u64) -> Outcome {
             }
             2 => {
                 let mode = chance.below(5) as u8;
-                pair.put(state(chance, mode));
+                let meter = state(chance, mode);
+                pair.put(on_some_link(chance, meter));
             }
             3 => broken_record(pair, chance, filling)?,
             4 => {
@@ -74,6 +77,12 @@ pub fn play(pair: &mut Pair, seed: u64, events: u64) -> Outcome {
 /// What a head might say to this meter, or nearly.
 fn message(chance: &mut Chance, meter: &Meter) -> Vec<u8> {
     let mut message = match meter.mode {
+        0 if meter.link == WIRED && chance.percent(75) => match chance.below(6) {
+            0 => wired_line(b'A', b"0000000000"),
+            1 => wired_line(b'A', &digits::<10>(chance)),
+            2 => wired_line(b'g', &meter.serial),
+            _ => wired_line(b'A', &meter.serial),
+        },
         0 => match chance.weighed(&[3, 2, 1, 1, 2, 1]) {
             0 => b"/?!\r\n".to_vec(),
             1 => sign_on(&meter.serial),
@@ -124,7 +133,8 @@ fn message(chance: &mut Chance, meter: &Meter) -> Vec<u8> {
 fn hurt_frame(pair: &mut Pair, chance: &mut Chance, filling: u8) -> Outcome {
     if pair.model.mode < 2 || chance.one_in(8) {
         let mode = chance.weighed(&[1, 3, 3]) as u8 + 2;
-        pair.put(state(chance, mode));
+        let meter = state(chance, mode);
+        pair.put(on_some_link(chance, meter));
     }
     let message = message(chance, &pair.model);
     let mut bytes: Vec<u8> = message.iter().map(|&c| with_parity(c)).collect();
@@ -305,14 +315,17 @@ fn broken_record(pair: &mut Pair, chance: &mut Chance, filling: u8) -> Outcome {
 
 fn broken(chance: &mut Chance) -> Meter {
     let mode = chance.below(5) as u8;
-    let mut meter = state(chance, mode);
+    let meter = state(chance, mode);
+    let mut meter = on_some_link(chance, meter);
     if mode == 4 && chance.percent(30) {
         // A whole write that came damaged, and one character before its end.
         let frame = write(&good_write(chance));
         meter = holding(meter, &frame[..frame.len() - 1], true);
     }
     let odd = chance.byte();
-    match chance.below(20) {
+    match chance.below(22) {
+        20 => meter.link = chance.one_of(&[0, 3, odd]),
+        21 => meter.speed = 5 - meter.speed,
         0 => meter.mode = odd,
         1 => meter.attempts = odd,
         2 => meter.count = odd,
@@ -377,6 +390,7 @@ fn any_bytes(chance: &mut Chance) -> Meter {
             minute: chance.byte(),
             counters: [0; 4].map(|_| chance.bits() as u32),
         }),
+        link: chance.byte(),
     }
 }
 
@@ -387,9 +401,20 @@ fn facts(chance: &mut Chance) -> Facts {
         account: account(chance).to_vec(),
         password: digits::<8>(chance).to_vec(),
         clock: clock(chance),
+        kind: [1, chance.one_of(&[1, 2]), 0],
     };
     let odd = chance.byte();
-    match chance.below(14) {
+    match chance.below(18) {
+        14 => facts.kind[1] = chance.one_of(&[0, 3, odd]),
+        15 => facts.kind[0] = chance.one_of(&[0, 3, 255]),
+        16 => facts.kind[2] = chance.one_of(&[1, 5, 255]),
+        17 => {
+            facts.kind = [
+                chance.one_of(&[0, 1]),
+                chance.one_of(&[1, 3]),
+                chance.one_of(&[0, 1]),
+            ]
+        }
         0 => facts.serial[chance.below(10)] = odd,
         1 => facts.account[chance.below(10)] = odd,
         2 => facts.password[chance.below(8)] = odd,

@@ -30,6 +30,11 @@ impl Firmware for Proved {
             account.copy(&facts.account),
             password.copy(&facts.password),
             clock_of(&facts.clock),
+            library::Kind {
+                edition: facts.kind[0],
+                link: facts.kind[1],
+                decimals: facts.kind[2],
+            },
         );
         self.record = record;
         number

@@ -1,11 +1,12 @@
 //! Counts what the events reached, from the states around them and not from what was meant.
 
 use crate::{Answer, Facts, Meter};
-use model::meter::{data_bits, Period, BLOCK, PERIODS, PERIOD_LINES, ROOM};
+use model::meter::{data_bits, Period, ACK, BLOCK, OPTICAL, PERIODS, PERIOD_LINES, ROOM, WIRED};
 use std::collections::{BTreeMap, BTreeSet};
+use trials::words::wired_line;
 
 /// What must have happened at least once.
-pub const AIMS: [&str; 123] = [
+pub const AIMS: [&str; 154] = [
     "character: 0",
     "character: 1",
     "character: 2",
@@ -129,6 +130,37 @@ pub const AIMS: [&str; 123] = [
     "bad hour of a period",
     "bad counter of a period",
     "period in an unused place",
+    "half a million cases of the wired link",
+    "link that is none",
+    "speed 0 on the wired link",
+    "make: 16",
+    "make: 18",
+    "make, link that is none",
+    "make on the wired link",
+    "wired: called by its serial",
+    "wired: called by zeros",
+    "wired: another serial",
+    "wired: the optical sign-on",
+    "wired: /C!",
+    "wired: 2 for the digit 0",
+    "wired: block",
+    "wired: session",
+    "wired: silence in mode 1",
+    "wired: silence in a session",
+    "wired: refused in mode 2",
+    "wired: refused in mode 3",
+    "wired: refused in mode 4",
+    "wired: power-up",
+    "wired: a month closed by a tick",
+    "wired: 3",
+    "wired: 4",
+    "wired: 5",
+    "wired: 6",
+    "wired: 7",
+    "wired: 8",
+    "wired: 9",
+    "wired: 10",
+    "wired: 11",
 ];
 
 #[derive(Default)]
@@ -143,6 +175,8 @@ pub struct Reached {
     pub months: u64,
     pub closed: u64,
     pub blocks: u64,
+    /// Events of a good meter on the wired link.
+    pub wired: u64,
     numbers: BTreeMap<u8, u64>,
     zones: [bool; 4],
     met: BTreeSet<String>,
@@ -192,6 +226,12 @@ impl Reached {
             facts.account.len(),
             facts.password.len(),
         );
+        let link = facts.kind[1] == OPTICAL || facts.kind[1] == WIRED;
+        self.when(!link && number == 15, "make, link that is none");
+        self.when(
+            facts.kind[1] == WIRED && number == 1,
+            "make on the wired link",
+        );
         self.when(lengths.0 != 10, "make, serial of another length");
         self.when(lengths.0 == 0, "make, empty serial");
         self.when(lengths.1 != 10, "make, account of another length");
@@ -240,6 +280,9 @@ impl Reached {
         self.when(kind < 2 && room == ROOM, "room exact");
         self.when(kind < 2 && room > ROOM, "room greater");
         self.when(kind == 2 && room == 0, "no buffer for a tick");
+        if good && before.link == WIRED && !matches!(answer.number, 12 | 13) {
+            self.on_the_wire(before, (kind, value), answer, after);
+        }
         match answer.number {
             12 | 13 => {}
             14 => self.malformed(before),
@@ -247,7 +290,57 @@ impl Reached {
         }
     }
 
+    fn on_the_wire(&mut self, before: &Meter, event: (u8, u32), answer: Answer, after: &Meter) {
+        self.wired += 1;
+        self.when(
+            self.wired >= 500_000,
+            "half a million cases of the wired link",
+        );
+        let (kind, value) = event;
+        let line = [before.held(), b"\n"].concat();
+        let ended = kind == 0 && before.mode == 0 && value == 0x0A && before.mark == 0;
+        if ended {
+            let called = |serial: &[u8]| line == wired_line(b'A', serial);
+            let own = called(&before.serial);
+            self.when(
+                own && (answer.number, answer.length, answer.speed) == (1, 15, 5),
+                "wired: called by its serial",
+            );
+            let zeros = called(b"0000000000") && !own;
+            self.when(zeros && answer.length == 15, "wired: called by zeros");
+            let other = line.starts_with(b"/A") && line.len() == 15 && !own && !zeros;
+            self.when(other && answer.number == 0, "wired: another serial");
+            let plain = line == b"/?!\r\n" && answer.number == 0;
+            self.when(plain, "wired: the optical sign-on");
+            self.when(line == b"/C!\r\n" && answer.number == 0, "wired: /C!");
+        }
+        if kind == 0 && before.mode == 1 {
+            let slow = before.held().starts_with(&[ACK, b'0', b'0']);
+            self.when(slow && answer.number == 2, "wired: 2 for the digit 0");
+            self.when(answer.length == BLOCK, "wired: block");
+            self.when(after.mode == 2 && answer.speed == 5, "wired: session");
+        }
+        if let refused @ 3..=11 = answer.number {
+            if answer.length == 0 && after.mode == 0 && answer.speed == 5 {
+                self.reach(format!("wired: {refused}"));
+                self.reach(format!("wired: refused in mode {}", before.mode));
+            }
+        }
+        let quiet = kind == 1 && answer.number == 1 && answer.length == 0;
+        self.when(quiet && before.mode == 1, "wired: silence in mode 1");
+        self.when(quiet && before.mode > 1, "wired: silence in a session");
+        self.when(kind == 4 && after.speed == 5, "wired: power-up");
+        let closed = after.periods != before.periods;
+        self.when(kind == 2 && closed, "wired: a month closed by a tick");
+    }
+
     fn malformed(&mut self, meter: &Meter) {
+        let link = meter.link == OPTICAL || meter.link == WIRED;
+        self.when(!link, "link that is none");
+        self.when(
+            meter.link == WIRED && meter.speed == 0,
+            "speed 0 on the wired link",
+        );
         self.when(meter.mode > 4, "mode over 4");
         self.when(meter.attempts > 3, "attempts over 3");
         self.when(meter.speed != 0 && meter.speed != 5, "speed that is none");

@@ -1,7 +1,10 @@
 //! The trial's own trial: meters that are the model but for one fault.
 
 use crate::{library, made, record_of, ruled, Answer, Facts, Firmware, Meter};
-use model::meter::{data_bits, total_of, with_parity, Clock, Period, BLOCK, ETX, ROOM, SOH};
+use model::meter::{
+    data_bits, total_of, with_parity, Clock, Period, BLOCK, ETX, NAK, OPTICAL, ROOM, SOH, WIRED,
+};
+use trials::words::wired_line;
 
 #[derive(Clone, Copy, Debug, PartialEq, Eq)]
 pub enum Fault {
@@ -50,9 +53,14 @@ pub enum Fault {
     DropsTheNewest,
     SixIsThePlainBlock,
     ChecksNoPeriod,
+    NakOnTheWire,
+    AnswersThePlainSignOn,
+    KeepsItsModeOnTheWire,
+    AnswersZerosWithZeros,
+    WakesAt300OnTheWire,
 }
 
-pub const FAULTS: [Fault; 45] = [
+pub const FAULTS: [Fault; 50] = [
     Fault::TakesAMarkOfTwo,
     Fault::MalformedBeforeRoom,
     Fault::RoomBeforeThePulse,
@@ -98,6 +106,11 @@ pub const FAULTS: [Fault; 45] = [
     Fault::DropsTheNewest,
     Fault::SixIsThePlainBlock,
     Fault::ChecksNoPeriod,
+    Fault::NakOnTheWire,
+    Fault::AnswersThePlainSignOn,
+    Fault::KeepsItsModeOnTheWire,
+    Fault::AnswersZerosWithZeros,
+    Fault::WakesAt300OnTheWire,
 ];
 
 pub struct Wrong {
@@ -309,6 +322,11 @@ impl Firmware for Wrong {
             }
             self.said.push(character);
         }
+        let wired = before.well_formed() && before.link == WIRED;
+        let line = match before.mode {
+            0 if kind == 0 && value == 0x0A => [before.held(), b"\n"].concat(),
+            _ => Vec::new(),
+        };
         let mut answer = ruled(&mut self.meter, kind, value, reply);
         let restarted = kind == 0 && value as u8 == SOH | 0x80 && self.meter.count == 1;
         if restarted {
@@ -331,6 +349,30 @@ impl Firmware for Wrong {
                 self.meter.count = 0;
             }
             Some(Fault::LengthOfARefusal) if answer.number == 12 => answer.length = 1,
+            Some(Fault::NakOnTheWire) if wired && (3..=11).contains(&answer.number) => {
+                reply[0] = with_parity(NAK);
+                answer.length = 1;
+            }
+            Some(Fault::AnswersThePlainSignOn) if wired && line == b"/?!\r\n" => {
+                let mut optical = Meter {
+                    link: OPTICAL,
+                    speed: 0,
+                    ..before.clone()
+                };
+                answer = ruled(&mut optical, kind, value, reply);
+            }
+            Some(Fault::KeepsItsModeOnTheWire) if wired && (3..=11).contains(&answer.number) => {
+                self.meter.mode = before.mode.max(3);
+            }
+            Some(Fault::AnswersZerosWithZeros)
+                if wired && line == wired_line(b'A', b"0000000000") && answer.length == 15 =>
+            {
+                let zeros = wired_line(b'g', b"0000000000");
+                for (place, character) in reply.iter_mut().zip(zeros) {
+                    *place = with_parity(character);
+                }
+            }
+            Some(Fault::WakesAt300OnTheWire) if wired && kind == 4 => self.meter.speed = 0,
             Some(Fault::SpeedOfTheOldState) if answer.number == 1 => answer.speed = before.speed,
             Some(Fault::KeepsTheMark) if kind == 0 && value as u8 == SOH | 0x80 => {
                 self.meter.mark = u8::from(self.meter.count > 0) & before.mark;

@@ -61,7 +61,8 @@ fn state(chance: &mut Chance) -> Meter {
     } else {
         chance.below(2) as u8
     };
-    let mut meter = words::state(chance, mode);
+    let meter = words::state(chance, mode);
+    let mut meter = words::on_some_link(chance, meter);
     if chance.percent(4) && mode >= PASSWORD {
         let count = chance.between(1, PLACES);
         let mut held = words::printables(chance, count);

@@ -247,8 +247,9 @@ const BARE: [Command; 8] = [
 /// A command with a field of characters, and what that field is made of.
 type Filled = (for<'a> fn(&'a [u8]) -> Command<'a>, &'static [u8], usize);
 
-const FILLED: [Filled; 4] = [
+const FILLED: [Filled; 5] = [
     (|serial| Command::SignOnTo(serial), DIGITS, 10),
+    (|serial| Command::SignOnWired(serial), DIGITS, 10),
     (|password| Command::Password(password), DIGITS, 8),
     (|account| Command::WriteAccount(account), ACCOUNT, 10),
     (|row| Command::WriteTable(24, row), ZONES, 24),

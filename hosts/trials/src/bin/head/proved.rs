@@ -43,6 +43,9 @@ impl Head for Proved {
             Command::SignOn => head::sign_on(out),
             Command::Close => head::close(out),
             Command::SignOnTo(serial) => self.on(serial, |serial| head::sign_on_to(serial, out)),
+            Command::SignOnWired(serial) => {
+                self.on(serial, |serial| head::sign_on_wired(serial, out))
+            }
             Command::Confirm(speed, choice) => head::confirm(speed, choice, out),
             Command::Enter => head::enter(out),
             Command::Password(word) => self.on(word, |word| head::password(word, out)),

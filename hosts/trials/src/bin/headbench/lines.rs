@@ -66,6 +66,11 @@ pub fn fixed() -> Vec<Vec<u8>> {
         "find 302e312e322a3031 302e312e322a303128290d0a",
         "next 0 302e312e322a303128290d0a",
         "build serial 64 -",
+        "build wired 64 31323334353637383930",
+        "build wired 64 30303030303030303030",
+        "build wired 64 313233343536373839",
+        "build wired 63 31",
+        "build wired 64",
         "build serial 64 31",
         "build serial 64 3",
         "build settable 64 24 -",
@@ -245,8 +250,9 @@ fn field(chance: &mut Chance, made_of: &[u8], length: usize) -> String {
 
 fn build(chance: &mut Chance) -> String {
     let room = room(chance, 64);
-    let rest = match chance.below(15) {
+    let rest = match chance.below(16) {
         0 => format!("serial {room} {}", field(chance, DIGITS, 10)),
+        15 => format!("wired {room} {}", field(chance, DIGITS, 10)),
         1 => {
             let choice = match chance.below(3) {
                 0 => chance.byte(),

@@ -8,6 +8,7 @@ const CALLS: &[(&str, &[u8])] = &[
     ("build any", &[1, 19]),
     ("build close", &[1, 19]),
     ("build serial", &[1, 9, 19]),
+    ("build wired", &[1, 9, 19]),
     ("build confirm", &[1, 9, 19]),
     ("build readonly", &[1, 19]),
     ("build password", &[1, 9, 19]),

@@ -5,7 +5,7 @@ use crate::player::{wire, Player};
 use crate::reached::Reached;
 use crate::sweeps::new_line;
 use model::bench::dump;
-use model::meter::{Clock, Meter, ETX, LF, PLACES, ROOM, SOH, STX};
+use model::meter::{Clock, Meter, ETX, LF, PLACES, ROOM, SOH, STX, WIRED};
 use trials::chance::Chance;
 use trials::program::Played;
 use trials::words::*;
@@ -67,6 +67,15 @@ impl Aim<'_> {
 
     fn line_to(&mut self, meter: &Meter) -> Vec<u8> {
         let chance = &mut self.chance;
+        if meter.link == WIRED && chance.percent(70) {
+            return match chance.below(8) {
+                0 => wired_line(b'A', b"0000000000"),
+                1 => wired_line(b'A', &digits::<10>(chance)),
+                2 => wired_line(b'g', &meter.serial),
+                3 => sign_on(&meter.serial),
+                _ => wired_line(b'A', &meter.serial),
+            };
+        }
         match chance.weighed(&[30, 25, 20, 10, 5, 5, 5, 20, 4]) {
             0 => b"/?!\r\n".to_vec(),
             1 => sign_on(&meter.serial),
@@ -303,14 +312,20 @@ impl Aim<'_> {
             clock,
             ..
         } = facts;
+        // Edition, link and decimals, or what stands for them where they are left out.
+        let kind = chance.one_of(&[
+            "", " 1", " 1 1", " 1 2", " 1 2", " 1 2 0", " 1 1 0", " 1 3", " 1 0 0", " 0 2", " 3",
+            " 1 2 1", " 3 2 5", " 1 2 0 0", " 1 256", " 1 2 x",
+        ]);
         self.player
-            .line(new_line(&serial, &account, &password, clock));
+            .line(new_line(&serial, &account, &password, clock) + kind);
         self.player.dump();
     }
 
     fn good_state(&mut self) {
         let mode = self.chance.weighed(&[1, 1, 2, 3, 5]) as u8;
         let meter = state(&mut self.chance, mode);
+        let meter = on_some_link(&mut self.chance, meter);
         self.player.set(&meter);
     }
 

@@ -176,6 +176,8 @@ const RANGES: &[&str] = &[
     "attempts",
     "speed",
     "speed 5 outside a session",
+    "speed 0 on the wired link",
+    "link",
     "year below",
     "year above",
     "month 0",
@@ -890,9 +892,14 @@ fn broken_ranges(meter: &Meter) -> Vec<&'static str> {
     must(meter.password.iter().all(u8::is_ascii_digit), "password");
     must(meter.attempts < 4, "attempts");
     must(meter.speed == 0 || meter.speed == 5, "speed");
+    must(meter.link == 1 || meter.link == 2, "link");
     must(
-        meter.speed != 5 || meter.mode >= 2,
+        meter.link == 2 || meter.speed != 5 || meter.mode >= 2,
         "speed 5 outside a session",
+    );
+    must(
+        meter.link != 2 || meter.speed != 0,
+        "speed 0 on the wired link",
     );
     let clock = meter.clock;
     must(clock.year > 1999, "year below");

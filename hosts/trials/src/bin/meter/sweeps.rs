@@ -4,7 +4,7 @@ use crate::player::{wire, Player};
 use crate::reached::Reached;
 use model::bench::{dump, LINE_MOST};
 use model::meter::{
-    days_in_month, total_of, Clock, Meter, Period, ETX, LF, PERIODS, PLACES, ROOM, SOH, STX,
+    days_in_month, total_of, Clock, Meter, Period, ETX, LF, PERIODS, PLACES, ROOM, SOH, STX, WIRED,
 };
 use trials::chance::Chance;
 use trials::program::Played;
@@ -923,6 +923,19 @@ fn register_characters(chance: &mut Chance, player: &mut Player) {
             if chance.percent(40) {
                 player.dump();
             }
+        }
+        // The link, and the speed that goes with it.
+        let mode = chance.below(5) as u8;
+        let meter = state(chance, mode);
+        let speed = chance.one_of(&[0, 5]);
+        for link in [value, WIRED] {
+            player.set(&Meter {
+                link,
+                speed,
+                ..meter.clone()
+            });
+            player.line("tick");
+            player.dump();
         }
         // The facts of a new meter, one of them spoiled; the registers are those that were set.
         let good = state(chance, 0);
