@@ -20,22 +20,22 @@ wroteAll [] = []
 wroteAll (w ∷ ws) = wrote w ∷ wroteAll ws
 
 -- a byte that makes a frame whole while programming mode stands; one that ends /C! while listening
-abbrev pub byByte : Standing → ℕ → List Deed
-byByte s b =
+abbrev pub byByte : Facts → Standing → ℕ → List Deed
+byByte facts s b =
     cond (eqb (s .mode) 4 && isWhole s) (wroteAll (writeIn (frameBy s b)))
-    (cond (eqb (s .mode) 0 && closesPeriod (s .said ++ (b ∷ []))) (closed ∷ []) [])
+    (cond (eqb (s .mode) 0 && closesPeriod facts (s .said ++ (b ∷ []))) (closed ∷ []) [])
 
-unfoldable pub deedsAt : Standing → Event → List Deed
-deedsAt s (Character b) = byByte s b
-deedsAt s Silence = []
-deedsAt s Tick = second ∷ []
-deedsAt s (Pulse wh) = energy wh ∷ []
-deedsAt s PowerUp = []
-deedsAt s Unknown = []
+unfoldable pub deedsAt : Facts → Standing → Event → List Deed
+deedsAt facts s (Character b) = byByte facts s b
+deedsAt facts s Silence = []
+deedsAt facts s Tick = second ∷ []
+deedsAt facts s (Pulse wh) = energy wh ∷ []
+deedsAt facts s PowerUp = []
+deedsAt facts s Unknown = []
 
 unfoldable pub deeds : Facts → List Event → List Deed
 deeds facts [] = []
-deeds facts (e ∷ past) = deedsAt (standing facts past) e ++ deeds facts past
+deeds facts (e ∷ past) = deedsAt facts (standing facts past) e ++ deeds facts past
 
 -- the writes among them
 unfoldable pub writesOf : List Deed → List Write

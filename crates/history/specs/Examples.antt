@@ -7,8 +7,8 @@ use Rattle.line.specs.Quoted.{char, chars}
 use Rattle.line.specs.Controls.{SOH, STX, ETX}
 use Rattle.line.specs.Characters.{sent}
 use Rattle.frames.specs.Frames.{frameOf, bareFrame, onWire}
-use Rattle.frames.specs.Commands.{B0, P1, W1, setAccount, setTable}
-use Rattle.frames.specs.Session.{signOn, confirmation, enterData, passwordData}
+use Rattle.frames.specs.Commands.{B0, P1, R1, W1, askAccount, setAccount, setTable}
+use Rattle.frames.specs.Session.{signOn, wiredSignOn, confirmation, enterData, passwordData}
 use Rattle.state.specs.Sizes.{replyRoom}
 use Rattle.state.specs.Making.{factsOf}
 use Rattle.state.specs.declared.Facts.{Facts}
@@ -19,7 +19,11 @@ use Rattle.history.specs.Past.{pastOf}
 use Rattle.history.specs.Deeds.{deeds, writesOf}
 
 abbrev pub ours : Facts
-ours = factsOf (chars "1234567890") (chars "20304050")
+ours = factsOf (chars "1234567890") (chars "20304050") 1 1 0
+
+-- the same on the wired link
+abbrev pub onTheWire : Facts
+onTheWire = factsOf (chars "1234567890") (chars "20304050") 1 2 0
 
 -- bytes, each with room for a reply
 unfoldable pub spoken : List ℕ → List (ℕ × Event)
@@ -29,6 +33,9 @@ spoken (b ∷ bs) = (replyRoom, Character b) ∷ spoken bs
 -- the writes told, the newest first
 abbrev pub tellsUs : List (ℕ × Event) → List Write
 tellsUs es = writesOf (deeds ours (pastOf [] es))
+
+abbrev pub tellsThere : List (ℕ × Event) → List Write
+tellsThere es = writesOf (deeds onTheWire (pastOf [] es))
 
 -- sign-on, confirmation and the right password; the same with (), and with a password that is wrong
 abbrev pub opening : List ℕ → List ℕ
@@ -42,6 +49,10 @@ readOnly = opening enterData
 
 abbrev pub failing : List ℕ
 failing = opening (passwordData (chars "20304051"))
+
+-- the wired link's sign-on and the right password
+abbrev pub programmingThere : List ℕ
+programmingThere = onWire (wiredSignOn (chars "1234567890") ++ confirmation (char "5") (char "1") ++ frameOf P1 (passwordData (chars "20304050")))
 
 -- a write of the account, 19 bytes, and of a table, 36
 abbrev pub newAccount : List ℕ
@@ -88,3 +99,8 @@ pub record Examples : Type 0 where
   -- three failed passwords lock, until the power comes back
   pub locked : tellsUs (spoken (failing ++ failing ++ failing ++ programming ++ accountWrite)) ≡ []
   pub unlocked : tellsUs (spoken (failing ++ failing ++ failing) ++ (0, PowerUp) ∷ spoken (programming ++ accountWrite)) ≡ account newAccount ∷ []
+  -- the wired link: its own sign-on, and a session that ends at the first frame that is refused, and not at a question
+  pub wired : tellsThere (spoken (programmingThere ++ accountWrite)) ≡ account newAccount ∷ []
+  pub wired-deaf : tellsThere (spoken (programming ++ accountWrite)) ≡ []
+  pub wired-dropped : tellsThere (spoken (programmingThere ++ set (onesWrite 1) 12 0x31 ++ accountWrite)) ≡ []
+  pub wired-asked : tellsThere (spoken (programmingThere ++ onWire (frameOf R1 askAccount) ++ accountWrite)) ≡ account newAccount ∷ []

@@ -1,7 +1,8 @@
 -- What a whole frame says: it is compared with the frame that the rules build.
-use mathlib.Core.Bool.{Bool, cond, _&&_}
+use mathlib.Core.Bool.{Bool, true, false, cond, _&&_, _||_}
 use mathlib.Core.List.{List, [], _∷_, map}
 use Prim.Native.Nat.{ℕ, _-_}
+use lib.Dec.{eqb}
 use lib.ListN.{length, take, drop}
 use Rattle.line.specs.Characters.{seven}
 use Rattle.line.specs.Quoted.{chars}
@@ -14,7 +15,7 @@ use Rattle.values.specs.Edition.{editionTables}
 use Rattle.values.specs.Registers.{goodAccount, goodRow, goodTable}
 use Rattle.values.specs.Reading.{clockRead, tableRead}
 use Rattle.frames.specs.Frames.{frameOf, bareFrame}
-use Rattle.frames.specs.Commands.{B0, P1, W1, setClock, setAccount, setTable}
+use Rattle.frames.specs.Commands.{B0, P1, R1, W1, askClock, askSerial, askAccount, askEnergy, setClock, setAccount, setTable}
 use Rattle.frames.specs.Session.{enterData}
 use Rattle.history.specs.Saying.{says}
 
@@ -84,3 +85,22 @@ writeOf d =
 -- W1
 unfoldable pub writeIn : List ℕ → List Write
 writeIn frame = cond (isFrame W1 frame) (writeOf (dataIn frame)) []
+
+-- there is one
+unfoldable pub someWrite : List Write → Bool
+someWrite [] = false
+someWrite (w ∷ ws) = true
+
+-- R1 with what may be asked: T(), L(), K(), E0() to E4(), Z(xx)
+unfoldable pub isAsk : List ℕ → Bool
+isAsk d =
+    sameText d askClock || (sameText d askSerial || (sameText d askAccount
+    || (sameText d (askEnergy 0) || (sameText d (askEnergy 1) || (sameText d (askEnergy 2) || (sameText d (askEnergy 3) || (sameText d (askEnergy 4)
+    || (fits (chars "Z(##)") d && tableRead editionTables (take 2 (drop 2 d)) .ok))))))))
+
+unfoldable pub asks : List ℕ → Bool
+asks frame = isFrame R1 frame && isAsk (dataIn frame)
+
+-- a frame that is taken in modes 3 and 4: a question in either, a write in mode 4
+unfoldable pub isTaken : ℕ → List ℕ → Bool
+isTaken mode frame = asks frame || (eqb mode 4 && someWrite (writeIn frame))

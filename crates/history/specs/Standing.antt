@@ -7,12 +7,13 @@ use lib.ListN.{length, replicate}
 use Rattle.line.specs.Controls.{SOH, ETX}
 use Rattle.line.specs.Quoted.{char}
 use Rattle.text.specs.Classes.{sameText}
-use Rattle.frames.specs.Session.{signOn, closingSignOn, signOnTo, confirmation}
+use Rattle.frames.specs.Session.{signOn, closingSignOn, signOnTo, wiredSignOn, confirmation}
+use Rattle.state.specs.Link.{isWired}
 use Rattle.state.specs.declared.Facts.{Facts}
 use Rattle.meter.specs.declared.Event.{Event}
 use Rattle.meter.specs.declared.Event.the-variants.{Character, Silence, Tick, Pulse, PowerUp, Unknown}
 use Rattle.history.specs.Saying.{carries, says, since, endsWith}
-use Rattle.history.specs.Frames.{leaves, enters, tries, passwordIn}
+use Rattle.history.specs.Frames.{leaves, enters, tries, passwordIn, isTaken}
 
 pub record Standing : Type 0 where
   pub mode : ℕ
@@ -30,25 +31,35 @@ anew s mode = standingAs mode (s .failed) []
 abbrev pub saidMore : Standing → ℕ → Standing
 saidMore s b = standingAs (s .mode) (s .failed) (s .said ++ (b ∷ []))
 
--- listening: what was said from the last '/' on is /?!, or that with our serial or zeros, or /C!, each with CR LF
+-- listening: what was said from the last '/' on is a sign-on
 unfoldable pub calls : List ℕ → List ℕ → Bool
 calls text said = says (since (char "/") said) text
 
-unfoldable pub closesPeriod : List ℕ → Bool
-closesPeriod said = calls closingSignOn said
+abbrev pub zeros : List ℕ
+zeros = replicate 10 (char "0")
+
+-- on the optical link /?!, or that with our serial or zeros, or /C!; on the wired one /A with our serial or zeros; each with CR LF
+unfoldable pub callsOptical : List ℕ → List ℕ → Bool
+callsOptical serial said = (calls signOn said || calls (signOnTo serial) said) || calls (signOnTo zeros) said
+
+unfoldable pub callsWired : List ℕ → List ℕ → Bool
+callsWired serial said = calls (wiredSignOn serial) said || calls (wiredSignOn zeros) said
+
+unfoldable pub closesPeriod : Facts → List ℕ → Bool
+closesPeriod facts said = not (isWired (facts .link)) && calls closingSignOn said
 
 unfoldable pub signsOn : Facts → List ℕ → Bool
-signsOn facts said = ((calls signOn said || calls (signOnTo (facts .serial)) said) || calls (signOnTo (replicate 10 (char "0"))) said) || closesPeriod said
+signsOn facts said = cond (isWired (facts .link)) (callsWired (facts .serial) said) (callsOptical (facts .serial) said) || closesPeriod facts said
 
 abbrev pub listened : Facts → Standing → ℕ → Standing
 listened facts s b = cond (signsOn facts (s .said ++ (b ∷ []))) (anew s 1) (saidMore s b)
 
--- confirmation: six bytes are said; ACK 0 V 1 CR LF with V 5 or 0 asks for the password, and all else ends in listening
-unfoldable pub asksForPassword : List ℕ → Bool
-asksForPassword six = says six (confirmation (char "5") (char "1")) || says six (confirmation (char "0") (char "1"))
+-- confirmation: six bytes are said; ACK 0 V 1 CR LF with V 5, or 0 on the optical link, asks for the password, and all else ends in listening
+unfoldable pub asksForPassword : Facts → List ℕ → Bool
+asksForPassword facts six = says six (confirmation (char "5") (char "1")) || (not (isWired (facts .link)) && says six (confirmation (char "0") (char "1")))
 
-abbrev pub sixSaid : Standing → ℕ → Standing
-sixSaid s b = cond (ltb (length (s .said ++ (b ∷ []))) 6) (saidMore s b) (cond (asksForPassword (s .said ++ (b ∷ []))) (anew s 2) (anew s 0))
+abbrev pub sixSaid : Facts → Standing → ℕ → Standing
+sixSaid facts s b = cond (ltb (length (s .said ++ (b ∷ []))) 6) (saidMore s b) (cond (asksForPassword facts (s .said ++ (b ∷ []))) (anew s 2) (anew s 0))
 
 -- a session: a frame is what was said from the last SOH on. Behind its ETX one byte more, whatever it is, makes it whole
 unfoldable pub opened : List ℕ → List ℕ
@@ -64,9 +75,9 @@ isWhole s = endsWith ETX (opened (s .said))
 abbrev pub isTooMany : Standing → ℕ → Bool
 isTooMany s b = leb 63 (length (opened (s .said))) && not (carries SOH b)
 
--- what is refused ends the password's mode, and no other
-unfoldable pub refusedIn : ℕ → ℕ
-refusedIn mode = cond (eqb mode 2) 0 mode
+-- what is refused ends the password's mode, and on the wired link any session
+unfoldable pub refusedIn : Facts → ℕ → ℕ
+refusedIn facts mode = cond (isWired (facts .link) || eqb mode 2) 0 mode
 
 -- a password: the third failed locks; the right one leaves none failed
 abbrev pub passwordSaid : Facts → Standing → List ℕ → Standing
@@ -80,13 +91,16 @@ entered facts s frame = cond (enters frame) (anew s 3) (cond (tries frame) (pass
 
 -- a whole frame
 abbrev pub framed : Facts → Standing → List ℕ → Standing
-framed facts s frame = cond (eqb (s .mode) 2) (entered facts s frame) (cond (leaves frame) (anew s 0) (anew s (s .mode)))
+framed facts s frame =
+    cond (eqb (s .mode) 2) (entered facts s frame)
+    (cond (leaves frame) (anew s 0)
+    (cond (isTaken (s .mode) frame) (anew s (s .mode)) (anew s (refusedIn facts (s .mode)))))
 
 abbrev pub inSession : Facts → Standing → ℕ → Standing
-inSession facts s b = cond (isWhole s) (framed facts s (frameBy s b)) (cond (isTooMany s b) (anew s (refusedIn (s .mode))) (saidMore s b))
+inSession facts s b = cond (isWhole s) (framed facts s (frameBy s b)) (cond (isTooMany s b) (anew s (refusedIn facts (s .mode))) (saidMore s b))
 
 abbrev pub afterByte : Facts → Standing → ℕ → Standing
-afterByte facts s b = cond (eqb (s .mode) 0) (listened facts s b) (cond (eqb (s .mode) 1) (sixSaid s b) (inSession facts s b))
+afterByte facts s b = cond (eqb (s .mode) 0) (listened facts s b) (cond (eqb (s .mode) 1) (sixSaid facts s b) (inSession facts s b))
 
 -- after a past, the newest first
 unfoldable pub standing : Facts → List Event → Standing
