@@ -1,6 +1,6 @@
 -- A byte of a confirmation. Assumes nothing.
 use mathlib.Core.Path.{_≡_, refl, ap, _∙_}
-use mathlib.Core.Bool.{Bool, true, false, cond, not, _&&_, _||_}
+use mathlib.Core.Bool.{Bool, true, false, cond, not, _&&_, _||_, and-false}
 use mathlib.Core.List.{List, [], _∷_, _++_, map}
 use Prim.Native.Nat.{ℕ, _+_}
 use native.Mathlib.Omega.{arith}
@@ -14,6 +14,7 @@ use Rattle.frames.specs.Session.{confirmation}
 use Rattle.state.specs.Sizes.{tables}
 use Rattle.state.specs.declared.Registers.{Registers}
 use Rattle.state.specs.declared.Meter.{Meter}
+use Rattle.state.specs.Link.{isWired, restSpeed}
 use Rattle.state.specs.Setting.{inMode, withSpeed}
 use Rattle.receiving.specs.declared.Hearing.the-variants.{Hold, Confirm}
 use Rattle.receiving.specs.Hearing.{confirming, hearing}
@@ -22,6 +23,7 @@ use Rattle.replies.specs.Block.{blockData}
 use Rattle.replies.specs.Periods.{longData}
 use Rattle.replies.specs.Fixed.{passwordAsk}
 use Rattle.meter.specs.Outcomes.{Outcome, silent, saying}
+use Rattle.meter.specs.Link.{slowToo}
 use Rattle.meter.specs.SignOn.{confirms, wantsBlock, wantsPeriods, wantsProgram}
 use Rattle.meter.specs.Character.{symbol, confirmedSpeed, readOut, confirmed, heard, taken}
 use Rattle.whole.specs.Gathering.{filled}
@@ -33,15 +35,16 @@ use Rattle.history.proofs.Saying.{map-snoc, undamaged-snoc}
 use Rattle.told.proofs.Holding.{untrue, holding, Follows, symbols, held-is, fresh}
 
 -- one choice is not another
-one-choice : (five : List ℕ) (c y z : ℕ) → (y ≡ z → ⊥) → confirms five c y ≡ true → confirms five c z ≡ false
+one-choice : (link : ℕ) (five : List ℕ) (c y z : ℕ) → (y ≡ z → ⊥) → confirms link five c y ≡ true → confirms link five c z ≡ false
 unfolding confirms confirmation sameText matching
-one-choice five c y z other h = go (sameText (five ++ (c ∷ [])) (6 ∷ 48 ∷ 53 ∷ y ∷ 13 ∷ 10 ∷ [])) refl (sameText (five ++ (c ∷ [])) (6 ∷ 48 ∷ 48 ∷ y ∷ 13 ∷ 10 ∷ [])) refl h
+one-choice link five c y z other h = go (slowToo link) (sameText (five ++ (c ∷ [])) (6 ∷ 48 ∷ 53 ∷ y ∷ 13 ∷ 10 ∷ [])) refl (sameText (five ++ (c ∷ [])) (6 ∷ 48 ∷ 48 ∷ y ∷ 13 ∷ 10 ∷ [])) refl h
   where
-    go : (p : Bool) → sameText (five ++ (c ∷ [])) (6 ∷ 48 ∷ 53 ∷ y ∷ 13 ∷ 10 ∷ []) ≡ p → (q : Bool) → sameText (five ++ (c ∷ [])) (6 ∷ 48 ∷ 48 ∷ y ∷ 13 ∷ 10 ∷ []) ≡ q
-        → (p || q) ≡ true → (sameText (five ++ (c ∷ [])) (6 ∷ 48 ∷ 53 ∷ z ∷ 13 ∷ 10 ∷ []) || sameText (five ++ (c ∷ [])) (6 ∷ 48 ∷ 48 ∷ z ∷ 13 ∷ 10 ∷ [])) ≡ false
-    go true e q f a = rw (same-is (five ++ (c ∷ [])) (6 ∷ 48 ∷ 53 ∷ y ∷ 13 ∷ 10 ∷ []) e, ne-eqb y z other)
-    go false e true f a = rw (same-is (five ++ (c ∷ [])) (6 ∷ 48 ∷ 48 ∷ y ∷ 13 ∷ 10 ∷ []) f, ne-eqb y z other)
-    go false e false f a = untrue a
+    go : (k p : Bool) → sameText (five ++ (c ∷ [])) (6 ∷ 48 ∷ 53 ∷ y ∷ 13 ∷ 10 ∷ []) ≡ p → (q : Bool) → sameText (five ++ (c ∷ [])) (6 ∷ 48 ∷ 48 ∷ y ∷ 13 ∷ 10 ∷ []) ≡ q
+        → (p || (k && q)) ≡ true → (sameText (five ++ (c ∷ [])) (6 ∷ 48 ∷ 53 ∷ z ∷ 13 ∷ 10 ∷ []) || (k && sameText (five ++ (c ∷ [])) (6 ∷ 48 ∷ 48 ∷ z ∷ 13 ∷ 10 ∷ []))) ≡ false
+    go k true e q f a = rw (same-is (five ++ (c ∷ [])) (6 ∷ 48 ∷ 53 ∷ y ∷ 13 ∷ 10 ∷ []) e, ne-eqb y z other) (and-false k)
+    go true false e true f a = rw (same-is (five ++ (c ∷ [])) (6 ∷ 48 ∷ 48 ∷ y ∷ 13 ∷ 10 ∷ []) f, ne-eqb y z other)
+    go true false e false f a = untrue a
+    go false false e q f a = untrue a
 
 either-one : (p q r : Bool) → (p ≡ true → r ≡ false) → (q ≡ true → r ≡ false) → (p || q) ≡ true → r ≡ false
 either-one true q r f h e = f refl
@@ -57,33 +60,37 @@ module _ (failed speed : ℕ) (said : List ℕ) (g : Registers) (b : ℕ) where
   abbrev five : List ℕ
   five = heldText (filled said)
 
-  asks-is : asksForPassword (said ++ (b ∷ [])) ≡ ((undamagedAll said && not (damagedAt b)) && wantsProgram five (symbol b))
-  unfolding asksForPassword says wantsProgram confirms symbol
-  asks-is = ap (λ (u : Bool). (u && sameText (map seven (said ++ (b ∷ []))) (confirmation 53 49)) || (u && sameText (map seven (said ++ (b ∷ []))) (confirmation 48 49))) (undamaged-snoc said b)
-      ∙ go (undamagedAll said) refl (damagedAt b)
+  asks-is : asksForPassword (g .facts) (said ++ (b ∷ [])) ≡ ((undamagedAll said && not (damagedAt b)) && wantsProgram (g .facts .link) five (symbol b))
+  unfolding asksForPassword says wantsProgram confirms slowToo symbol
+  asks-is =
+      ap (λ (u : Bool). (u && said-is 53) || (not (isWired (g .facts .link)) && (u && said-is 48))) (undamaged-snoc said b)
+      ∙ go (undamagedAll said) refl (damagedAt b) (not (isWired (g .facts .link)))
     where
-      go : (u : Bool) → undamagedAll said ≡ u → (d : Bool)
-          → (((u && not d) && sameText (map seven (said ++ (b ∷ []))) (confirmation 53 49)) || ((u && not d) && sameText (map seven (said ++ (b ∷ []))) (confirmation 48 49)))
-          ≡ ((u && not d) && (sameText (five ++ (cond d 0 (seven b) ∷ [])) (confirmation 53 49) || sameText (five ++ (cond d 0 (seven b) ∷ [])) (confirmation 48 49)))
-      go true e false = rw (map-snoc seven said b, held-is said, symbols said e)
-      go true e true = refl
-      go false e d = refl
+      said-is : ℕ → Bool
+      said-is v = sameText (map seven (said ++ (b ∷ []))) (confirmation v 49)
+
+      go : (u : Bool) → undamagedAll said ≡ u → (d k : Bool)
+          → (((u && not d) && said-is 53) || (k && ((u && not d) && said-is 48)))
+          ≡ ((u && not d) && (sameText (five ++ (cond d 0 (seven b) ∷ [])) (confirmation 53 49) || (k && sameText (five ++ (cond d 0 (seven b) ∷ [])) (confirmation 48 49))))
+      go true e false k = rw (map-snoc seven said b, held-is said, symbols said e)
+      go true e true k = and-false k
+      go false e d k = and-false k
 
   abbrev Goal : Bool → Outcome → Type 0
   Goal asks o = Follows (cond asks (anew s 2) (anew s 0)) g (o .next)
 
-  six-said : Goal (asksForPassword (said ++ (b ∷ []))) (confirmed m (symbol b) (damagedAt b))
+  six-said : Goal (asksForPassword (g .facts) (said ++ (b ∷ []))) (confirmed m (symbol b) (damagedAt b))
   unfolding confirmed
   six-said =
       rw asks-is
-      (go (undamagedAll said) (damagedAt b) (wantsBlock five (symbol b)) (wantsPeriods five (symbol b)) (wantsProgram five (symbol b))
+      (go (undamagedAll said) (damagedAt b) (wantsBlock (g .facts .link) five (symbol b)) (wantsPeriods (g .facts .link) five (symbol b)) (wantsProgram (g .facts .link) five (symbol b))
       (λ e. unfold wantsBlock wantsProgram in
-      (either-one (confirms five (symbol b) 48) (confirms five (symbol b) 55) (confirms five (symbol b) 49)
-      (one-choice five (symbol b) 48 49 (λ z. omega (arith, z))) (one-choice five (symbol b) 55 49 (λ z. omega (arith, z))) e))
-      (λ e. unfold wantsPeriods wantsProgram in (one-choice five (symbol b) 54 49 (λ z. omega (arith, z)) e)))
+      (either-one (confirms (g .facts .link) five (symbol b) 48) (confirms (g .facts .link) five (symbol b) 55) (confirms (g .facts .link) five (symbol b) 49)
+      (one-choice (g .facts .link) five (symbol b) 48 49 (λ z. omega (arith, z))) (one-choice (g .facts .link) five (symbol b) 55 49 (λ z. omega (arith, z))) e))
+      (λ e. unfold wantsPeriods wantsProgram in (one-choice (g .facts .link) five (symbol b) 54 49 (λ z. omega (arith, z)) e)))
     where
       out : Follows (anew s 0) g (inMode m 0)
-      out = record { speed = 0; is = rw (fresh 0) }
+      out = record { speed = restSpeed (g .facts .link); is = rw (fresh 0) }
 
       go : (u d p q r : Bool) → (p ≡ true → r ≡ false) → (q ≡ true → r ≡ false)
           → Goal ((u && not d) && r)
@@ -98,11 +105,11 @@ module _ (failed speed : ℕ) (said : List ℕ) (g : Registers) (b : ℕ) where
       go true false false false true f h = record { speed = confirmedSpeed m; is = rw (fresh 2) }
       go true false false false false f h = out
 
-  pub confirming-step : Follows (told.sixSaid s b) g (taken m b .next)
+  pub confirming-step : Follows (told.sixSaid (g .facts) s b) g (taken m b .next)
   unfolding taken hearing confirming heard
   confirming-step = go (leb 5 (length said)) refl
     where
-      go : (p : Bool) → leb 5 (length said) ≡ p → Follows (told.sixSaid s b) g (heard m (symbol b) (damagedAt b) (cond p Confirm Hold) .next)
+      go : (p : Bool) → leb 5 (length said) ≡ p → Follows (told.sixSaid (g .facts) s b) g (heard m (symbol b) (damagedAt b) (cond p Confirm Hold) .next)
       go true e = rw (le-ltb (length (said ++ (b ∷ []))) 6 (omega (arith, length-append said (b ∷ []), leb-true 5 (length said) e))) six-said
       go false e =
           let few = leb-false 5 (length said) e in

@@ -10,6 +10,7 @@ use Rattle.line.proofs.Runs.{and-left, and-right}
 use Rattle.text.specs.Classes.{sameText}
 use Rattle.clock.specs.declared.Clock.{Clock}
 use Rattle.state.specs.declared.Facts.{Facts}
+use Rattle.state.specs.Link.{isWired}
 use Rattle.state.specs.WellFormed.{factoryGood}
 use Rattle.state.specs.Making.{meterOf}
 use Rattle.replies.specs.Shown.{rowOf}
@@ -17,7 +18,7 @@ use Rattle.meter.specs.declared.Event.{Event}
 use Rattle.meter.specs.declared.Event.the-variants.{Character, Silence, Tick, Pulse, PowerUp, Unknown}
 use Rattle.meter.specs.Life.{lived}
 use Rattle.promises.proofs.Choices as choice
-use Rattle.history.specs.Frames.{Write, clock, account, row, leaves, enters, tries, passwordIn, writeIn, writeOf, isFrame, tells, dataIn, clockHere, accountHere, rowHere}
+use Rattle.history.specs.Frames.{Write, clock, account, row, leaves, enters, tries, passwordIn, isTaken, writeIn, writeOf, isFrame, tells, dataIn, clockHere, accountHere, rowHere}
 use Rattle.history.specs.Past.{happens, pastOf}
 use Rattle.history.specs.Standing.{Standing, signsOn, asksForPassword, closesPeriod, isWhole, isTooMany, frameBy, refusedIn, afterByte, standing}
 use Rattle.history.specs.Deeds.{Deed, closed, wroteAll, byByte, deedsAt, deeds, writesOf}
@@ -47,7 +48,7 @@ unfolding Apart
 byte-apart facts s b far never =
     choice.either Apart (eqb (s .mode) 0) (choice.either Apart (signsOn facts (s .said ++ (b ∷ []))) refl far)
     (choice.either Apart (eqb (s .mode) 1)
-    (choice.either Apart (ltb (length (s .said ++ (b ∷ []))) 6) far (choice.either Apart (asksForPassword (s .said ++ (b ∷ []))) refl refl))
+    (choice.either Apart (ltb (length (s .said ++ (b ∷ []))) 6) far (choice.either Apart (asksForPassword facts (s .said ++ (b ∷ []))) refl refl))
     (choice.given Apart (isWhole s)
     (λ w. choice.given Apart (eqb (s .mode) 2)
     (λ two. choice.either Apart (enters (frameBy s b)) refl
@@ -55,9 +56,12 @@ byte-apart facts s b far never =
     (λ t. choice.either Apart (eqb (s .failed) 3) refl
     (choice.given Apart (sameText (passwordIn (frameBy s b)) (facts .password)) (λ r. untrue (sym never ∙ all two w t r)) refl))
     refl))
-    (choice.either Apart (leaves (frameBy s b)) refl far))
-    (choice.either Apart (isTooMany s b) (unfold refusedIn in (choice.either (λ (n : ℕ). eqb n 4 ≡ false) (eqb (s .mode) 2) refl far)) far)))
+    (choice.either Apart (leaves (frameBy s b)) refl (choice.either Apart (isTaken (s .mode) (frameBy s b)) far fallen)))
+    (choice.either Apart (isTooMany s b) fallen far)))
   where
+    fallen : eqb (refusedIn facts (s .mode)) 4 ≡ false
+    fallen = unfold refusedIn in (choice.either (λ (n : ℕ). eqb n 4 ≡ false) (isWired (facts .link) || eqb (s .mode) 2) refl far)
+
     all : eqb (s .mode) 2 ≡ true → isWhole s ≡ true → tries (frameBy s b) ≡ true → sameText (passwordIn (frameBy s b)) (facts .password) ≡ true → rightNow facts s b ≡ true
     all two w t r = rw (two, w, t, r)
 
@@ -73,9 +77,9 @@ past-apart facts (PowerUp ∷ past) e = refl
 past-apart facts (Unknown ∷ past) e = past-apart facts past e
 
 -- the writes of a byte, and no other event has any
-byte-writes : (s : Standing) (b : ℕ) (ds : List Deed) → (eqb (s .mode) 4 && isWhole s) ≡ false → writesOf (byByte s b ++ ds) ≡ writesOf ds
+byte-writes : (facts : Facts) (s : Standing) (b : ℕ) (ds : List Deed) → (eqb (s .mode) 4 && isWhole s) ≡ false → writesOf (byByte facts s b ++ ds) ≡ writesOf ds
 unfolding writesOf
-byte-writes s b ds none = rw none (go (eqb (s .mode) 0 && closesPeriod (s .said ++ (b ∷ []))))
+byte-writes facts s b ds none = rw none (go (eqb (s .mode) 0 && closesPeriod facts (s .said ++ (b ∷ []))))
   where
     go : (p : Bool) → writesOf (cond p (closed ∷ []) [] ++ ds) ≡ writesOf ds
     go true = refl
@@ -86,7 +90,7 @@ unfolding rightEver deeds deedsAt writesOf Apart
 no-writes facts [] e = refl
 no-writes facts (Character b ∷ past) e =
     let before = or-right (rightNow facts (standing facts past) b) _ e in
-    byte-writes (standing facts past) b (deeds facts past) (rw (past-apart facts past before)) ∙ no-writes facts past before
+    byte-writes facts (standing facts past) b (deeds facts past) (rw (past-apart facts past before)) ∙ no-writes facts past before
 no-writes facts (Silence ∷ past) e = no-writes facts past e
 no-writes facts (Tick ∷ past) e = no-writes facts past e
 no-writes facts (Pulse wh ∷ past) e = no-writes facts past e
@@ -130,7 +134,7 @@ module _ (facts : Facts) (account₀ : List ℕ) (clock₀ : Clock) (good : fact
     same ws w k = stays (then ws w ∙ k ∙ sym (nothing-told es .account-told))
 
     -- an event that is no write
-    idle : writesOf (deedsAt s e ++ deeds facts past) ≡ writesTold facts es → AccountAfter facts account₀ clock₀ es room e
+    idle : writesOf (deedsAt facts s e ++ deeds facts past) ≡ writesTold facts es → AccountAfter facts account₀ clock₀ es room e
     idle k = same _ (go (happens room e)) refl
       where
         go : (p : Bool) → writesOf (deeds facts (cond p (e ∷ past) past)) ≡ writesTold facts es
@@ -164,7 +168,7 @@ module _ (facts : Facts) (account₀ : List ℕ) (clock₀ : Clock) (good : fact
     after-byte = go (happens room (Character b)) refl (eqb (s′ .mode) 4 && isWhole s′) refl
       where
         go : (h : Bool) → happens room (Character b) ≡ h → (k : Bool) → (eqb (s′ .mode) 4 && isWhole s′) ≡ k → After
-        go h x false y = idle es room (Character b) (unfold deedsAt in (byte-writes s′ b (deeds facts (happened es)) y))
+        go h x false y = idle es room (Character b) (unfold deedsAt in (byte-writes facts s′ b (deeds facts (happened es)) y))
         go false x true y = same es room (Character b) _ (ap (λ (p : Bool). writesOf (deeds facts (cond p (Character b ∷ happened es) (happened es)))) x) refl
         go true x true y =
             one-write (λ (ws : List Write). writeIn frame ≡ ws → After) frame

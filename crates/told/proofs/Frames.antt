@@ -13,7 +13,12 @@ use Rattle.line.specs.Checksum.{bccOf}
 use Rattle.line.specs.Runs.{every}
 use Rattle.line.proofs.Runs.{and-left, and-right, and-both}
 use Rattle.text.specs.Classes.{sameText, isPrintable, between}
+use Rattle.text.specs.Layout.{fits}
 use Rattle.text.proofs.Matching.{same-is, same-self, same-snoc}
+use Rattle.line.specs.Quoted.{chars}
+use Rattle.values.specs.Edition.{editionTables}
+use Rattle.values.specs.Reading.{tableRead}
+use Rattle.frames.specs.Commands.{askClock, askSerial, askAccount, askEnergy}
 use Rattle.frames.specs.Frames.{closed, frameOf, bareFrame}
 use Rattle.state.specs.WellFormed.{marked}
 use Rattle.receiving.specs.Receivers.{heldText}
@@ -21,15 +26,15 @@ use Rattle.replies.specs.declared.Ask.{Ask}
 use Rattle.deciding.specs.declared.Verdict.{Verdict}
 use Rattle.deciding.specs.declared.Verdict.the-variants.{Refuse, Leave, Read}
 use Rattle.deciding.specs.Shape.{startGood, bareShape, framedShape, content}
+use Rattle.deciding.specs.Asking.{asked, energyAsked, tableAsked}
 use Rattle.deciding.specs.Verdict.{bareVerdict, framedVerdict, shapeVerdict, verdict}
 use Rattle.meter.specs.Character.{symbol}
 use Rattle.promises.proofs.Choices as choice
-use Rattle.promises.proofs.Verdicts.{asked-all}
 use Rattle.whole.specs.Gathering.{filled}
 use Rattle.whole.proofs.Filled.{length-map}
 use Rattle.dialogue.proofs.Frames.{heldFrame, verdict-is}
 use Rattle.history.specs.Saying.{says}
-use Rattle.history.specs.Frames.{dataIn, isFrame, leaves}
+use Rattle.history.specs.Frames.{dataIn, isFrame, isAsk, leaves}
 use Rattle.history.proofs.Saying.{map-snoc, undamaged-snoc}
 use Rattle.told.proofs.Holding.{untrue, symbols, held-is}
 
@@ -123,10 +128,40 @@ data-held h c = go (leb 4 (length h)) refl
         let z : length h - 5 ≡ 0 = omega (arith, leb-false 4 (length h) e) in
         ap (λ (n : ℕ). take n (drop 4 (h ++ (c ∷ [])))) (k ∙ z) ∙ sym (ap (λ (n : ℕ). take n (drop 4 h)) z)
 
--- the frames that do nothing
-pub data Idle (mode : ℕ) : Verdict → Type 0 where
-  refused : (n : ℕ) → Idle mode (Refuse n)
-  read : (a : Ask) → (eqb mode 3 || eqb mode 4) ≡ true → Idle mode (Read a)
+-- a frame that is refused
+pub data Refused : Verdict → Type 0 where
+  refused : (n : ℕ) → Refused (Refuse n)
+
+-- what R1 may ask, and all else
+pub data Asks (d : List ℕ) : Verdict → Type 0 where
+  asks-it : (a : Ask) → isAsk d ≡ true → Asks d (Read a)
+  asks-nothing : isAsk d ≡ false → Asks d (Refuse 9)
+
+pub asked-asks : (d : List ℕ) → Asks d (asked d)
+unfolding asked energyAsked tableAsked isAsk
+asked-asks d =
+    go (sameText d askClock) refl (sameText d askSerial) refl (sameText d askAccount) refl
+    (sameText d (askEnergy 0)) refl (sameText d (askEnergy 1)) refl (sameText d (askEnergy 2)) refl (sameText d (askEnergy 3)) refl (sameText d (askEnergy 4)) refl
+    (fits (chars "Z(##)") d) refl (tableRead editionTables (take 2 (drop 2 d)) .ok) refl
+  where
+    go : (c : Bool) → sameText d askClock ≡ c → (s : Bool) → sameText d askSerial ≡ s → (a : Bool) → sameText d askAccount ≡ a
+        → (e0 : Bool) → sameText d (askEnergy 0) ≡ e0 → (e1 : Bool) → sameText d (askEnergy 1) ≡ e1 → (e2 : Bool) → sameText d (askEnergy 2) ≡ e2
+        → (e3 : Bool) → sameText d (askEnergy 3) ≡ e3 → (e4 : Bool) → sameText d (askEnergy 4) ≡ e4
+        → (z : Bool) → fits (chars "Z(##)") d ≡ z → (k : Bool) → tableRead editionTables (take 2 (drop 2 d)) .ok ≡ k → Asks d (asked d)
+    go true x0 s x1 a x2 e0 x3 e1 x4 e2 x5 e3 x6 e4 x7 z x8 k x9 = rw x0 (asks-it _ (rw x0))
+    go false x0 true x1 a x2 e0 x3 e1 x4 e2 x5 e3 x6 e4 x7 z x8 k x9 = rw (x0, x1) (asks-it _ (rw (x0, x1)))
+    go false x0 false x1 true x2 e0 x3 e1 x4 e2 x5 e3 x6 e4 x7 z x8 k x9 = rw (x0, x1, x2) (asks-it _ (rw (x0, x1, x2)))
+    go false x0 false x1 false x2 true x3 e1 x4 e2 x5 e3 x6 e4 x7 z x8 k x9 = rw (x0, x1, x2, x3) (asks-it _ (rw (x0, x1, x2, x3)))
+    go false x0 false x1 false x2 false x3 true x4 e2 x5 e3 x6 e4 x7 z x8 k x9 = rw (x0, x1, x2, x3, x4) (asks-it _ (rw (x0, x1, x2, x3, x4)))
+    go false x0 false x1 false x2 false x3 false x4 true x5 e3 x6 e4 x7 z x8 k x9 = rw (x0, x1, x2, x3, x4, x5) (asks-it _ (rw (x0, x1, x2, x3, x4, x5)))
+    go false x0 false x1 false x2 false x3 false x4 false x5 true x6 e4 x7 z x8 k x9 = rw (x0, x1, x2, x3, x4, x5, x6) (asks-it _ (rw (x0, x1, x2, x3, x4, x5, x6)))
+    go false x0 false x1 false x2 false x3 false x4 false x5 false x6 true x7 z x8 k x9 = rw (x0, x1, x2, x3, x4, x5, x6, x7) (asks-it _ (rw (x0, x1, x2, x3, x4, x5, x6, x7)))
+    go false x0 false x1 false x2 false x3 false x4 false x5 false x6 false x7 true x8 true x9 =
+        rw (x0, x1, x2, x3, x4, x5, x6, x7, x8, x9) (asks-it _ (rw (x0, x1, x2, x3, x4, x5, x6, x7, x8, x9)))
+    go false x0 false x1 false x2 false x3 false x4 false x5 false x6 false x7 true x8 false x9 =
+        rw (x0, x1, x2, x3, x4, x5, x6, x7, x8, x9) (asks-nothing (rw (x0, x1, x2, x3, x4, x5, x6, x7, x8, x9)))
+    go false x0 false x1 false x2 false x3 false x4 false x5 false x6 false x7 false x8 k x9 =
+        rw (x0, x1, x2, x3, x4, x5, x6, x7, x8) (asks-nothing (rw (x0, x1, x2, x3, x4, x5, x6, x7, x8)))
 
 module _ (run : List ℕ) (b : ℕ) where
   abbrev pub held : List ℕ
@@ -216,19 +251,18 @@ module _ (run : List ℕ) (b : ℕ) where
         bare mode k = unfold verdict shapeVerdict bareShape startGood isPrintable between bareVerdict in (rw (eq-eqb (bccOf (66 ∷ 48 ∷ 3 ∷ [])) _ refl, k))
 
     -- it is none that does anything
-    pub other-decided : leaves frame ≡ false → isFrame (80 ∷ 49 ∷ []) frame ≡ false → isFrame (87 ∷ 49 ∷ []) frame ≡ false → Idle mode (verdict mode held mark (symbol b))
+    pub other-decided : leaves frame ≡ false → isFrame (80 ∷ 49 ∷ []) frame ≡ false → isFrame (82 ∷ 49 ∷ []) frame ≡ false → isFrame (87 ∷ 49 ∷ []) frame ≡ false
+        → Refused (verdict mode held mark (symbol b))
     unfolding verdict shapeVerdict bareVerdict framedVerdict
-    other-decided none no-entry no-write =
-        let P = Idle mode in
-        choice.told P mark (λ e. refused 3)
-        (λ e. choice.given P (eqb (symbol b) (bccOf (drop 1 held)))
-        (λ sum. choice.given P (bareShape held)
-        (λ bare. choice.given P (eqb (getD held 1 0) 66 && eqb (getD held 2 0) 48) (λ w. untrue (sym none ∙ is-leave e sum bare w)) (refused 7))
-        (choice.given P (framedShape held)
-        (λ f. choice.given P (eqb (getD held 1 0) 80 && eqb (getD held 2 0) 49) (λ w. untrue (sym no-entry ∙ is-framed e sum 80 49 f w))
-        (choice.either P (eqb (getD held 1 0) 82 && eqb (getD held 2 0) 49)
-        (choice.given P (eqb mode 3 || eqb mode 4) (λ k. asked-all P (content held) (λ a g. read a k) (refused 9)) (refused 8))
-        (choice.given P (eqb (getD held 1 0) 87 && eqb (getD held 2 0) 49) (λ w. untrue (sym no-write ∙ is-framed e sum 87 49 f w)) (refused 7))))
+    other-decided none no-entry no-ask no-write =
+        choice.told Refused mark (λ e. refused 3)
+        (λ e. choice.given Refused (eqb (symbol b) (bccOf (drop 1 held)))
+        (λ sum. choice.given Refused (bareShape held)
+        (λ bare. choice.given Refused (eqb (getD held 1 0) 66 && eqb (getD held 2 0) 48) (λ w. untrue (sym none ∙ is-leave e sum bare w)) (refused 7))
+        (choice.given Refused (framedShape held)
+        (λ f. choice.given Refused (eqb (getD held 1 0) 80 && eqb (getD held 2 0) 49) (λ w. untrue (sym no-entry ∙ is-framed e sum 80 49 f w))
+        (choice.given Refused (eqb (getD held 1 0) 82 && eqb (getD held 2 0) 49) (λ w. untrue (sym no-ask ∙ is-framed e sum 82 49 f w))
+        (choice.given Refused (eqb (getD held 1 0) 87 && eqb (getD held 2 0) 49) (λ w. untrue (sym no-write ∙ is-framed e sum 87 49 f w)) (refused 7))))
         (refused 6)))
         (refused 4))
       where

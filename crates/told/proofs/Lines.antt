@@ -6,7 +6,7 @@ use Prim.Native.Nat.{ℕ, suc, _+_, _-_, _≤_}
 use native.Mathlib.Omega.{arith}
 use borrow.Author.Tests.{le-leb, lt-leb, leb-true, leb-false, ne-eqb, eqb-true}
 use lib.Dec.{eqb, leb}
-use lib.ListN.{length, take, drop, replicate, length-append}
+use lib.ListN.{length, take, drop, length-append}
 use Rattle.line.specs.Characters.{damagedAt, seven, undamagedAll}
 use Rattle.line.specs.Runs.{every}
 use Rattle.line.proofs.Runs.{and-left, and-right, and-both, every-append, every-take, every-drop, every-weaker}
@@ -14,15 +14,17 @@ use Rattle.text.specs.Classes.{sameText, matching, between, isDigit}
 use Rattle.text.proofs.Matching.{same-is, same-snoc}
 use Rattle.text.proofs.Decimal.{digit-low}
 use Rattle.values.specs.Registers.{goodSerial, goodDigits}
-use Rattle.values.specs.Texts.{serialText}
-use Rattle.values.proofs.Rules.{digits-long, serial-text-long}
-use Rattle.frames.specs.Session.{signOn, closingSignOn, signOnTo}
+use Rattle.values.specs.Texts.{parted, serialText, wiredText}
+use Rattle.values.proofs.Rules.{digits-long, serial-text-long, wired-text-long}
+use Rattle.frames.specs.Session.{signOn, closingSignOn, signOnTo, wiredLine, wiredSignOn}
 use Rattle.receiving.specs.Receivers.{heldText}
+use Rattle.state.specs.Link.{isWired}
+use Rattle.meter.specs.Link.{calls as calls-by-link, closes, opticalCall, wiredCall}
 use Rattle.meter.specs.SignOn.{signsOnBy, closesBy}
 use Rattle.whole.specs.Gathering.{filled}
 use Rattle.whole.proofs.Filled.{length-map}
 use Rattle.history.specs.Saying.{carries, says, since}
-use Rattle.history.specs.Standing.{calls, closesPeriod, signsOn}
+use Rattle.history.specs.Standing.{calls, zeros, callsOptical, callsWired, closesPeriod, signsOn}
 use Rattle.state.specs.declared.Facts.{Facts}
 use Rattle.history.proofs.Saying.{says-snoc, says-none, more, since-snoc}
 use Rattle.told.proofs.Holding.{untrue, noLF, live, symbols, held-is, carries-one}
@@ -157,22 +159,38 @@ close-ended = record { first = 47; rest = 67 ∷ 33 ∷ 13 ∷ []; is = refl; pl
 digit-plain : (c : ℕ) → isDigit c ≡ true → not (eqb c 10) ≡ true
 digit-plain c h = rw (ne-eqb c 10 (λ e. omega (arith, digit-low c h, e)))
 
+-- a serial's ten digits with a character between them
+parted-plain : (c : ℕ) → not (eqb c 10) ≡ true → (serial : List ℕ) → goodSerial serial ≡ true → every (λ x. not (eqb x 10)) (parted c serial) ≡ true
+unfolding goodDigits every
+parted-plain c plain serial good =
+    let all = every-weaker isDigit (λ x. not (eqb x 10)) digit-plain serial (and-right (eqb (length serial) 10) (every isDigit serial) good) in
+    every-append (λ x. not (eqb x 10)) (take 3 serial) (c ∷ drop 3 serial) (every-take (λ x. not (eqb x 10)) 3 serial all)
+    (and-both (not (eqb c 10)) _ plain (every-drop (λ x. not (eqb x 10)) 3 serial all))
+
 to-ended : (serial : List ℕ) → goodSerial serial ≡ true → Ended (signOnTo serial)
-unfolding signOnTo every
+unfolding signOnTo every serialText
 to-ended serial good =
     let n = serial-text-long serial (digits-long 10 serial good) in
     record {
       first = 47;
       rest = 63 ∷ (serialText serial ++ (33 ∷ 13 ∷ []));
       is = ap (λ (l : List ℕ). 47 ∷ 63 ∷ l) (sym (append-assoc (serialText serial) (33 ∷ 13 ∷ []) (10 ∷ [])));
-      plain = every-append (λ c. not (eqb c 10)) (serialText serial) (33 ∷ 13 ∷ []) (digits serial (and-right (eqb (length serial) 10) (every isDigit serial) (unfold goodDigits in good))) refl;
+      plain = every-append (λ c. not (eqb c 10)) (serialText serial) (33 ∷ 13 ∷ []) (parted-plain 32 refl serial good) refl;
       short = omega (arith, length-append (serialText serial) (33 ∷ 13 ∷ []), n);
     }
-  where
-    digits : (s : List ℕ) → every isDigit s ≡ true → every (λ c. not (eqb c 10)) (serialText s) ≡ true
-    digits s h = unfold serialText in (
-        let all = every-weaker isDigit (λ c. not (eqb c 10)) digit-plain s h in
-        every-append (λ c. not (eqb c 10)) (take 3 s) (32 ∷ drop 3 s) (every-take (λ c. not (eqb c 10)) 3 s all) (every-drop (λ c. not (eqb c 10)) 3 s all))
+
+-- and of the wired link
+wired-ended : (serial : List ℕ) → goodSerial serial ≡ true → Ended (wiredSignOn serial)
+unfolding wiredLine every wiredText
+wired-ended serial good =
+    let n = wired-text-long serial (digits-long 10 serial good) in
+    record {
+      first = 47;
+      rest = 65 ∷ (wiredText serial ++ (13 ∷ []));
+      is = ap (λ (l : List ℕ). 47 ∷ 65 ∷ l) (sym (append-assoc (wiredText serial) (13 ∷ []) (10 ∷ [])));
+      plain = every-append (λ c. not (eqb c 10)) (wiredText serial) (13 ∷ []) (parted-plain 46 refl serial good) refl;
+      short = omega (arith, length-append (wiredText serial) (13 ∷ []), n);
+    }
 
 -- ---- as the receiver has it
 
@@ -198,35 +216,68 @@ module _ (said : List ℕ) (b : ℕ) where
   unfolding calls
   called text t = signed said b text t ∙ ap (λ (k : Bool). carries 10 b && k) (held-says (line said) text t)
 
-  pub closes-is : closesPeriod (said ++ (b ∷ [])) ≡ (carries 10 b && (lineWhole && closesBy lineHeld))
-  unfolding closesPeriod closesBy
-  closes-is = called closingSignOn close-ended
+  -- a call of the history is that of the line which is held
+  abbrev same : List ℕ → Bool
+  same = sameText (lineHeld ++ (10 ∷ []))
+
+  abbrev as-held : Bool → Bool
+  as-held p = carries 10 b && (lineWhole && p)
+
+  either-held : (p q : Bool) → (as-held p || as-held q) ≡ as-held (p || q)
+  either-held p q = go (carries 10 b) lineWhole
+    where
+      go : (k u : Bool) → ((k && (u && p)) || (k && (u && q))) ≡ (k && (u && (p || q)))
+      go false u = refl
+      go true false = refl
+      go true true = refl
+
+  zeros-good : goodSerial zeros ≡ true
+  unfolding goodDigits every isDigit between
+  zeros-good = refl
+
+  optical-is : (serial : List ℕ) → goodSerial serial ≡ true → callsOptical serial (said ++ (b ∷ [])) ≡ as-held (opticalCall (lineHeld ++ (10 ∷ [])) serial)
+  unfolding callsOptical opticalCall
+  optical-is serial good =
+      ap₂ _||_ (ap₂ _||_ (called signOn call-ended) (called (signOnTo serial) (to-ended serial good))) (called (signOnTo zeros) (to-ended zeros zeros-good))
+      ∙ ap (λ (p : Bool). p || as-held (same (signOnTo zeros))) (either-held (same signOn) (same (signOnTo serial)))
+      ∙ either-held (same signOn || same (signOnTo serial)) (same (signOnTo zeros))
+
+  wired-is : (serial : List ℕ) → goodSerial serial ≡ true → callsWired serial (said ++ (b ∷ [])) ≡ as-held (wiredCall (lineHeld ++ (10 ∷ [])) serial)
+  unfolding callsWired wiredCall
+  wired-is serial good =
+      ap₂ _||_ (called (wiredSignOn serial) (wired-ended serial good)) (called (wiredSignOn zeros) (wired-ended zeros zeros-good))
+      ∙ either-held (same (wiredSignOn serial)) (same (wiredSignOn zeros))
+
+  pub closes-is : (facts : Facts) → closesPeriod facts (said ++ (b ∷ [])) ≡ as-held (closesBy (facts .link) lineHeld)
+  unfolding closesPeriod closes
+  closes-is facts = ap (λ (p : Bool). not (isWired (facts .link)) && p) (called closingSignOn close-ended) ∙ go (isWired (facts .link)) (carries 10 b) lineWhole (same closingSignOn)
+    where
+      go : (w k u p : Bool) → (not w && (k && (u && p))) ≡ (k && (u && (not w && p)))
+      go true false u p = refl
+      go true true false p = refl
+      go true true true p = refl
+      go false k u p = refl
 
   pub signs-is : (facts : Facts) → goodSerial (facts .serial) ≡ true
-      → signsOn facts (said ++ (b ∷ [])) ≡ (carries 10 b && (lineWhole && (signsOnBy lineHeld (facts .serial) || closesBy lineHeld)))
-  unfolding signsOn signsOnBy
+      → signsOn facts (said ++ (b ∷ [])) ≡ as-held (signsOnBy (facts .link) lineHeld (facts .serial) || closesBy (facts .link) lineHeld)
+  unfolding signsOn calls-by-link
   signs-is facts good =
-      let ours = called (signOnTo (facts .serial)) (to-ended (facts .serial) good) in
-      let any = called (signOnTo (replicate 10 48)) (to-ended (replicate 10 48) zeros) in
-      ap₂ _||_ (ap₂ _||_ (ap₂ _||_ (called signOn call-ended) ours) any) closes-is
-      ∙ all (carries 10 b) lineWhole (same signOn) (same (signOnTo (facts .serial))) (same (signOnTo (replicate 10 48))) (closesBy lineHeld)
+      ap₂ _||_ (go (isWired (facts .link))) (closes-is facts) ∙ either-held (signsOnBy (facts .link) lineHeld (facts .serial)) (closesBy (facts .link) lineHeld)
     where
-      same : List ℕ → Bool
-      same = sameText (lineHeld ++ (10 ∷ []))
-
-      zeros : goodSerial (replicate 10 48) ≡ true
-      zeros = unfold goodDigits every isDigit between in refl
-
-      all : (k u p q r c : Bool) → ((((k && (u && p)) || (k && (u && q))) || (k && (u && r))) || (k && (u && c))) ≡ (k && (u && (((p || q) || r) || c)))
-      all false u p q r c = refl
-      all true false p q r c = refl
-      all true true p q r c = refl
+      go : (w : Bool) → cond w (callsWired (facts .serial) (said ++ (b ∷ []))) (callsOptical (facts .serial) (said ++ (b ∷ [])))
+          ≡ as-held (cond w (wiredCall (lineHeld ++ (10 ∷ [])) (facts .serial)) (opticalCall (lineHeld ++ (10 ∷ [])) (facts .serial)))
+      go true = wired-is (facts .serial) good
+      go false = optical-is (facts .serial) good
 
 -- an empty line is none
-pub none-signs : (serial : List ℕ) → signsOnBy [] serial ≡ false
-unfolding signsOnBy signOn signOnTo sameText matching
-none-signs serial = refl
+pub none-signs : (link : ℕ) (serial : List ℕ) → signsOnBy link [] serial ≡ false
+unfolding calls-by-link opticalCall wiredCall signOn signOnTo wiredLine sameText matching
+none-signs link serial = go (isWired link)
+  where
+    go : (w : Bool) → cond w (wiredCall (10 ∷ []) serial) (opticalCall (10 ∷ []) serial) ≡ false
+    go true = refl
+    go false = refl
 
-pub none-closes : closesBy [] ≡ false
-unfolding closesBy closingSignOn sameText matching
-none-closes = refl
+pub none-closes : (link : ℕ) → closesBy link [] ≡ false
+unfolding closes closingSignOn sameText matching
+none-closes link = and-false (not (isWired link))

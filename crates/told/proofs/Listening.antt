@@ -13,6 +13,7 @@ use Rattle.state.specs.declared.Receiver.{Receiver}
 use Rattle.state.specs.declared.Registers.{Registers}
 use Rattle.state.specs.declared.Meter.{Meter}
 use Rattle.state.specs.Making.{emptyReceiver}
+use Rattle.state.specs.Link.{restSpeed}
 use Rattle.state.specs.Setting.{inMode}
 use Rattle.receiving.specs.declared.Hearing.{Hearing}
 use Rattle.receiving.specs.declared.Hearing.the-variants.{Drop, Hold, Restart, Empty, Line}
@@ -53,26 +54,26 @@ module _ (failed speed : ℕ) (said : List ℕ) (g : Registers) (b : ℕ) (good 
 
   -- the line ends
   ended : carries 10 b ≡ true → eqb (length (line said)) 0 ≡ false
-      → Goal (lineWhole said b && (signsOnBy (lineHeld said b) (g .facts .serial) || closesBy (lineHeld said b))) (lineWhole said b && closesBy (lineHeld said b)) (lineEnded m .next)
+      → Goal (lineWhole said b && (signsOnBy (g .facts .link) (lineHeld said b) (g .facts .serial) || closesBy (g .facts .link) (lineHeld said b))) (lineWhole said b && closesBy (g .facts .link) (lineHeld said b)) (lineEnded m .next)
   unfolding lineEnded doneAll done
   ended k some =
-      go (lineWhole said b) (signsOnBy (lineHeld said b) (g .facts .serial)) refl (closesBy (lineHeld said b)) refl
+      go (lineWhole said b) (signsOnBy (g .facts .link) (lineHeld said b) (g .facts .serial)) refl (closesBy (g .facts .link) (lineHeld said b)) refl
     where
       empty : emptyReceiver ≡ filled (line (said ++ (b ∷ [])))
       empty = sym (ap filled (live-snoc said b ∙ rw (carries-one 10 47 b (λ z. omega (arith, z)) k, k)) ∙ nothing-held)
 
-      go : (u p : Bool) → signsOnBy (lineHeld said b) (g .facts .serial) ≡ p → (c : Bool) → closesBy (lineHeld said b) ≡ c
+      go : (u p : Bool) → signsOnBy (g .facts .link) (lineHeld said b) (g .facts .serial) ≡ p → (c : Bool) → closesBy (g .facts .link) (lineHeld said b) ≡ c
           → Goal (u && (p || c)) (u && c) (cond (eqb (cond u 0 1) 1) (silent 0 (inMode m 0)) (cond p (signedOn m) (cond c (signedOn (periodClosed m)) (silent 0 (inMode m 0)))) .next)
-      go false p e c f = stays _ emptyReceiver 0 refl empty
-      go true true e true f = untrue (sym (closes-only (lineHeld said b) (g .facts .serial) f) ∙ e)
-      go true true e false f = record { speed = 0; is = rw nothing-held }
-      go true false e true f = record { speed = 0; is = rw nothing-held }
-      go true false e false f = stays _ emptyReceiver 0 refl empty
+      go false p e c f = stays _ emptyReceiver (restSpeed (g .facts .link)) refl empty
+      go true true e true f = untrue (sym (closes-only (g .facts .link) (lineHeld said b) (g .facts .serial) f) ∙ e)
+      go true true e false f = record { speed = restSpeed (g .facts .link); is = rw nothing-held }
+      go true false e true f = record { speed = restSpeed (g .facts .link); is = rw nothing-held }
+      go true false e false f = stays _ emptyReceiver (restSpeed (g .facts .link)) refl empty
 
-  pub listening-step : Goal (signsOn (g .facts) (said ++ (b ∷ []))) (closesPeriod (said ++ (b ∷ []))) (taken m b .next)
+  pub listening-step : Goal (signsOn (g .facts) (said ++ (b ∷ []))) (closesPeriod (g .facts) (said ++ (b ∷ []))) (taken m b .next)
   unfolding taken hearing listening heard doneAll more
   listening-step =
-      rw (signs-is said b (g .facts) good, closes-is said b, symbol-carries 46 b, symbol-carries 9 b)
+      rw (signs-is said b (g .facts) good, closes-is said b (g .facts), symbol-carries 46 b, symbol-carries 9 b)
       (go (carries 47 b) refl (eqb (length (line said)) 0) refl (carries 10 b) refl (leb 31 (length (line said))) refl)
     where
       then : line (said ++ (b ∷ [])) ≡ cond (carries 47 b) (b ∷ []) (cond (carries 10 b) [] (cond (leb 31 (length (line said))) [] (more (line said) b)))
@@ -80,14 +81,14 @@ module _ (failed speed : ℕ) (said : List ℕ) (g : Registers) (b : ℕ) (good 
 
       -- what is held where nothing was held before, or where too much was
       go : (p : Bool) → carries 47 b ≡ p → (q : Bool) → eqb (length (line said)) 0 ≡ q → (r : Bool) → carries 10 b ≡ r → (f : Bool) → leb 31 (length (line said)) ≡ f
-          → Goal (r && (lineWhole said b && (signsOnBy (lineHeld said b) (g .facts .serial) || closesBy (lineHeld said b)))) (r && (lineWhole said b && closesBy (lineHeld said b)))
+          → Goal (r && (lineWhole said b && (signsOnBy (g .facts .link) (lineHeld said b) (g .facts .serial) || closesBy (g .facts .link) (lineHeld said b)))) (r && (lineWhole said b && closesBy (g .facts .link) (lineHeld said b)))
           (heard m (symbol b) (damagedAt b) (does p q r f) .next)
       go true e q h true k f l = untrue (sym (carries-one 47 10 b (λ z. omega (arith, z)) e) ∙ k)
       go true e q h false k f l = stays _ (restartedReceiver (symbol b)) speed refl (restarts 47 b e ∙ ap filled (sym (then ∙ rw e)))
       go false e true h true k f l =
           let none = none-is (line said) h in
-          let signs : signsOnBy (lineHeld said b) (g .facts .serial) ≡ false = rw none (none-signs (g .facts .serial)) in
-          let closes : closesBy (lineHeld said b) ≡ false = rw none none-closes in
+          let signs : signsOnBy (g .facts .link) (lineHeld said b) (g .facts .serial) ≡ false = rw none (none-signs (g .facts .link) (g .facts .serial)) in
+          let closes : closesBy (g .facts .link) (lineHeld said b) ≡ false = rw none (none-closes (g .facts .link)) in
           rw (signs, closes, and-false (lineWhole said b)) (stays _ (filled (line said)) speed refl (ap filled (none ∙ sym (then ∙ rw (e, k)))))
       go false e true h false k f l =
           let none = none-is (line said) h in

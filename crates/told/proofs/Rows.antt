@@ -55,7 +55,7 @@ told-good facts (Character b ∷ past) =
     let s = standing facts past in
     let before = told-good facts past in
     choice.either (λ (xs : List Deed). allGood (writesOf (xs ++ deeds facts past)) ≡ true) (eqb (s .mode) 4 && isWhole s) (frame-good (frameBy s b) (deeds facts past) before)
-    (choice.either (λ (xs : List Deed). allGood (writesOf (xs ++ deeds facts past)) ≡ true) (eqb (s .mode) 0 && closesPeriod (s .said ++ (b ∷ []))) before before)
+    (choice.either (λ (xs : List Deed). allGood (writesOf (xs ++ deeds facts past)) ≡ true) (eqb (s .mode) 0 && closesPeriod facts (s .said ++ (b ∷ []))) before before)
 told-good facts (Silence ∷ past) = told-good facts past
 told-good facts (Tick ∷ past) = told-good facts past
 told-good facts (Pulse wh ∷ past) = told-good facts past

@@ -23,7 +23,8 @@ use Rattle.meter.specs.Events.{afterSilence, silence, tick, pulse, powerUp}
 use Rattle.meter.specs.declared.Event.{Event}
 use Rattle.meter.specs.declared.Event.the-variants.{Character, Silence, Tick, Pulse, PowerUp, Unknown}
 use Rattle.meter.specs.Life.{met, lived}
-use Rattle.replies.specs.Fixed.{refused as refusal}
+use Rattle.state.specs.Link.{linkOf, restSpeed}
+use Rattle.meter.specs.Link.{refusedReply}
 use Rattle.promises.proofs.Life.{met-stays}
 use Rattle.promises.proofs.Beginning.{new-well-formed}
 use Rattle.history.specs.Past.{happens, pastOf}
@@ -42,11 +43,11 @@ use Rattle.told.proofs.Registers.{all-done}
 -- ---- a byte, in any mode
 
 in-mode : (mode failed speed : ℕ) (said : List ℕ) (g : Registers) (b : ℕ) → mode ≤ 4 → goodSerial (g .facts .serial) ≡ true
-    → Follows (told.afterByte (g .facts) (standingAs mode failed said) b) (doneAll (byByte (standingAs mode failed said) b) g) (taken (holding (standingAs mode failed said) speed g) b .next)
+    → Follows (told.afterByte (g .facts) (standingAs mode failed said) b) (doneAll (byByte (g .facts) (standingAs mode failed said) b) g) (taken (holding (standingAs mode failed said) speed g) b .next)
 in-mode mode failed speed said g b few good = go (eqb mode 0) refl (eqb mode 1) refl
   where
     Goal : ℕ → Type 0
-    Goal n = Follows (told.afterByte (g .facts) (standingAs n failed said) b) (doneAll (byByte (standingAs n failed said) b) g) (taken (holding (standingAs n failed said) speed g) b .next)
+    Goal n = Follows (told.afterByte (g .facts) (standingAs n failed said) b) (doneAll (byByte (g .facts) (standingAs n failed said) b) g) (taken (holding (standingAs n failed said) speed g) b .next)
 
     listens : (n : ℕ) → n ≡ 0 → Goal n
     listens n e = rw e (listening-step failed speed said g b good)
@@ -61,7 +62,7 @@ in-mode mode failed speed said g b few good = go (eqb mode 0) refl (eqb mode 1) 
         let session : (leb 2 mode && leb mode 4) ≡ true = rw (le-leb 2 mode (omega (arith, eqb-false mode 0 e, eqb-false mode 1 f)), le-leb mode 4 few) in
         rw (e, f) (rw e at (session-step mode failed speed said g b e f session))
 
-byte-follows : (s : Standing) (g : Registers) (m : Meter) (b : ℕ) → wellFormed m ≡ true → Follows s g m → Follows (told.afterByte (g .facts) s b) (doneAll (byByte s b) g) (taken m b .next)
+byte-follows : (s : Standing) (g : Registers) (m : Meter) (b : ℕ) → wellFormed m ≡ true → Follows s g m → Follows (told.afterByte (g .facts) s b) (doneAll (byByte (g .facts) s b) g) (taken m b .next)
 byte-follows s g m b good f =
     let here : wellFormed (holding s (f .speed) g) ≡ true = rw (f .is) at good in
     let w = formed (holding s (f .speed) g) here in
@@ -79,9 +80,9 @@ module _ (factory : Registers) where
 
   -- a deed more: what it does
   deed-follows : (s : Standing) (e : Event) (past : List Event) (m : Meter)
-      → Follows s (doneAll (deedsAt (standing facts past) e) (registersTold factory (deeds facts past))) m → Follows s (registersTold factory (deeds facts (e ∷ past))) m
+      → Follows s (doneAll (deedsAt facts (standing facts past) e) (registersTold factory (deeds facts past))) m → Follows s (registersTold factory (deeds facts (e ∷ past))) m
   unfolding deeds
-  deed-follows s e past m h = rw (all-done factory (deedsAt (standing facts past) e) (deeds facts past)) h
+  deed-follows s e past m h = rw (all-done factory (deedsAt facts (standing facts past) e) (deeds facts past)) h
 
   module _ (past : List Event) (m : Meter) (good : wellFormed m ≡ true) (f : Held past m) where
     abbrev s : Standing
@@ -108,12 +109,12 @@ module _ (factory : Registers) where
     by-silence room = go (leb replyRoom room) refl
       where
         ended : Follows (anew s 0) g (inMode m 0)
-        ended = record { speed = 0; is = rw (f .is, fresh 0) }
+        ended = record { speed = restSpeed (facts .link); is = rw (f .is, fresh 0) }
 
         after : Follows (anew s 0) g (afterSilence m .next)
         after = unfold afterSilence in (three (eqb (m .mode) 0) (eqb (m .mode) 1))
           where
-            three : (p q : Bool) → Follows (anew s 0) g (cond p (silent 0 (inMode m 0)) (cond q (saying 1 0 refusal (inMode m 0)) (silent 1 (inMode m 0))) .next)
+            three : (p q : Bool) → Follows (anew s 0) g (cond p (silent 0 (inMode m 0)) (cond q (saying 1 (restSpeed (linkOf m)) (refusedReply (linkOf m)) (inMode m 0)) (silent 1 (inMode m 0))) .next)
             three true q = ended
             three false true = ended
             three false false = ended
@@ -138,7 +139,7 @@ module _ (factory : Registers) where
 
     by-power : (room : ℕ) → Held (then room PowerUp) (met m room PowerUp .next)
     unfolding happens met powerUp standing deeds deedsAt
-    by-power room = rw (good, f .is) (record { speed = 0; is = rw (fresh 0) })
+    by-power room = rw (good, f .is) (record { speed = restSpeed (facts .link); is = rw (fresh 0) })
 
     met-follows : (room : ℕ) (e : Event) → Held (then room e) (met m room e .next)
     met-follows room (Character b) = by-byte room b
@@ -162,7 +163,7 @@ module _ (facts : Facts) (account : List ℕ) (clock : Clock) (good : factoryGoo
 
   starts : Held (made .registers) [] made
   unfolding standing deeds accountTold tablesTold clockTold countersTold archiveTold writesOf
-  starts = record { speed = 0; is = rw (fresh 0) }
+  starts = record { speed = restSpeed (facts .link); is = rw (fresh 0) }
 
   follows : Held (made .registers) (pastOf [] es) (lived made es)
   follows = lived-follows (made .registers) [] made es (new-well-formed facts account clock good) starts
