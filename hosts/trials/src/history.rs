@@ -2,11 +2,12 @@
 //! here: bytes are kept as they came, and compared with the messages that the rules build.
 
 use crate::words::{
-    bracketed, clock_data, confirmation_at, good_bye, password, sign_on, table_data, write, CLOSING,
+    bracketed, clock_data, confirmation_at, good_bye, password, read, sign_on, table_data,
+    wired_line, write, CLOSING,
 };
 use model::bench::Event;
 use model::line::{character, wires, ETX, SOH};
-use model::meter::{Clock, Meter, PULSE_MOST, ROOM};
+use model::meter::{Clock, Meter, PULSE_MOST, ROOM, WIRED};
 
 #[derive(Clone, Copy, Debug, PartialEq, Eq)]
 pub enum Write {
@@ -27,6 +28,7 @@ pub enum Mistake {
     ForgetsTheLock,
     SaysRefusedBytes,
     WritesTwice,
+    KeepsOnTheWire,
 }
 
 /// What was told so far, and how matters stand: mode, failed passwords, and the bytes said since
@@ -101,12 +103,18 @@ impl History {
     fn listened(&mut self, byte: u8) {
         self.said.push(byte);
         let line = since(b'/', &self.said);
-        let closes = says(line, CLOSING);
-        let calls = [
-            b"/?!\r\n".to_vec(),
-            sign_on(&self.book.serial),
-            sign_on(b"0000000000"),
-        ];
+        let closes = !self.wired() && says(line, CLOSING);
+        let calls = match self.wired() {
+            true => vec![
+                wired_line(b'A', &self.book.serial),
+                wired_line(b'A', b"0000000000"),
+            ],
+            false => vec![
+                b"/?!\r\n".to_vec(),
+                sign_on(&self.book.serial),
+                sign_on(b"0000000000"),
+            ],
+        };
         let signs_on = closes || calls.iter().any(|call| says(line, call));
         if closes {
             self.close();
@@ -119,8 +127,9 @@ impl History {
     fn confirmed(&mut self, byte: u8) {
         self.said.push(byte);
         if self.said.len() == 6 {
-            let asks = [b'5', b'0'].map(|speed| says(&self.said, &confirmation_at(speed, b'1')));
-            self.anew(if asks.contains(&true) { 2 } else { 0 });
+            let asks = |speed| says(&self.said, &confirmation_at(speed, b'1'));
+            let asked = asks(b'5') || (!self.wired() && asks(b'0'));
+            self.anew(if asked { 2 } else { 0 });
         }
     }
 
@@ -133,7 +142,7 @@ impl History {
                 self.said.push(byte);
             }
         } else if open.len() >= 63 && character(byte) != Some(SOH) {
-            self.anew(if self.mode == 2 { 0 } else { self.mode });
+            self.refused();
         } else {
             self.said.push(byte);
         }
@@ -143,16 +152,30 @@ impl History {
         if self.mode == 2 {
             return self.entered(frame);
         }
+        let mut taken = asks(frame);
         if self.mode == 4 || self.mistake == Mistake::TakesInReadOnly {
             if let Some(write) = write_in(frame, self.mistake) {
                 self.write(write);
+                taken = true;
             }
         }
-        self.anew(if says(frame, &good_bye()) {
-            0
+        if says(frame, &good_bye()) {
+            self.anew(0);
+        } else if taken {
+            self.anew(self.mode);
         } else {
-            self.mode
-        });
+            self.refused();
+        }
+    }
+
+    /// What is refused ends mode 2, and on the wired link any session.
+    fn refused(&mut self) {
+        let ends = self.mode == 2 || (self.wired() && self.mistake != Mistake::KeepsOnTheWire);
+        self.anew(if ends { 0 } else { self.mode });
+    }
+
+    fn wired(&self) -> bool {
+        self.book.link == WIRED
     }
 
     fn entered(&mut self, frame: &[u8]) {
@@ -209,6 +232,15 @@ fn says(bytes: &[u8], text: &[u8]) -> bool {
 
 fn characters(bytes: &[u8]) -> Vec<u8> {
     bytes.iter().map(|byte| byte & 0x7F).collect()
+}
+
+/// A question that may be asked.
+fn asks(frame: &[u8]) -> bool {
+    let registers = ["T()", "L()", "K()"].map(String::from).into_iter();
+    let energies = (0..5).map(|zone| format!("E{zone}()"));
+    let tables = (1..=24).map(|table| format!("Z({table:02})"));
+    let mut all = registers.chain(energies).chain(tables);
+    all.any(|data| says(frame, &read(data.as_bytes())))
 }
 
 /// The write that a whole frame tells: it is, byte by byte, the frame of that write.

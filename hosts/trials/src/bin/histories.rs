@@ -5,7 +5,7 @@
 
 use model::bench::{parse, put_hex, run, Command, Event};
 use model::line::wires;
-use model::meter::{Meter, ETX, SOH, STX};
+use model::meter::{Meter, ETX, OPTICAL, SOH, STX, WIRED};
 use std::process::ExitCode;
 use trials::chance::Chance;
 use trials::history::{History, Mistake, Write};
@@ -78,8 +78,9 @@ fn wrong_ones(seed: u64) -> Result<usize, String> {
         Mistake::ForgetsTheLock,
         Mistake::SaysRefusedBytes,
         Mistake::WritesTwice,
+        Mistake::KeepsOnTheWire,
     ];
-    let script = script(seed, 4 * HISTORY);
+    let script = script(seed, 6 * HISTORY);
     let mut transcript = Vec::new();
     run(script.as_bytes(), &mut transcript).map_err(|error| error.to_string())?;
     hold(&script, &transcript, Mistake::None, &mut Counted::default())
@@ -103,6 +104,8 @@ struct Counted {
     modes: [u64; 5],
     locked: u64,
     periods: u64,
+    /// Dumps in a session on the wired link.
+    wired: u64,
 }
 
 impl Counted {
@@ -115,6 +118,7 @@ impl Counted {
         self.modes[usize::from(history.mode)] += 1;
         self.locked += u64::from(history.failed == 3);
         self.periods += u64::from(history.book.closed > 0);
+        self.wired += u64::from(history.mode >= 2 && history.book.link == WIRED);
     }
 
     fn write(&mut self, write: &Write) {
@@ -138,6 +142,7 @@ impl Counted {
             ("dumps in mode 4", self.modes[4]),
             ("dumps while locked", self.locked),
             ("dumps with closed periods", self.periods),
+            ("dumps in a session on the wired link", self.wired),
         ];
         for (what, count) in reached {
             println!("{what}: {count}");
@@ -168,7 +173,11 @@ fn hold(
                 account,
                 password,
                 clock,
-            }) => history = History::new(Meter::new(serial, account, password, clock).1, mistake),
+                kind,
+            }) => {
+                let (_, fresh) = Meter::new(serial, account, password, clock, kind);
+                history = History::new(fresh, mistake);
+            }
             Some(Command::Play(events)) => {
                 let told = history.told.len();
                 for event in events {
@@ -228,6 +237,9 @@ fn script(seed: u64, events: u64) -> String {
     play.made();
     while play.events < events {
         play.step();
+        if play.chance.one_in(100) {
+            play.made();
+        }
     }
     play.line("dump");
     play.script
@@ -260,14 +272,19 @@ impl Play {
             line.push(' ');
         }
         let c = fresh.clock;
+        let link = self.chance.one_of(&[OPTICAL, OPTICAL, WIRED]);
         line += &format!(
-            "{} {} {} {} {} {}",
+            "{} {} {} {} {} {} 1 {link} 0",
             c.year, c.month, c.day, c.hour, c.minute, c.second
         );
-        self.history = History::new(
-            Meter::new(fresh.serial, fresh.account, fresh.password, fresh.clock).1,
-            Mistake::None,
+        let (_, meter) = Meter::new(
+            fresh.serial,
+            fresh.account,
+            fresh.password,
+            fresh.clock,
+            [1, link, 0],
         );
+        self.history = History::new(meter, Mistake::None);
         self.line(&line);
     }
 
@@ -306,6 +323,11 @@ impl Play {
         let (serial, word) = (self.history.book.serial, self.history.book.password);
         let chance = &mut self.chance;
         match self.history.mode {
+            0 if self.history.book.link == WIRED => match chance.weighed(&[8, 6, 2]) {
+                0 => wired_line(b'A', &serial),
+                1 => wired_line(b'A', b"0000000000"),
+                _ => b"/?!\r\n".to_vec(),
+            },
             0 => match chance.weighed(&[8, 6, 4, 5, 2]) {
                 0 => b"/?!\r\n".to_vec(),
                 1 => sign_on(&serial),

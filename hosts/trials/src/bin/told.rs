@@ -30,8 +30,9 @@ fn tell() -> Result<(), String> {
                 account,
                 password,
                 clock,
+                kind,
             }) => {
-                let (_, fresh) = Meter::new(serial, account, password, clock);
+                let (_, fresh) = Meter::new(serial, account, password, clock, kind);
                 history = History::new(fresh, Mistake::None);
                 shown = 0;
             }
