@@ -25,7 +25,7 @@ new-registers : (facts : Facts) (account : List ℕ) (clock : Clock) → factory
 unfolding registersGood zonesGood below sumOf total tablesGood noTime unused everyPeriod archiveGood every between
 new-registers facts account clock h = rw h
 
-new-well-formed : (facts : Facts) (account : List ℕ) (clock : Clock) → factoryGood facts account clock ≡ true
+pub new-well-formed : (facts : Facts) (account : List ℕ) (clock : Clock) → factoryGood facts account clock ≡ true
     → wellFormed (meterOf facts account clock) ≡ true
 new-well-formed facts account clock h =
     well-formed (meterOf facts account clock)
