@@ -14,7 +14,7 @@ use Rattle.frames.specs.Frames.{sealed, frameOf, bareFrame, blockOf, onWire}
 use Rattle.frames.specs.Commands.{P0, P1, bracketed}
 use Rattle.state.specs.Sizes.{rowLength, tables, replyRoom, periodPlaces}
 use Rattle.state.specs.WellFormed.{limit, wellFormed}
-use Rattle.state.specs.Making.{emptyReceiver, noCounters, noPeriod, factsOf, meterOf, blankMeter, madeOf}
+use Rattle.state.specs.Making.{emptyReceiver, noCounters, noPeriod, factsOf, meterOf, blankMeter, notMade, madeOf}
 use Rattle.datasets.specs.Sets.{dataSet, linesOf, lineOf, timeSet, dateSet, serialSet, accountSet, energySet, tableSet, closedSet, keptSet}
 use Rattle.replies.specs.declared.Ask.the-variants.{Energy, Table}
 use Rattle.replies.specs.Answers.{askedData}
@@ -53,6 +53,8 @@ pub record States : Type 0 where
   -- one failed attempt at the start; an account of zeros
   pub blank : RuledOut blankMeter (withAttempts blankMeter 1)
       × RuledOut blankMeter (withRegisters blankMeter (withAccount (blankMeter .registers) (replicate 10 48)))
+  -- 15 for an edition that there is none of; 15 for decimals that no meter has
+  pub «not_made» : RuledOut (notMade 3 1) (record { number = 15; meter = blankMeter }) × RuledOut (notMade 1 1) (record { number = 15; meter = blankMeter })
   -- a serial of letters taken; 15 with a state of the bad facts
   pub make : RuledOut (madeOf (factsOf account password 1 1 0) account noon) (record { number = 1; meter = meterOf (factsOf account password 1 1 0) account noon })
       × RuledOut (madeOf (factsOf account password 1 1 0) account noon) (record { number = 15; meter = meterOf (factsOf account password 1 1 0) account noon })
