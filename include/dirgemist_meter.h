@@ -28,7 +28,7 @@ extern "C" {
 #endif
 
 #define DIRGEMIST_REPLY_ROOM 4096 /* the least room of a reply buffer */
-#define DIRGEMIST_STACK 12288     /* the most stack that a call takes, in bytes */
+#define DIRGEMIST_STACK 16384     /* the most stack that a call takes, in bytes */
 
 struct dirgemist_date {
     uint16_t year; /* 2000 to 2099 */

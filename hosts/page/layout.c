@@ -3,11 +3,32 @@
 #include "dirgemist_meter.h"
 #include "dirgemist_session.h"
 
+#include <stdbool.h>
 #include <stdio.h>
 #include <string.h>
 
 #define PART(name, field) \
     printf("%s: { at: %zu, size: %zu }, ", name, offsetof(struct dirgemist_meter, field), sizeof((struct dirgemist_meter *)0)->field)
+
+/* Which bytes belong to a field; between the fields anything may stand. */
+static bool field[sizeof(struct dirgemist_meter)];
+
+#define FIELD(name) memset(field + offsetof(struct dirgemist_meter, name), 1, sizeof((struct dirgemist_meter *)0)->name)
+
+static void look(void) {
+    FIELD(mode), FIELD(attempts), FIELD(speed);
+    FIELD(receiver.held), FIELD(receiver.count), FIELD(receiver.mark), FIELD(receiver.place);
+    FIELD(registers.facts.serial), FIELD(registers.facts.password), FIELD(registers.account);
+    FIELD(registers.facts.edition), FIELD(registers.facts.link), FIELD(registers.facts.decimals);
+    FIELD(registers.clock.date.year), FIELD(registers.clock.date.month), FIELD(registers.clock.date.day);
+    FIELD(registers.clock.time.hour), FIELD(registers.clock.time.minute), FIELD(registers.clock.time.second);
+    FIELD(registers.counters.zones), FIELD(registers.counters.total), FIELD(registers.tables), FIELD(registers.archive.count);
+    for (size_t i = 0; i < sizeof((struct dirgemist_meter *)0)->registers.archive.periods / sizeof(struct dirgemist_period); i++) {
+        FIELD(registers.archive.periods[i].closed.date.year), FIELD(registers.archive.periods[i].closed.date.month);
+        FIELD(registers.archive.periods[i].closed.date.day), FIELD(registers.archive.periods[i].closed.hour);
+        FIELD(registers.archive.periods[i].closed.minute), FIELD(registers.archive.periods[i].zones);
+    }
+}
 
 int main(void) {
     printf("export const LAYOUT = { meter: %zu, replyRoom: %d, session: %zu, sent: %zu, count: %zu, messageRoom: %d, parts: { ",
@@ -24,13 +45,10 @@ int main(void) {
     PART("counters", registers.counters);
     PART("tables", registers.tables);
     PART("\"closed months\"", registers.archive);
-    /* Between the fields anything may stand. */
-    struct dirgemist_meter all;
-    memset(&all, 0xFF, sizeof all);
-    __builtin_clear_padding(&all);
+    look();
     printf("}, between: [");
-    for (size_t at = 0; at < sizeof all; at++) {
-        if (((const uint8_t *)&all)[at] == 0) {
+    for (size_t at = 0; at < sizeof field; at++) {
+        if (!field[at]) {
             printf("%zu, ", at);
         }
     }
