@@ -19,7 +19,7 @@ use Rattle.history.specs.Past.{pastOf}
 use Rattle.history.specs.Deeds.{deeds, writesOf}
 
 abbrev pub ours : Facts
-ours = factsOf (chars "1234567890") (chars "20304050")
+ours = factsOf (chars "1234567890") (chars "20304050") 1 1 0
 
 -- bytes, each with room for a reply
 unfoldable pub spoken : List ℕ → List (ℕ × Event)
