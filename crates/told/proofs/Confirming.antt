@@ -78,7 +78,8 @@ module _ (failed speed : ℕ) (said : List ℕ) (g : Registers) (b : ℕ) where
       rw asks-is
       (go (undamagedAll said) (damagedAt b) (wantsBlock five (symbol b)) (wantsPeriods five (symbol b)) (wantsProgram five (symbol b))
       (λ e. unfold wantsBlock wantsProgram in
-      (either-one (confirms five (symbol b) 48) (confirms five (symbol b) 55) (confirms five (symbol b) 49) (one-choice five (symbol b) 48 49 (λ z. omega (arith, z))) (one-choice five (symbol b) 55 49 (λ z. omega (arith, z))) e))
+      (either-one (confirms five (symbol b) 48) (confirms five (symbol b) 55) (confirms five (symbol b) 49)
+      (one-choice five (symbol b) 48 49 (λ z. omega (arith, z))) (one-choice five (symbol b) 55 49 (λ z. omega (arith, z))) e))
       (λ e. unfold wantsPeriods wantsProgram in (one-choice five (symbol b) 54 49 (λ z. omega (arith, z)) e)))
     where
       out : Follows (anew s 0) g (inMode m 0)

@@ -12,6 +12,7 @@ use Rattle.clock.specs.declared.Clock.{Clock}
 use Rattle.state.specs.declared.Facts.{Facts}
 use Rattle.state.specs.WellFormed.{factoryGood}
 use Rattle.state.specs.Making.{meterOf}
+use Rattle.replies.specs.Shown.{rowOf}
 use Rattle.meter.specs.declared.Event.{Event}
 use Rattle.meter.specs.declared.Event.the-variants.{Character, Silence, Tick, Pulse, PowerUp, Unknown}
 use Rattle.meter.specs.Life.{lived}
@@ -25,6 +26,7 @@ use Rattle.told.specs.Claims.{Told, happened, writesTold}
 use Rattle.told.specs.Corollaries.{rightNow, rightEver, AccountAfter, stays, written, Corollaries}
 use Rattle.told.proofs.Holding.{untrue}
 use Rattle.told.proofs.Told.{nothing-but-told}
+use Rattle.told.proofs.Rows.{told-good, rows-told}
 
 -- ---- no right password, no programming
 
@@ -193,4 +195,6 @@ module _ (facts : Facts) (account₀ : List ℕ) (clock₀ : Clock) (good : fact
               same-account = nothing-told es .account-told ∙ ap (accountTold account₀) e ∙ sym (nothing-told es′ .account-told);
               same-tables = nothing-told es .tables-told ∙ ap (tablesTold (meterOf facts account₀ clock₀ .registers .tables)) e ∙ sym (nothing-told es′ .tables-told);
             };
+        last-rows = λ es n good-n.
+            ap (λ (t : List ℕ). rowOf t n) (nothing-told es .tables-told) ∙ rows-told n good-n (writesTold facts es) (told-good facts (happened es));
       }

@@ -75,10 +75,12 @@ module _ (h : List ℕ) (sum : ℕ) (checked : eqb sum (bccOf (drop 1 h)) ≡ tr
       let start = and-left (soh && words) ((long && stx) && etx) all in
       let ends = and-right (soh && words) ((long && stx) && etx) all in
       let opens = and-left (long && stx) etx ends in
-      let is : h ≡ heldFrame x y (content h) =
-      parts h (leb-true 5 (length h) (and-left long stx opens))
-      ∙ rw (eqb-true (getD h 0 0) 1 (and-left soh words start), eqb-true (getD h 1 0) x (and-left (eqb (getD h 1 0) x) _ w), eqb-true (getD h 2 0) y (and-right (eqb (getD h 1 0) x) _ w), eqb-true (getD h 3 0) 2 (and-right long stx opens), eqb-true (getD h (length h - 1) 0) 3 (and-right (long && stx) etx ends))
-      in
+      let e0 = eqb-true (getD h 0 0) 1 (and-left soh words start) in
+      let e1 = eqb-true (getD h 1 0) x (and-left (eqb (getD h 1 0) x) _ w) in
+      let e2 = eqb-true (getD h 2 0) y (and-right (eqb (getD h 1 0) x) _ w) in
+      let e3 = eqb-true (getD h 3 0) 2 (and-right long stx opens) in
+      let last = eqb-true (getD h (length h - 1) 0) 3 (and-right (long && stx) etx ends) in
+      let is : h ≡ heldFrame x y (content h) = parts h (leb-true 5 (length h) (and-left long stx opens)) ∙ rw (e0, e1, e2, e3, last) in
       let text : h ++ (sum ∷ []) ≡ frameOf (x ∷ y ∷ []) (content h) = frame-text x y (content h) is in
       and-both _ _ (ap (sameText (h ++ (sum ∷ []))) (sym text) ∙ same-self (h ++ (sum ∷ []))) (and-right ((soh && words) && ((long && stx) && etx)) (every isPrintable (content h)) f)
     where
@@ -94,10 +96,11 @@ module _ (h : List ℕ) (sum : ℕ) (checked : eqb sum (bccOf (drop 1 h)) ≡ tr
       let etx = eqb (getD h 3 0) 3 in
       let start = and-left (soh && words) (long && etx) f in
       let ends = and-right (soh && words) (long && etx) f in
-      let is : h ≡ 1 ∷ 66 ∷ 48 ∷ 3 ∷ [] =
-      four h (eqb-true (length h) 4 (and-left long etx ends))
-      ∙ rw (eqb-true (getD h 0 0) 1 (and-left soh words start), eqb-true (getD h 1 0) 66 (and-left (eqb (getD h 1 0) 66) _ w), eqb-true (getD h 2 0) 48 (and-right (eqb (getD h 1 0) 66) _ w), eqb-true (getD h 3 0) 3 (and-right long etx ends))
-      in
+      let e0 = eqb-true (getD h 0 0) 1 (and-left soh words start) in
+      let e1 = eqb-true (getD h 1 0) 66 (and-left (eqb (getD h 1 0) 66) _ w) in
+      let e2 = eqb-true (getD h 2 0) 48 (and-right (eqb (getD h 1 0) 66) _ w) in
+      let e3 = eqb-true (getD h 3 0) 3 (and-right long etx ends) in
+      let is : h ≡ 1 ∷ 66 ∷ 48 ∷ 3 ∷ [] = four h (eqb-true (length h) 4 (and-left long etx ends)) ∙ rw (e0, e1, e2, e3) in
       ap (sameText (h ++ (sum ∷ []))) (sym (bare-text is)) ∙ same-self (h ++ (sum ∷ []))
     where
       bare-text : h ≡ 1 ∷ 66 ∷ 48 ∷ 3 ∷ [] → h ++ (sum ∷ []) ≡ bareFrame (66 ∷ 48 ∷ [])
@@ -182,9 +185,11 @@ module _ (run : List ℕ) (b : ℕ) where
     unfolding isFrame
     framed-decided x y px py h =
         let e = frame-unmarked (x ∷ y ∷ []) (unfold isFrame in h) in
+        let here = data-is e in
         let said = and-left (says frame (frameOf (x ∷ y ∷ []) (dataIn frame))) _ h in
-        let printable : every isPrintable (content held) ≡ true = ap (every isPrintable) (sym (data-is e)) ∙ and-right (says frame (frameOf (x ∷ y ∷ []) (dataIn frame))) _ h in
-        let same : sameText (held ++ (symbol b ∷ [])) (frameOf (x ∷ y ∷ []) (content held)) ≡ true = sym (says-held (frameOf (x ∷ y ∷ []) (content held)) e) ∙ ap (λ (d : List ℕ). says frame (frameOf (x ∷ y ∷ []) d)) (sym (data-is e)) ∙ said in
+        let printable : every isPrintable (content held) ≡ true = ap (every isPrintable) (sym here) ∙ and-right (says frame (frameOf (x ∷ y ∷ []) (dataIn frame))) _ h in
+        let same : sameText (held ++ (symbol b ∷ [])) (frameOf (x ∷ y ∷ []) (content held)) ≡ true =
+        sym (says-held (frameOf (x ∷ y ∷ []) (content held)) e) ∙ ap (λ (d : List ℕ). says frame (frameOf (x ∷ y ∷ []) d)) (sym here) ∙ said in
         let two = apart x y (content held) same in
         rw e (ap₂ (λ (l : List ℕ) (n : ℕ). verdict mode l false n) (two .0) (two .1) ∙ verdict-is x y (content held) px py printable mode)
       where

@@ -7,4 +7,6 @@ pub mod Writes
 pub mod Framing
 pub mod Registers
 pub mod Told
+pub mod Rows
 pub mod Corollaries
+pub mod Exactly

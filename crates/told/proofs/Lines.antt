@@ -140,7 +140,8 @@ signed said b text t = rw (since-snoc 47 said b, t .is, says-live (since 47 said
     go : (p : Bool) → carries 47 b ≡ p → (r : List ℕ) → says (cond p (b ∷ []) (more r b)) ((t .first ∷ t .rest) ++ (10 ∷ [])) ≡ (carries 10 b && says r (t .first ∷ t .rest))
     go true e r =
         let other = carries-one 47 10 b (λ z. omega (arith, z)) e in
-        says-snoc [] b (t .first ∷ t .rest) 10 ∙ swap (says [] (t .first ∷ t .rest)) (carries 10 b) ∙ ap (λ (k : Bool). k && says [] (t .first ∷ t .rest)) other ∙ sym (ap (λ (k : Bool). k && says r (t .first ∷ t .rest)) other)
+        says-snoc [] b (t .first ∷ t .rest) 10 ∙ swap (says [] (t .first ∷ t .rest)) (carries 10 b)
+        ∙ ap (λ (k : Bool). k && says [] (t .first ∷ t .rest)) other ∙ sym (ap (λ (k : Bool). k && says r (t .first ∷ t .rest)) other)
     go false e [] = says-none (t .first ∷ t .rest) 10 ∙ sym (ap (λ (k : Bool). carries 10 b && k) (nothing (t .first) (t .rest)) ∙ and-false (carries 10 b))
     go false e (x ∷ r) = says-snoc (x ∷ r) b (t .first ∷ t .rest) 10 ∙ swap (says (x ∷ r) (t .first ∷ t .rest)) (carries 10 b)
 
@@ -205,7 +206,9 @@ module _ (said : List ℕ) (b : ℕ) where
       → signsOn facts (said ++ (b ∷ [])) ≡ (carries 10 b && (lineWhole && (signsOnBy lineHeld (facts .serial) || closesBy lineHeld)))
   unfolding signsOn signsOnBy
   signs-is facts good =
-      ap₂ _||_ (ap₂ _||_ (ap₂ _||_ (called signOn call-ended) (called (signOnTo (facts .serial)) (to-ended (facts .serial) good))) (called (signOnTo (replicate 10 48)) (to-ended (replicate 10 48) zeros))) closes-is
+      let ours = called (signOnTo (facts .serial)) (to-ended (facts .serial) good) in
+      let any = called (signOnTo (replicate 10 48)) (to-ended (replicate 10 48) zeros) in
+      ap₂ _||_ (ap₂ _||_ (ap₂ _||_ (called signOn call-ended) ours) any) closes-is
       ∙ all (carries 10 b) lineWhole (same signOn) (same (signOnTo (facts .serial))) (same (signOnTo (replicate 10 48))) (closesBy lineHeld)
     where
       same : List ℕ → Bool

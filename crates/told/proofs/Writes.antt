@@ -56,8 +56,10 @@ enclosed-text letter d h =
     let ends = eqb (getD d (length d - 1) 0) 41 in
     let rest = and-right long (opens && ends) h in
     let start = and-left opens ends rest in
-    parts d (leb-true 3 (length d) (and-left long (opens && ends) h))
-    ∙ rw (eqb-true (getD d 0 0) letter (and-left (eqb (getD d 0 0) letter) _ start), eqb-true (getD d 1 0) 40 (and-right (eqb (getD d 0 0) letter) _ start), eqb-true (getD d (length d - 1) 0) 41 (and-right opens ends rest))
+    let e0 = eqb-true (getD d 0 0) letter (and-left (eqb (getD d 0 0) letter) _ start) in
+    let e1 = eqb-true (getD d 1 0) 40 (and-right (eqb (getD d 0 0) letter) _ start) in
+    let last = eqb-true (getD d (length d - 1) 0) 41 (and-right opens ends rest) in
+    parts d (leb-true 3 (length d) (and-left long (opens && ends) h)) ∙ rw (e0, e1, last)
 
 -- ---- what the meter takes it for
 
@@ -107,7 +109,8 @@ inside-is letter x = inner-is letter x
 pub clock-written : (c : Clock) → realClock c ≡ true → writeOf (setClock c) ≡ clock c ∷ []
 unfolding writeOf tells goodWrite writeData
 clock-written c good =
-    let back : clockRead (inside (setClock c)) .clock ≡ c = unfold setClock in (ap (λ (s : List ℕ). clockRead s .clock) (inside-is 84 (clockText c)) ∙ ap (λ (r : ClockRead). r .clock) (clock-reads-back c good)) in
+    let back : clockRead (inside (setClock c)) .clock ≡ c = unfold setClock in (
+    ap (λ (s : List ℕ). clockRead s .clock) (inside-is 84 (clockText c)) ∙ ap (λ (r : ClockRead). r .clock) (clock-reads-back c good)) in
     rw (back, good, same-self (setClock c))
 
 pub account-written : (a : List ℕ) → goodAccount a ≡ true → writeOf (setAccount a) ≡ account a ∷ []

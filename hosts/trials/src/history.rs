@@ -266,3 +266,70 @@ fn clock_in(text: &[u8]) -> Option<Clock> {
         second: two(17)?,
     })
 }
+
+#[cfg(test)]
+mod tests {
+    use super::*;
+
+    const ROW: [u8; 24] = [b'1'; 24];
+
+    fn told(parts: &[&[u8]], between: &[Event]) -> Vec<Write> {
+        let fresh = Meter {
+            password: *b"20304050",
+            ..Meter::blank()
+        };
+        let mut history = History::new(fresh, Mistake::None);
+        for (place, part) in parts.iter().enumerate() {
+            for &byte in *part {
+                history.event(Event::Character { byte, room: ROOM });
+            }
+            if let Some(&event) = between.get(place) {
+                history.event(event);
+            }
+        }
+        history.told
+    }
+
+    fn opening(entry: &[u8]) -> Vec<u8> {
+        let line = [b"/?!\r\n", &confirmation_at(b'5', b'1')[..]].concat();
+        wires(&[line, password(entry)].concat())
+    }
+
+    fn account() -> Vec<u8> {
+        wires(&write(b"K(somebody__)"))
+    }
+
+    #[test]
+    fn a_write_is_told_in_programming_mode_alone() {
+        let write = Write::Account(*b"somebody__");
+        assert_eq!(told(&[&opening(b"(20304050)"), &account()], &[]), [write]);
+        assert_eq!(told(&[&opening(b"()"), &account()], &[]), []);
+        assert_eq!(told(&[&account()], &[]), []);
+    }
+
+    #[test]
+    fn a_bcc_that_is_soh_starts_nothing() {
+        let row = wires(&write(&table_data(6, &ROW)));
+        assert_eq!(row.last(), Some(&0x81));
+        let (open, account) = (opening(b"(20304050)"), account());
+        let both = [Write::Row(6, ROW), Write::Account(*b"somebody__")];
+        assert_eq!(told(&[&open, &row, &account], &[]), both);
+        assert_eq!(told(&[&open, &row, &account[1..]], &[]), both[..1]);
+    }
+
+    #[test]
+    fn silence_and_power_up_cut_a_frame_and_a_second_does_not() {
+        let (open, account) = (opening(b"(20304050)"), account());
+        let cut = |event| {
+            told(
+                &[&open, &account[..12], &account[12..]],
+                &[Event::Tick, event],
+            )
+        };
+        assert_eq!(cut(Event::Silence { room: ROOM }), []);
+        assert_eq!(cut(Event::PowerUp), []);
+        let whole = [Write::Account(*b"somebody__")];
+        assert_eq!(cut(Event::Tick), whole);
+        assert_eq!(cut(Event::Silence { room: ROOM - 1 }), whole);
+    }
+}

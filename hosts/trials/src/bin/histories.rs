@@ -314,7 +314,7 @@ impl Play {
                 _ => chance.pick(&NEARLY_CLOSING).to_vec(),
             },
             1 => confirmation_at(chance.one_of(b"00555554"), chance.one_of(b"1111111067")),
-            2 => match chance.weighed(&[4, 12, 5, 2, 1]) {
+            2 => match chance.weighed(&[3, 8, 9, 2, 1]) {
                 0 => password(b"()"),
                 1 => password(&bracketed(&word)),
                 2 => password(&bracketed(&wrong_password(chance, &word))),
