@@ -14,17 +14,19 @@ returns c = answers-14 (c .before .before .before .args .m) (c .before .before .
 returns-2 : tie.Need-returns-2
 returns-2 c = answers-41 (c .before .before .before .before .args .m) (c .before .before .before .before .args .out .now) (sym (c .before .before .is-well-formed .ensures) ∙ not-false _ (c .before .if1 .left)) (c .if2 .taken)
 
-put-card-requires : tie.Need-put-card-requires
-put-card-requires c κs = let c6 = c .before .before .before .before .before .before in let c7 = c6 .before in let c8 = c7 .before in let c10 = c8 .before .before in let l = long (c10 .args .m) (sym (c8 .is-well-formed .ensures) ∙ not-false _ (c7 .if1 .left)) in
-    (l .account, omega arith, omega (arith, l .tables), c6 .if2 .left)
+put-own-requires : tie.Need-put-own-requires
+put-own-requires c κs =
+    let left = c .before .before .before .before in
+    let asked = left .before .before in
+    let l = long (asked .before .before .args .m) (sym (asked .is-well-formed .ensures) ∙ not-false _ (left .before .if1 .left)) in
+    (l .account, omega arith, omega (arith, l .tables), left .if2 .left)
 
 returns-3 : tie.Need-returns-3
 returns-3 c =
-    let c9 = c .before .before .before .before .before .before .before .before .before in
-    let c10 = c9 .before in
-    let c11 = c10 .before in
-    let c13 = c11 .before .before in
-    answers-1 (c13 .args .m) (c13 .args .out .now) _ (sym (c11 .is-well-formed .ensures) ∙ not-false _ (c10 .if1 .left)) (c9 .if2 .left) (c .before .before .put-card .ensures)
+    let left = c .before .before .before .before .before .before .before in
+    let asked = left .before .before in
+    let start = asked .before .before in
+    answers-1 (start .args .m) (start .args .out .now) _ (sym (asked .is-well-formed .ensures) ∙ not-false _ (left .before .if1 .left)) (left .if2 .left) (c .before .before .put-own .ensures)
 
 pub write-spec : {M : Type 1} → statement M
-write-spec = tie.close (tie.spec (λ c κs. search needs) returns returns-2 (λ c. search needs) (λ c. search needs) (λ c. search needs) put-card-requires (λ c. search needs) returns-3)
+write-spec = tie.close (tie.spec (λ c κs. search needs) returns returns-2 (λ c. search needs) put-own-requires (λ c. search needs) returns-3)

@@ -1,13 +1,18 @@
 //! The trial of posts: the proved library against the independent model, over its C boundary.
 //!
 //!     post [--selftest] [--seed NUMBER] [--texts NUMBER]
+//!     post --answers STEP [--seed NUMBER] [--texts NUMBER]
+//!
+//! With `--answers` nothing is compared: every STEPth text goes to standard output with the model's
+//! answers, for a trial elsewhere.
 
+mod answers;
 mod compare;
 mod fixed;
 mod texts;
 mod wrong;
 
-use compare::{Comparison, Exporter, Tally};
+use compare::{Comparison, Exporter, Tally, Text};
 use std::cell::{Cell, RefCell};
 use std::ops::ControlFlow;
 use std::process::ExitCode;
@@ -57,6 +62,7 @@ impl Exporter for Library {
 /// What the command line asks for.
 struct Asked {
     selftest: bool,
+    answers: u64,
     seed: u64,
     texts: u64,
 }
@@ -64,6 +70,7 @@ struct Asked {
 fn asked() -> Result<Asked, String> {
     let mut asked = Asked {
         selftest: false,
+        answers: 0,
         seed: SEED,
         texts: TEXTS,
     };
@@ -75,6 +82,7 @@ fn asked() -> Result<Asked, String> {
         };
         match word.as_str() {
             "--selftest" => asked.selftest = true,
+            "--answers" => asked.answers = number()?,
             "--seed" => asked.seed = number()?,
             "--texts" => asked.texts = number()?,
             _ => return Err(format!("unknown: {word}")),
@@ -114,21 +122,21 @@ fn selftest(seed: u64) -> Result<(), String> {
     }
 }
 
-/// The fixed cases, the families and then chance, up to `texts` in all.
-fn trial(seed: u64, texts: u64) -> Result<(Tally, usize), String> {
-    let library = Library::new();
-    let cases = fixed::cases();
-    for case in &cases {
-        fixed::hold(case, &library)?;
-    }
-    let mut comparison = Comparison::new(&library);
+/// The families and then chance, up to `texts` in all: each text with its sizes of buffer.
+fn each_text(
+    seed: u64,
+    texts: u64,
+    mut each: impl FnMut(&Text, &[usize]) -> Result<(), String>,
+) -> Result<(), String> {
     let mut chance = Chance::new(seed);
+    let mut count = 0;
     let families = texts::families(|text, rooms| {
         let chosen = match rooms {
             Some(rooms) => rooms.to_vec(),
             None => texts::rooms(text.bytes(), &mut chance),
         };
-        match comparison.text(&text, &chosen) {
+        count += 1;
+        match each(&text, &chosen) {
             Ok(()) => ControlFlow::Continue(()),
             Err(difference) => ControlFlow::Break(difference),
         }
@@ -136,16 +144,35 @@ fn trial(seed: u64, texts: u64) -> Result<(Tally, usize), String> {
     if let ControlFlow::Break(difference) = families {
         return Err(difference);
     }
-    while comparison.tally.texts < texts {
+    while count < texts {
         let text = texts::any(&mut chance);
         let rooms = texts::rooms(text.bytes(), &mut chance);
-        comparison.text(&text, &rooms)?;
+        count += 1;
+        each(&text, &rooms)?;
     }
+    Ok(())
+}
+
+/// The fixed cases, and then every text.
+fn trial(seed: u64, texts: u64) -> Result<(Tally, usize), String> {
+    let library = Library::new();
+    let cases = fixed::cases();
+    for case in &cases {
+        fixed::hold(case, &library)?;
+    }
+    let mut comparison = Comparison::new(&library);
+    each_text(seed, texts, |text, rooms| comparison.text(text, rooms))?;
     Ok((comparison.tally, cases.len()))
 }
 
 fn run() -> Result<(), String> {
     let asked = asked()?;
+    if asked.answers > 0 {
+        let mut answers = answers::Answers::new(asked.answers);
+        return each_text(asked.seed, asked.texts, |text, rooms| {
+            answers.text(text.bytes(), rooms)
+        });
+    }
     println!("post: seed {}", asked.seed);
     selftest(asked.seed)?;
     println!(
