@@ -1,4 +1,4 @@
--- `commands::write_table` meets its contract: too short a buffer, a field outside its rule, or the command as it was made. Assumes nothing.
+-- `commands::write_table_of` meets its contract: too short a buffer, a field outside its rule, or the command as it was made. Assumes nothing.
 use mathlib.Core.Path.{sym, _∙_}
 use borrow.Author.Tests.{not-true, not-false}
 use borrow.Author.Needs.{needs}
@@ -7,8 +7,8 @@ use Rattle.values.proofs.Rules.{row-long}
 use Rattle.frames.specs.Commands.{setTable, bracketed}
 use Rattle.frames.specs.Frames.{frameOf, sealed}
 use Rattle.commands.proofs.Making.{too-short, built, field-refused}
-use Rattle.commands.proofs.write_table.Statement.{statement}
-use Rattle.commands.proofs.write_table.Tie as tie
+use Rattle.commands.proofs.write_table_of.Statement.{statement}
+use Rattle.commands.proofs.write_table_of.Tie as tie
 
 returns : tie.Need-returns
 returns c =
@@ -31,5 +31,5 @@ returns-3 c =
     let c10 = c9 .before in
     rw (← c4 .shown-table .ensures) (built _ _ _ _ _ (c10 .if1 .left) (rw (← c9 .is-table .ensures, ← c8 .is-row .ensures) (not-false _ (c7 .if2 .left))) (c .before .before .frame .ensures))
 
-pub write-table-spec : {M : Type 1} → statement M
-write-table-spec = tie.close (tie.spec (λ c κs. search needs) returns (λ c κs. search needs) (λ c κs. search needs) (λ c κs. search needs) returns-2 (λ c. search needs) shown-table-requires (λ c. search needs) (λ c κs. search needs) (λ c. search needs) returns-3)
+pub write-table-of-spec : {M : Type 1} → statement M
+write-table-of-spec = tie.close (tie.spec (λ c κs. search needs) returns (λ c κs. search needs) (λ c κs. search needs) (λ c κs. search needs) returns-2 (λ c. search needs) shown-table-requires (λ c. search needs) (λ c κs. search needs) (λ c. search needs) returns-3)
