@@ -85,10 +85,14 @@ struct dirgemist_archive {
     uint8_t count;
 };
 
-/* What a meter has for life: texts without an end mark. */
+/* What a meter has for life: texts without an end mark; the edition, 1; the link, 1 (optical); the
+ * decimals of its family, 0. */
 struct dirgemist_facts {
     uint8_t serial[10];
     uint8_t password[8];
+    uint8_t edition;
+    uint8_t link;
+    uint8_t decimals;
 };
 
 /* Texts without an end mark; the tables are 24 rows of 24 characters '1' to '4'. */
@@ -142,16 +146,17 @@ struct dirgemist_meter {
 #define DIRGEMIST_POWER_UP 4  /* power has come back; any value */
 
 /* Makes a new meter in *meter: the serial's ten digits, the account's ten letters, digits, spaces
- * or underscores, the password's eight digits, and the clock, a real date of 2000 to 2099 with a
- * time; counters and attempts 0, all tables '1', no closed period, listening, nothing received.
- * Returns 1. Bad facts, other lengths among them, give 15, and *meter is then the blank meter: zeros
- * for the serial and the password, ten spaces, 2000-01-01 00:00:00. What stood in *meter before does
- * not matter. */
+ * or underscores, the password's eight digits, the clock, a real date of 2000 to 2099 with a time,
+ * and the edition, the link and the decimals; counters and attempts 0, all tables '1', no closed
+ * period, listening, nothing received. Returns 1. An edition that there is none of gives 16, then
+ * such decimals 18, then any other bad fact, other lengths among them, 15; *meter is then the blank
+ * meter: zeros for the serial and the password, ten spaces, 2000-01-01 00:00:00, edition 1, link 1,
+ * decimals 0. What stood in *meter before does not matter. */
 uint8_t dirgemist_meter_make(struct dirgemist_meter *meter, const uint8_t *serial,
                              size_t serial_length, const uint8_t *account, size_t account_length,
                              const uint8_t *password, size_t password_length, uint16_t year,
                              uint8_t month, uint8_t day, uint8_t hour, uint8_t minute,
-                             uint8_t second);
+                             uint8_t second, uint8_t edition, uint8_t link, uint8_t decimals);
 
 /* Whether the record is well-formed: 1, or 14. It is only read. */
 uint8_t dirgemist_meter_check(const struct dirgemist_meter *meter);

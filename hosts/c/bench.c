@@ -164,7 +164,7 @@ static struct dirgemist_meter *other_place(void) {
 static uint8_t make(struct dirgemist_meter *at, const struct facts *f) {
     return dirgemist_meter_make(at, f->serial, sizeof f->serial, f->account, sizeof f->account,
                                 f->password, sizeof f->password, f->year, f->month, f->day,
-                                f->hour, f->minute, f->second);
+                                f->hour, f->minute, f->second, 1, 1, 0);
 }
 
 static bool play_new(const struct word *words, size_t count) {

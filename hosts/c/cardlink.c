@@ -76,7 +76,7 @@ static void try_text(const char *what, const void *text, size_t text_length, siz
 static void try_meter(void) {
     struct dirgemist_meter meter;
     dirgemist_meter_make(&meter, (const uint8_t *)"0123456789", 10, (const uint8_t *)"STUDIO_7  ", 10,
-                         (const uint8_t *)"00000000", 8, 2024, 2, 29, 12, 0, 0);
+                         (const uint8_t *)"00000000", 8, 2024, 2, 29, 12, 0, 0, 1, 1, 0);
     uint8_t card[DIRGEMIST_CARD_LONGEST];
     expect(card_of(card, TABLES) == sizeof card, "the longest card");
     for (size_t room = 0; room <= sizeof card + 2; room++) {

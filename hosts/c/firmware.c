@@ -19,25 +19,28 @@ _Static_assert(offsetof(struct dirgemist_receiver, mark) == 64, "mark's place");
 _Static_assert(offsetof(struct dirgemist_receiver, place) == 65, "place's place");
 _Static_assert(sizeof(struct dirgemist_counters) == 20, "counters");
 _Static_assert(offsetof(struct dirgemist_counters, total) == 16, "total's place");
-_Static_assert(sizeof(struct dirgemist_facts) == 18, "facts");
+_Static_assert(sizeof(struct dirgemist_facts) == 21, "facts");
 _Static_assert(offsetof(struct dirgemist_facts, password) == 10, "password's place");
+_Static_assert(offsetof(struct dirgemist_facts, edition) == 18, "edition's place");
+_Static_assert(offsetof(struct dirgemist_facts, link) == 19, "link's place");
+_Static_assert(offsetof(struct dirgemist_facts, decimals) == 20, "decimals' place");
 _Static_assert(offsetof(struct dirgemist_registers, facts) == 0, "facts' place");
-_Static_assert(offsetof(struct dirgemist_registers, account) == 18, "account's place");
-_Static_assert(offsetof(struct dirgemist_registers, clock) == 28, "clock's place");
-_Static_assert(offsetof(struct dirgemist_registers, counters) == 36, "counters' place");
-_Static_assert(offsetof(struct dirgemist_registers, tables) == 56, "tables' place");
+_Static_assert(offsetof(struct dirgemist_registers, account) == 21, "account's place");
+_Static_assert(offsetof(struct dirgemist_registers, clock) == 32, "clock's place");
+_Static_assert(offsetof(struct dirgemist_registers, counters) == 40, "counters' place");
+_Static_assert(offsetof(struct dirgemist_registers, tables) == 60, "tables' place");
 _Static_assert(sizeof(struct dirgemist_stamp) == 6, "stamp");
 _Static_assert(offsetof(struct dirgemist_stamp, hour) == 4, "hour's place");
 _Static_assert(sizeof(struct dirgemist_period) == 24, "period");
 _Static_assert(offsetof(struct dirgemist_period, zones) == 8, "a period's counters' place");
 _Static_assert(sizeof(struct dirgemist_archive) == 292, "archive");
 _Static_assert(offsetof(struct dirgemist_archive, count) == 288, "the number of periods' place");
-_Static_assert(offsetof(struct dirgemist_registers, archive) == 632, "archive's place");
-_Static_assert(sizeof(struct dirgemist_registers) == 924, "registers");
+_Static_assert(offsetof(struct dirgemist_registers, archive) == 636, "archive's place");
+_Static_assert(sizeof(struct dirgemist_registers) == 928, "registers");
 _Static_assert(offsetof(struct dirgemist_meter, speed) == 2, "speed's place");
 _Static_assert(offsetof(struct dirgemist_meter, receiver) == 3, "receiver's place");
 _Static_assert(offsetof(struct dirgemist_meter, registers) == 72, "registers' place");
-_Static_assert(sizeof(struct dirgemist_meter) == 996, "meter");
+_Static_assert(sizeof(struct dirgemist_meter) == 1000, "meter");
 
 #define ROOM DIRGEMIST_REPLY_ROOM
 
@@ -77,8 +80,8 @@ static int same_periods(const struct dirgemist_archive *a, const struct dirgemis
 /* Whether two records hold the same state; what lies between the fields is not looked at. */
 static int same(const struct dirgemist_meter *a, const struct dirgemist_meter *b) {
 #define SAME(field) (memcmp(&a->field, &b->field, sizeof a->field) == 0)
-    return SAME(mode) && SAME(attempts) && SAME(speed) && SAME(receiver) && SAME(registers.facts.serial)
-           && SAME(registers.account) && SAME(registers.facts.password) && SAME(registers.clock.date)
+    return SAME(mode) && SAME(attempts) && SAME(speed) && SAME(receiver) && SAME(registers.facts)
+           && SAME(registers.account) && SAME(registers.clock.date)
            && SAME(registers.clock.time) && SAME(registers.counters) && SAME(registers.tables)
            && same_periods(&a->registers.archive, &b->registers.archive);
 #undef SAME
@@ -143,7 +146,7 @@ static uint8_t make(struct dirgemist_meter *meter, const char *serial, const cha
                                lent(password, lengths[2])};
     memset(meter, 0x5A, sizeof *meter);
     uint8_t number = dirgemist_meter_make(meter, texts[0], lengths[0], texts[1], lengths[1], texts[2],
-                                          lengths[2], year, month, day, hour, minute, second);
+                                          lengths[2], year, month, day, hour, minute, second, 1, 1, 0);
     for (int i = 0; i < 3; i++) {
         give_back(texts[i], lengths[i]);
     }
@@ -157,6 +160,7 @@ static void makes(struct dirgemist_meter *meter) {
     memset(blank.registers.account, ' ', sizeof blank.registers.account);
     memset(blank.registers.facts.password, '0', sizeof blank.registers.facts.password);
     memset(blank.registers.tables, '1', sizeof blank.registers.tables);
+    blank.registers.facts.edition = blank.registers.facts.link = 1;
     blank.registers.clock.date = (struct dirgemist_date){2000, 1, 1};
 
     static const struct {
@@ -499,6 +503,7 @@ static int is_formed(const struct dirgemist_meter *meter) {
     return account && zones && periods && all_within(held->held, 63, 0, 127)
            && all_within(held->held + held->count, 63 - held->count, 0, 0)
            && all_within(have->facts.serial, 10, '0', '9') && all_within(have->facts.password, 8, '0', '9')
+           && have->facts.edition == 1 && have->facts.link == 1 && have->facts.decimals == 0
            && all_within(have->tables, sizeof have->tables, '1', '4') && date->year >= 2000
            && date->year <= 2099 && date->month >= 1 && date->month <= 12 && date->day >= 1
            && date->day <= days[date->month - 1] - (date->month == 2 && !leap) && time->hour <= 23

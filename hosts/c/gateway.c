@@ -160,7 +160,7 @@ int main(void) {
     memset(filled, 0x5A, sizeof filled);
     memset(meter, 0, sizeof *meter);
     expect(dirgemist_meter_make(meter, (const uint8_t *)"1234567890", 10, (const uint8_t *)"Kiln_7 old",
-                                10, (const uint8_t *)"20304050", 8, 2026, 11, 15, 12, 0, 0) == 1,
+                                10, (const uint8_t *)"20304050", 8, 2026, 11, 15, 12, 0, 0, 1, 1, 0) == 1,
            "a meter is made");
     session();
     both_ways();

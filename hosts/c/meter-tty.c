@@ -157,7 +157,7 @@ static void make(const struct facts *facts) {
         (const uint8_t *)facts->account, strlen(facts->account), (const uint8_t *)facts->password,
         strlen(facts->password), (uint16_t)(date.tm_year + 1900), (uint8_t)(date.tm_mon + 1),
         (uint8_t)date.tm_mday, (uint8_t)date.tm_hour, (uint8_t)date.tm_min,
-        (uint8_t)(date.tm_sec > 59 ? 59 : date.tm_sec));
+        (uint8_t)(date.tm_sec > 59 ? 59 : date.tm_sec), 1, 1, 0);
     if (number != 1) {
         fprintf(stderr,
                 "%s: no meter is made (%u): the serial has ten digits, the account ten letters, "

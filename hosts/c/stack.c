@@ -37,7 +37,7 @@ static void total(void) {
 }
 static void make(void) {
     dirgemist_meter_make(&meter, (const uint8_t *)"1234567890", 10, (const uint8_t *)"Kiln_7 old", 10,
-                         (const uint8_t *)"20304050", 8, 2024, 2, 29, 23, 59, 59);
+                         (const uint8_t *)"20304050", 8, 2024, 2, 29, 23, 59, 59, 1, 1, 0);
 }
 
 /* The bytes of the painted stack that a function wrote over. */

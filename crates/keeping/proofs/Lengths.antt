@@ -8,9 +8,9 @@ use lib.ListN.{length}
 use Rattle.clock.specs.Seconds.{realClock}
 use Rattle.clock.specs.declared.Clock.{Clock}
 use Rattle.values.specs.Registers.{goodDigits, goodSerial, goodAccount, goodPassword}
-use Rattle.state.specs.WellFormed.{factsGood, factoryGood}
-use Rattle.state.specs.Making.{factsOf, madeOf}
-use Rattle.keeping.specs.Making.{badMade}
+use Rattle.state.specs.declared.Facts.{Facts}
+use Rattle.state.specs.WellFormed.{editionGood, linkGood, decimalsGood, factsGood, factoryGood}
+use Rattle.state.specs.Making.{factsOf, notMade, madeOf}
 
 -- one of four that is false
 second-off : (p r : Bool) → (p && false) && r ≡ false
@@ -25,15 +25,21 @@ unsuited : (s : List ℕ) → eqb (length s) 8 ≡ false → goodPassword s ≡ 
 unfolding goodDigits
 unsuited s e = rw e
 
-module _ (serial account password : List ℕ) (clock : Clock) where
-  pub serial-long : eqb (length serial) 10 ≡ false → madeOf serial account password clock ≡ badMade
+module _ (serial account password : List ℕ) (clock : Clock) (edition link decimals : ℕ) where
+  abbrev life : Facts
+  life = factsOf serial password edition link decimals
+
+  abbrev numbers : Bool
+  numbers = editionGood edition && (linkGood link && decimalsGood decimals)
+
+  pub serial-long : eqb (length serial) 10 ≡ false → madeOf life account clock ≡ notMade edition decimals
   unfolding madeOf factoryGood factsGood goodDigits
   serial-long e = rw e
 
-  pub account-long : eqb (length account) 10 ≡ false → madeOf serial account password clock ≡ badMade
+  pub account-long : eqb (length account) 10 ≡ false → madeOf life account clock ≡ notMade edition decimals
   unfolding madeOf factoryGood goodAccount
-  account-long e = rw (e, third-off (factsGood (factsOf serial password)))
+  account-long e = rw (e, third-off (factsGood life))
 
-  pub password-long : eqb (length password) 8 ≡ false → madeOf serial account password clock ≡ badMade
+  pub password-long : eqb (length password) 8 ≡ false → madeOf life account clock ≡ notMade edition decimals
   unfolding madeOf factoryGood factsGood
-  password-long e = rw (unsuited password e, second-off (goodSerial serial) (goodAccount account && realClock clock))
+  password-long e = rw (unsuited password e, second-off (goodSerial serial) numbers)

@@ -1,7 +1,7 @@
 // A meter's record as a host keeps it: made new, tested when it comes back from flash, its total for a display. Apart from `firmware`,
 // so that there the test of the state has one caller and is compiled into it.
 ghost use mathlib.Core.Path.{_≡_};
-ghost use Rattle.state.specs.Making.{madeOf};
+ghost use Rattle.state.specs.Making.{factsOf, madeOf};
 ghost use Rattle.keeping.specs.Making.{clockOf};
 ghost use Rattle.keeping.specs.Shown.{checkedAs, shownAs};
 use state::Meter;
@@ -27,9 +27,12 @@ pub extern "C" fn dirgemist_meter_make(
     hour: u8,
     minute: u8,
     second: u8,
+    edition: u8,
+    link: u8,
+    decimals: u8,
 ) -> u8
-    ensures { λ r. ⌜ (r ≡ madeOf (now (serial .entry)) (now (account .entry)) (now (password .entry)) (clockOf year month day hour minute second) .number)
-        × (now (m .exit) ≡ madeOf (now (serial .entry)) (now (account .entry)) (now (password .entry)) (clockOf year month day hour minute second) .meter) ⌝ }
+    ensures { λ r. ⌜ (r ≡ madeOf (factsOf (now (serial .entry)) (now (password .entry)) edition link decimals) (now (account .entry)) (clockOf year month day hour minute second) .number)
+        × (now (m .exit) ≡ madeOf (factsOf (now (serial .entry)) (now (password .entry)) edition link decimals) (now (account .entry)) (clockOf year month day hour minute second) .meter) ⌝ }
 {
     let a = making::make(
         serial,
@@ -41,6 +44,9 @@ pub extern "C" fn dirgemist_meter_make(
         hour,
         minute,
         second,
+        edition,
+        link,
+        decimals,
     );
     *m = making::meter_of(a);
     making::number_of(a)

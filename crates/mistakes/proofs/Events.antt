@@ -21,8 +21,8 @@ use Rattle.frames.specs.Frames.{closed, frameOf, bareFrame}
 use Rattle.frames.specs.Commands.{bracketed, setTable}
 use Rattle.frames.specs.Session.{closingSignOn, signOn, confirmation, speedSaid}
 use Rattle.state.specs.declared.Meter.{Meter}
-use Rattle.state.specs.WellFormed.{limit, firstGood, heldGood, markGood, receiverGood, below, zonesGood, sumOf, total, tablesGood, noTime, unused, periodGood, everyPeriod, archiveGood, factsGood, factoryGood, registersGood, wellFormed, speedGood, hurtGood}
-use Rattle.state.specs.Making.{madeOf}
+use Rattle.state.specs.WellFormed.{limit, firstGood, heldGood, markGood, receiverGood, below, zonesGood, sumOf, total, tablesGood, noTime, unused, periodGood, everyPeriod, archiveGood, editionGood, linkGood, decimalsGood, factsGood, factoryGood, registersGood, wellFormed, speedGood, hurtGood}
+use Rattle.state.specs.Making.{factsRefused, madeOf}
 use Rattle.state.specs.Setting.{counterOf}
 use Rattle.receiving.specs.Hearing.{hearing, listening, confirming, framing}
 use Rattle.deciding.specs.Shape.{startGood, bareShape, content, framedShape}
@@ -58,7 +58,7 @@ kindOf PowerUp = 4
 kindOf Unknown = 5
 
 pub events : Receiving × Passing × Happening × Settling × Lent × Kept
-unfolding ones damagedAt seven sent bccOf every stored holding between isDigit isLetter isPrintable matching sameText decimal valueFrom valueOf numberAt layoutText pattern agrees fits leap thirty daysIn realDate realTime realClock goodDigits isAccountCharacter goodAccount goodRow goodTable tableText tableRead closed frameOf bracketed setTable signOn limit firstGood heldGood markGood hurtGood receiverGood tablesGood factsGood registersGood wellFormed hearing listening confirming framing startGood bareShape content framedShape enclosed inner tableTold toldBy entry bareVerdict framedVerdict shapeVerdict verdict fallen tried acted signsOnBy symbol lineEnded confirmed heard taken character serial account password twos newMeter heldIn told toldAll toldMet shortPassword shortTried signedOn restarted hurt hurtLast hurtAnew daysBefore dayNumber weekday nextSecond tableFor zoneIn counted afterSilence silence tick pulse powerUp heardAs heardBy heardOf settles eventOf met refusal happened madeOf checkedAs shownAs kindOf below zonesGood sumOf total factoryGood confirms wantsBlock wantsProgram confirmation speedSaid bareFrame speedGood slowConfirmed oddConfirmed slowEntered fastLeft noTime unused periodGood everyPeriod archiveGood closesBy closingSignOn wantsPeriods monthStarts monthClosed
+unfolding ones damagedAt seven sent bccOf every stored holding between isDigit isLetter isPrintable matching sameText decimal valueFrom valueOf numberAt layoutText pattern agrees fits leap thirty daysIn realDate realTime realClock goodDigits isAccountCharacter goodAccount goodRow goodTable tableText tableRead closed frameOf bracketed setTable signOn limit firstGood heldGood markGood hurtGood receiverGood tablesGood editionGood linkGood decimalsGood factsGood registersGood wellFormed hearing listening confirming framing startGood bareShape content framedShape enclosed inner tableTold toldBy entry bareVerdict framedVerdict shapeVerdict verdict fallen tried acted signsOnBy symbol lineEnded confirmed heard taken character serial account password twos newMeter heldIn told toldAll toldMet shortPassword shortTried signedOn restarted hurt hurtLast hurtAnew daysBefore dayNumber weekday nextSecond tableFor zoneIn counted afterSilence silence tick pulse powerUp heardAs heardBy heardOf settles eventOf met refusal happened factsRefused madeOf checkedAs shownAs kindOf below zonesGood sumOf total factoryGood confirms wantsBlock wantsProgram confirmation speedSaid bareFrame speedGood slowConfirmed oddConfirmed slowEntered fastLeft noTime unused periodGood everyPeriod archiveGood closesBy closingSignOn wantsPeriods monthStarts monthClosed
 events = (
   record {
     receive = (seen (λ (a : Answer). a .number) refl, seen (λ (a : Answer). getD (a .next .registers .tables) 144 0) refl);

@@ -18,8 +18,8 @@ use Rattle.frames.specs.Frames.{closed, sealed, frameOf, bareFrame, blockOf}
 use Rattle.frames.specs.Commands.{bracketed}
 use Rattle.state.specs.declared.Meter.{Meter}
 use Rattle.state.specs.declared.Made.{Made}
-use Rattle.state.specs.WellFormed.{limit, firstGood, heldGood, markGood, receiverGood, below, zonesGood, sumOf, total, tablesGood, noTime, unused, periodGood, everyPeriod, archiveGood, factsGood, factoryGood, registersGood, wellFormed, speedGood, hurtGood}
-use Rattle.state.specs.Making.{madeOf}
+use Rattle.state.specs.WellFormed.{limit, firstGood, heldGood, markGood, receiverGood, below, zonesGood, sumOf, total, tablesGood, noTime, unused, periodGood, everyPeriod, archiveGood, editionGood, linkGood, decimalsGood, factsGood, factoryGood, registersGood, wellFormed, speedGood, hurtGood}
+use Rattle.state.specs.Making.{factsRefused, madeOf}
 use Rattle.state.specs.Closing.{periodsOf, closedWith}
 use Rattle.datasets.specs.Sets.{dataSet, linesOf}
 use Rattle.replies.specs.Shown.{energy, rowOf}
@@ -38,7 +38,7 @@ frames = record { seal = (byte 4 refl, byte 5 refl); send = (byte 1 refl, byte 0
 
 -- the states, and that a new meter in programming mode is well-formed
 computed : States × (wellFormed (inMode newMeter 4) ≡ true)
-unfolding every between isDigit isLetter decimal leap thirty daysIn realDate realTime realClock goodDigits isAccountCharacter goodAccount limit firstGood heldGood markGood hurtGood receiverGood below zonesGood sumOf total tablesGood factsGood factoryGood registersGood wellFormed madeOf serial account password newMeter heldIn stored speedGood realStamp noTime unused periodGood everyPeriod archiveGood
+unfolding every between isDigit isLetter decimal leap thirty daysIn realDate realTime realClock goodDigits isAccountCharacter goodAccount limit firstGood heldGood markGood hurtGood receiverGood below zonesGood sumOf total tablesGood editionGood linkGood decimalsGood factsGood factoryGood registersGood wellFormed factsRefused madeOf serial account password newMeter heldIn stored speedGood realStamp noTime unused periodGood everyPeriod archiveGood
 computed = (
   record {
     «limit_of» = (number refl, number refl);

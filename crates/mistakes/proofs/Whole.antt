@@ -20,7 +20,7 @@ use Rattle.frames.specs.Frames.{closed, frameOf, bareFrame}
 use Rattle.frames.specs.Commands.{bracketed, setTable}
 use Rattle.frames.specs.Session.{signOn, confirmation, speedSaid}
 use Rattle.state.specs.declared.Meter.{Meter}
-use Rattle.state.specs.WellFormed.{limit, firstGood, heldGood, markGood, hurtGood, receiverGood, below, zonesGood, sumOf, total, tablesGood, factsGood, factoryGood, registersGood, wellFormed, speedGood, noTime, unused, periodGood, everyPeriod, archiveGood}
+use Rattle.state.specs.WellFormed.{limit, firstGood, heldGood, markGood, hurtGood, receiverGood, below, zonesGood, sumOf, total, tablesGood, editionGood, linkGood, decimalsGood, factsGood, factoryGood, registersGood, wellFormed, speedGood, noTime, unused, periodGood, everyPeriod, archiveGood}
 use Rattle.receiving.specs.Hearing.{hearing, listening, confirming, framing}
 use Rattle.deciding.specs.Shape.{startGood, bareShape, content, framedShape}
 use Rattle.deciding.specs.Telling.{enclosed, inner, tableTold, told as toldBy}
@@ -36,7 +36,7 @@ use Rattle.mistakes.specs.Whole.{awaiting, slice, heldSlice, Whole}
 use Rattle.mistakes.proofs.Differing.{seen}
 
 pub frames : Whole
-unfolding ones damagedAt seven sent bccOf every stored holding between isDigit isLetter isPrintable matching sameText decimal valueFrom valueOf numberAt layoutText pattern agrees fits leap thirty daysIn realDate realTime realClock goodDigits isAccountCharacter goodAccount goodRow goodTable tableText tableRead closed bracketed signOn limit firstGood heldGood markGood hurtGood receiverGood tablesGood factsGood registersGood wellFormed hearing listening confirming framing startGood bareShape content framedShape enclosed inner tableTold toldBy entry bareVerdict framedVerdict shapeVerdict verdict fallen tried acted signsOnBy symbol lineEnded confirmed heard taken character serial account password newMeter heldIn below zonesGood sumOf total factoryGood confirms wantsBlock wantsProgram confirmation speedSaid speedGood ends finishesAt atTheLast awaits frameTaken frameAt awaiting slice heldSlice noTime unused periodGood everyPeriod archiveGood
+unfolding ones damagedAt seven sent bccOf every stored holding between isDigit isLetter isPrintable matching sameText decimal valueFrom valueOf numberAt layoutText pattern agrees fits leap thirty daysIn realDate realTime realClock goodDigits isAccountCharacter goodAccount goodRow goodTable tableText tableRead closed bracketed signOn limit firstGood heldGood markGood hurtGood receiverGood tablesGood editionGood linkGood decimalsGood factsGood registersGood wellFormed hearing listening confirming framing startGood bareShape content framedShape enclosed inner tableTold toldBy entry bareVerdict framedVerdict shapeVerdict verdict fallen tried acted signsOnBy symbol lineEnded confirmed heard taken character serial account password newMeter heldIn below zonesGood sumOf total factoryGood confirms wantsBlock wantsProgram confirmation speedSaid speedGood ends finishesAt atTheLast awaits frameTaken frameAt awaiting slice heldSlice noTime unused periodGood everyPeriod archiveGood
 frames =
     record {
       «receive_frame» = (seen (λ (a : Answer). a .number) refl, seen (λ (a : Answer). a .number) refl);

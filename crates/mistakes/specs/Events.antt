@@ -12,7 +12,7 @@ use Rattle.state.specs.Sizes.{replyRoom}
 use Rattle.state.specs.declared.Meter.{Meter}
 use Rattle.replies.specs.Fixed.{accepted, refused, identification, passwordAsk}
 use Rattle.receiving.specs.Receivers.{keptReceiver, restartedReceiver}
-use Rattle.state.specs.Making.{emptyReceiver, noCounters, madeOf}
+use Rattle.state.specs.Making.{emptyReceiver, noCounters, factsOf, madeOf}
 use Rattle.state.specs.Setting.{withHeld, withMark, withReceiver, inMode, withAttempts, withRegisters, withClock, withCounters, withZones, withTotal, withSpeed}
 use Rattle.meter.specs.Outcomes.{Outcome, answerOf, atPlace, silent, unheard, saying, nak, ack}
 use Rattle.meter.specs.Character.{symbol, character}
@@ -183,8 +183,8 @@ pub record Lent : Type 0 where
 -- of `keeping`
 pub record Kept : Type 0 where
   -- a serial of nine digits taken; the account of bad facts kept
-  pub «dirgemist_meter_make» : RuledOut (madeOf (take 9 serial) account password (clockAt 2000 1 1 12 0 0) .number) 1
-      × RuledOut (madeOf serial account (take 7 password) (clockAt 2000 1 1 12 0 0) .meter .registers .account) account
+  pub «dirgemist_meter_make» : RuledOut (madeOf (factsOf (take 9 serial) password 1 1 0) account (clockAt 2000 1 1 12 0 0) .number) 1
+      × RuledOut (madeOf (factsOf serial (take 7 password) 1 1 0) account (clockAt 2000 1 1 12 0 0) .meter .registers .account) account
   -- a speed of 5 passed in mode 0; a new one refused
   pub «dirgemist_meter_check» : RuledOut (checkedAs (withSpeed newMeter 5)) 1 × RuledOut (checkedAs newMeter) 14
   -- the total of a malformed state shown; none shown of a good one

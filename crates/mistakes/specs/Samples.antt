@@ -41,7 +41,7 @@ unfoldable pub twos : List ℕ
 twos = replicate rowLength 50
 
 unfoldable pub newMeter : Meter
-newMeter = meterOf (factsOf serial password) account noon
+newMeter = meterOf (factsOf serial password 1 1 0) account noon
 
 -- 1, 2, 4 and 8 Wh, and table 8 all '2'
 unfoldable pub used : Registers

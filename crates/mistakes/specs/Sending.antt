@@ -54,8 +54,8 @@ pub record States : Type 0 where
   pub blank : RuledOut blankMeter (withAttempts blankMeter 1)
       × RuledOut blankMeter (withRegisters blankMeter (withAccount (blankMeter .registers) (replicate 10 48)))
   -- a serial of letters taken; 15 with a state of the bad facts
-  pub make : RuledOut (madeOf account account password noon) (record { number = 1; meter = meterOf (factsOf account password) account noon })
-      × RuledOut (madeOf account account password noon) (record { number = 15; meter = meterOf (factsOf account password) account noon })
+  pub make : RuledOut (madeOf (factsOf account password 1 1 0) account noon) (record { number = 1; meter = meterOf (factsOf account password 1 1 0) account noon })
+      × RuledOut (madeOf (factsOf account password 1 1 0) account noon) (record { number = 15; meter = meterOf (factsOf account password 1 1 0) account noon })
 
 -- of `datasets`
 pub record Sets : Type 0 where

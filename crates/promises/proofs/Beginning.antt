@@ -14,7 +14,7 @@ use Rattle.values.specs.Registers.{goodDigits, isAccountCharacter, goodAccount}
 use Rattle.state.specs.declared.Facts.{Facts}
 use Rattle.state.specs.declared.Meter.{Meter}
 use Rattle.state.specs.declared.Made.{Made}
-use Rattle.state.specs.WellFormed.{below, zonesGood, sumOf, total, tablesGood, noTime, unused, everyPeriod, archiveGood, factsGood, factoryGood, registersGood, wellFormed, speedGood}
+use Rattle.state.specs.WellFormed.{below, zonesGood, sumOf, total, tablesGood, noTime, unused, everyPeriod, archiveGood, editionGood, linkGood, decimalsGood, factsGood, factoryGood, registersGood, wellFormed, speedGood}
 use Rattle.state.specs.Making.{factsOf, meterOf, blankMeter, madeOf}
 use Rattle.state.proofs.Parts.{well-formed}
 use Rattle.promises.proofs.Choices as choice
@@ -31,16 +31,16 @@ new-well-formed facts account clock h =
     well-formed (meterOf facts account clock)
     (record { mode = omega arith; attempts = omega arith; speed = unfold speedGood in refl; receiver = empty-good 0; registers = new-registers facts account clock h })
 
-blank-facts : factoryGood (factsOf (replicate 10 48) (replicate 8 48)) (replicate 10 32) (record { date = dateOf 2000 1 1; time = timeOf 0 0 0 }) ≡ true
-unfolding factoryGood factsGood goodDigits goodAccount isAccountCharacter isDigit isLetter every between realClock realDate realTime daysIn leap thirty
+blank-facts : factoryGood (factsOf (replicate 10 48) (replicate 8 48) 1 1 0) (replicate 10 32) (record { date = dateOf 2000 1 1; time = timeOf 0 0 0 }) ≡ true
+unfolding factoryGood factsGood editionGood linkGood decimalsGood goodDigits goodAccount isAccountCharacter isDigit isLetter every between realClock realDate realTime daysIn leap thirty
 blank-facts = refl
 
 pub blank-well-formed : wellFormed blankMeter ≡ true
 blank-well-formed = new-well-formed _ _ _ blank-facts
 
 -- whether the facts are good or not
-pub made-well-formed : (serial account password : List ℕ) (clock : Clock) → wellFormed (madeOf serial account password clock .meter) ≡ true
+pub made-well-formed : (facts : Facts) (account : List ℕ) (clock : Clock) → wellFormed (madeOf facts account clock .meter) ≡ true
 unfolding madeOf
-made-well-formed serial account password clock =
-    choice.given (λ (r : Made). wellFormed (r .meter) ≡ true) (factoryGood (factsOf serial password) account clock)
-    (new-well-formed (factsOf serial password) account clock) blank-well-formed
+made-well-formed facts account clock =
+    choice.given (λ (r : Made). wellFormed (r .meter) ≡ true) (factoryGood facts account clock)
+    (new-well-formed facts account clock) blank-well-formed

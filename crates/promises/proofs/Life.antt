@@ -8,6 +8,7 @@ use Rattle.clock.specs.declared.Clock.{Clock}
 use Rattle.state.specs.declared.Meter.{Meter}
 use Rattle.state.specs.declared.Made.{Made}
 use Rattle.state.specs.WellFormed.{wellFormed}
+use Rattle.state.specs.declared.Facts.{Facts}
 use Rattle.state.specs.Making.{madeOf}
 use Rattle.meter.specs.Outcomes.{Outcome}
 use Rattle.meter.specs.declared.Event.{Event}
@@ -40,9 +41,9 @@ unfolding lived
 lived-stays m [] h = h
 lived-stays m ((room, e) ∷ es) h = lived-stays (met m room e .next) es (met-stays m room e h)
 
-module _ (serial account password : List ℕ) (clock : Clock) (es : List (ℕ × Event)) where
-  pub made-lives : wellFormed (lived (madeOf serial account password clock .meter) es) ≡ true
-  made-lives = lived-stays (madeOf serial account password clock .meter) es (made-well-formed serial account password clock)
+module _ (facts : Facts) (account : List ℕ) (clock : Clock) (es : List (ℕ × Event)) where
+  pub made-lives : wellFormed (lived (madeOf facts account clock .meter) es) ≡ true
+  made-lives = lived-stays (madeOf facts account clock .meter) es (made-well-formed facts account clock)
 
-  pub made-never-14 : (room : ℕ) (e : Event) → met (lived (madeOf serial account password clock .meter) es) room e .number ≡ 14 → ⊥
-  made-never-14 room e = met-never-14 (lived (madeOf serial account password clock .meter) es) room e made-lives
+  pub made-never-14 : (room : ℕ) (e : Event) → met (lived (madeOf facts account clock .meter) es) room e .number ≡ 14 → ⊥
+  made-never-14 room e = met-never-14 (lived (madeOf facts account clock .meter) es) room e made-lives

@@ -20,7 +20,7 @@ use Rattle.state.specs.declared.Archive.{Archive}
 use Rattle.state.specs.declared.Registers.{Registers}
 use Rattle.state.specs.declared.Meter.{Meter}
 use Rattle.state.specs.Sizes.{heldPlaces, rowLength, tables, counterEnd}
-use Rattle.state.specs.WellFormed.{limit, firstGood, markGood, heldGood, receiverGood, below, zonesGood, total, countersGood, tablesGood, archiveGood, factsGood, factoryGood, registersGood, wellFormed, speedGood, hurtGood}
+use Rattle.state.specs.WellFormed.{limit, firstGood, markGood, heldGood, receiverGood, below, zonesGood, total, countersGood, tablesGood, archiveGood, editionGood, linkGood, decimalsGood, factsGood, factoryGood, registersGood, wellFormed, speedGood, hurtGood}
 use Rattle.state.specs.Setting.{zonePlace, counterOf, speedIn}
 
 -- what is asked only after two tests have passed, and what has failed before it
@@ -113,13 +113,27 @@ registers-good g f = rw (f .facts, f .account, f .clock, f .counters, f .tables,
 pub record FormedFacts (f : Facts) : Type 0 where
   pub serial : goodSerial (f .serial) ≡ true
   pub password : goodPassword (f .password) ≡ true
+  pub edition : editionGood (f .edition) ≡ true
+  pub link : linkGood (f .link) ≡ true
+  pub decimals : decimalsGood (f .decimals) ≡ true
 
 pub formed-facts : (f : Facts) → factsGood f ≡ true → FormedFacts f
 unfolding factsGood
 formed-facts f h =
     let s = goodSerial (f .serial) in
     let p = goodPassword (f .password) in
-    record { serial = and-left s p h; password = and-right s p h }
+    let e = editionGood (f .edition) in
+    let l = linkGood (f .link) in
+    let d = decimalsGood (f .decimals) in
+    let texts = and-left (s && p) (e && (l && d)) h in
+    let numbers = and-right (s && p) (e && (l && d)) h in
+    record {
+      serial = and-left s p texts;
+      password = and-right s p texts;
+      edition = and-left e (l && d) numbers;
+      link = and-left l d (and-right e (l && d) numbers);
+      decimals = and-right l d (and-right e (l && d) numbers);
+    }
 
 pub record FormedReceiver (mode : ℕ) (r : Receiver) : Type 0 where
   pub count : r .count ≤ limit mode

@@ -14,7 +14,7 @@ use Rattle.state.specs.declared.Registers.{Registers}
 use Rattle.state.specs.declared.Meter.{Meter}
 use Rattle.state.specs.declared.Made.{Made}
 use Rattle.state.specs.Sizes.{heldPlaces, rowLength, tables, periodPlaces}
-use Rattle.state.specs.WellFormed.{factoryGood}
+use Rattle.state.specs.WellFormed.{editionGood, decimalsGood, factoryGood}
 
 abbrev pub emptyReceiver : Receiver
 emptyReceiver = record { held = replicate heldPlaces 0; count = 0; mark = 0; place = 0 }
@@ -29,8 +29,8 @@ noPeriod = record { closed = record { date = dateOf 0 0 0; hour = 0; minute = 0 
 abbrev pub emptyArchive : Archive
 emptyArchive = record { periods = replicate periodPlaces noPeriod; count = 0 }
 
-abbrev pub factsOf : List ℕ → List ℕ → Facts
-factsOf serial password = record { serial = serial; password = password }
+abbrev pub factsOf : List ℕ → List ℕ → ℕ → ℕ → ℕ → Facts
+factsOf serial password edition link decimals = record { serial = serial; password = password; edition = edition; link = link; decimals = decimals }
 
 -- counters 0, attempts 0, all tables '1', no closed period, mode 0, speed 0, empty receiver
 abbrev pub meterOf : Facts → List ℕ → Clock → Meter
@@ -51,13 +51,20 @@ meterOf facts account clock =
           };
     }
 
--- zeros, ten spaces and 2000-01-01 00:00:00
+-- zeros, ten spaces and 2000-01-01 00:00:00; edition 1, link 1, document 01's family
 abbrev pub blankMeter : Meter
-blankMeter = meterOf (factsOf (replicate 10 48) (replicate 8 48)) (replicate 10 32) (record { date = dateOf 2000 1 1; time = timeOf 0 0 0 })
+blankMeter = meterOf (factsOf (replicate 10 48) (replicate 8 48) 1 1 0) (replicate 10 32) (record { date = dateOf 2000 1 1; time = timeOf 0 0 0 })
 
--- bad facts give 15 and the blank state
-unfoldable pub madeOf : List ℕ → List ℕ → List ℕ → Clock → Made
-madeOf serial account password clock =
-    cond (factoryGood (factsOf serial password) account clock)
-    (record { number = 1; meter = meterOf (factsOf serial password) account clock })
-    (record { number = 15; meter = blankMeter })
+-- 16 for an edition, then 18 for decimals that no meter has, else 15
+unfoldable pub factsRefused : ℕ → ℕ → ℕ
+factsRefused edition decimals = cond (editionGood edition) (cond (decimalsGood decimals) 15 18) 16
+
+abbrev pub notMade : ℕ → ℕ → Made
+notMade edition decimals = record { number = factsRefused edition decimals; meter = blankMeter }
+
+-- bad facts give their number and the blank state
+unfoldable pub madeOf : Facts → List ℕ → Clock → Made
+madeOf facts account clock =
+    cond (factoryGood facts account clock)
+    (record { number = 1; meter = meterOf facts account clock })
+    (notMade (facts .edition) (facts .decimals))

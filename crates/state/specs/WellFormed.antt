@@ -104,9 +104,22 @@ archiveGood a =
     (leb (a .count) periodPlaces && eqb (length (a .periods)) periodPlaces)
     && (everyPeriod periodGood (take (a .count) (a .periods)) && everyPeriod unused (drop (a .count) (a .periods)))
 
--- what a meter has for life: serial and password
+-- an edition that there is
+unfoldable pub editionGood : ℕ → Bool
+editionGood edition = eqb edition 1
+
+-- a link that there is: 1, the optical one
+unfoldable pub linkGood : ℕ → Bool
+linkGood link = eqb link 1
+
+-- the decimals of a family that there is: 0 names document 01's
+unfoldable pub decimalsGood : ℕ → Bool
+decimalsGood decimals = eqb decimals 0
+
+-- what a meter has for life: serial, password, edition, link and decimals
 unfoldable pub factsGood : Facts → Bool
-factsGood f = goodSerial (f .serial) && goodPassword (f .password)
+factsGood f =
+    (goodSerial (f .serial) && goodPassword (f .password)) && (editionGood (f .edition) && (linkGood (f .link) && decimalsGood (f .decimals)))
 
 -- what a meter is made from: these, account and clock
 unfoldable pub factoryGood : Facts → List ℕ → Clock → Bool

@@ -4,8 +4,8 @@ ghost use Prim.Native.Nat.{_≤_, _<_};
 ghost use lib.ListN.{length};
 ghost use Rattle.line.specs.Runs.{every};
 ghost use Rattle.state.specs.Sizes.{tables, heldPlaces};
-ghost use Rattle.state.specs.WellFormed.{limit, firstGood, heldGood, receiverGood, below, zonesBelow, zonesGood, total, countersGood, tablesGood, factsGood, factoryGood, registersGood, wellFormed, speedGood, hurtGood};
-ghost use Rattle.state.specs.Making.{factsOf, meterOf, blankMeter, madeOf};
+ghost use Rattle.state.specs.WellFormed.{limit, firstGood, heldGood, receiverGood, below, zonesBelow, zonesGood, total, countersGood, tablesGood, editionGood, linkGood, decimalsGood, factsGood, factoryGood, registersGood, wellFormed, speedGood, hurtGood};
+ghost use Rattle.state.specs.Making.{meterOf, blankMeter, factsRefused, notMade, madeOf};
 use clock::Clock;
 use clock::Date;
 use clock::Stamp;
@@ -40,11 +40,14 @@ pub struct Receiver {
     pub place: u8,
 }
 
-// What a meter has for life.
+// What a meter has for life. Decimals of 0 name document 01's family.
 #[repr(C)]
 pub struct Facts {
     pub serial: [u8; 10],
     pub password: [u8; 8],
+    pub edition: u8,
+    pub link: u8,
+    pub decimals: u8,
 }
 
 // The zones' counters in Wh, and their sum modulo 1,000,000,000.
@@ -89,7 +92,7 @@ pub struct Meter {
     pub registers: Registers,
 }
 
-// A meter that was made, with 1, or the blank one, with 15.
+// A meter that was made, with 1, or the blank one, with 15, 16 or 18.
 pub struct Made {
     pub number: u8,
     pub meter: Meter,
@@ -215,13 +218,32 @@ fn tables_good(s: &[u8]) -> bool
     (s.len() == ALL_ROWS) & text::all_between(s, 49, 52)
 }
 
+fn edition_good(edition: u8) -> bool
+    ensures { λ r. ⌜ r ≡ editionGood edition ⌝ }
+{
+    edition == 1
+}
+
+fn link_good(link: u8) -> bool
+    ensures { λ r. ⌜ r ≡ linkGood link ⌝ }
+{
+    link == 1
+}
+
+fn decimals_good(decimals: u8) -> bool
+    ensures { λ r. ⌜ r ≡ decimalsGood decimals ⌝ }
+{
+    decimals == 0
+}
+
 // Whether what a meter has for life is good.
 fn facts_good(f: Facts) -> bool
     ensures { λ r. ⌜ r ≡ factsGood f ⌝ }
 {
     let serial = f.serial;
     let password = f.password;
-    values::is_digits(&serial, 10) & values::is_digits(&password, 8)
+    (values::is_digits(&serial, 10) & values::is_digits(&password, 8))
+        & (edition_good(f.edition) & (link_good(f.link) & decimals_good(f.decimals)))
 }
 
 // Whether the facts that a meter is made from are good.
@@ -287,7 +309,7 @@ fn meter_of(facts: Facts, account: [u8; 10], clock: Clock) -> Meter
     }
 }
 
-// The blank meter: zeros, ten spaces and 2000-01-01 00:00:00.
+// The blank meter: zeros, ten spaces and 2000-01-01 00:00:00; edition 1, link 1, document 01's family.
 pub fn blank() -> Meter
     ensures { λ r. ⌜ r ≡ blankMeter ⌝ }
 {
@@ -306,23 +328,45 @@ pub fn blank() -> Meter
     let facts = Facts {
         serial: [b'0'; 10],
         password: [b'0'; 8],
+        edition: 1,
+        link: 1,
+        decimals: 0,
     };
     meter_of(facts, [b' '; 10], clock)
 }
 
-// A new meter from the factory's facts; bad facts give 15 and the blank one.
-pub fn make(serial: [u8; 10], account: [u8; 10], password: [u8; 8], clock: Clock) -> Made
-    ensures { λ r. ⌜ r ≡ madeOf serial account password clock ⌝ }
+// Which number bad facts give.
+fn facts_refused(edition: u8, decimals: u8) -> u8
+    ensures { λ r. ⌜ r ≡ factsRefused edition decimals ⌝ }
 {
-    let facts = Facts { serial, password };
+    if edition_good(edition) {
+        if decimals_good(decimals) {
+            return 15;
+        }
+        return 18;
+    }
+    16
+}
+
+// Of bad facts comes the blank meter.
+pub fn not_made(edition: u8, decimals: u8) -> Made
+    ensures { λ r. ⌜ r ≡ notMade edition decimals ⌝ }
+{
+    Made {
+        number: facts_refused(edition, decimals),
+        meter: blank(),
+    }
+}
+
+// A new meter from the factory's facts.
+pub fn make(facts: Facts, account: [u8; 10], clock: Clock) -> Made
+    ensures { λ r. ⌜ r ≡ madeOf facts account clock ⌝ }
+{
     if factory_good(facts, &account, clock) {
         return Made {
             number: 1,
             meter: meter_of(facts, account, clock),
         };
     }
-    Made {
-        number: 15,
-        meter: blank(),
-    }
+    not_made(facts.edition, facts.decimals)
 }

@@ -2,9 +2,9 @@
 //! event.
 //!
 //! ```
-//! use dirgemist::meter::{Clock, Date, Event, Meter, Time, REPLY_ROOM};
+//! use dirgemist::meter::{Clock, Date, Event, Kind, Meter, Time, REPLY_ROOM};
 //! let clock = Clock { date: Date { year: 2024, month: 2, day: 29 }, time: Time { hour: 23, minute: 5, second: 9 } };
-//! let (number, mut meter) = Meter::make(b"1234567890", b"Kiln_7 old", b"20304050", clock);
+//! let (number, mut meter) = Meter::make(b"1234567890", b"Kiln_7 old", b"20304050", clock, Kind::default());
 //! assert_eq!((number, meter.check()), (1, 1));
 //! let mut reply = [0; REPLY_ROOM];
 //! for byte in [0xAF, 0x3F, 0x21, 0x8D] {
@@ -65,6 +65,26 @@ pub struct Receiver {
 pub struct Facts {
     pub serial: [u8; 10],
     pub password: [u8; 8],
+    pub kind: Kind,
+}
+
+/// Which meter it is: edition, link, and the decimals of its family, 0 for document 01's.
+#[repr(C)]
+#[derive(Clone, Copy, Debug, PartialEq, Eq)]
+pub struct Kind {
+    pub edition: u8,
+    pub link: u8,
+    pub decimals: u8,
+}
+
+impl Default for Kind {
+    fn default() -> Kind {
+        Kind {
+            edition: 1,
+            link: 1,
+            decimals: 0,
+        }
+    }
 }
 
 /// The zones' counters in Wh, and their sum modulo 1,000,000,000.
@@ -126,9 +146,9 @@ pub struct Meter {
 }
 
 // The layout is C's; hosts/c/firmware.c holds the header to the same figures.
-const _: () = assert!(size_of::<Receiver>() == 66 && size_of::<Registers>() == 924);
+const _: () = assert!(size_of::<Receiver>() == 66 && size_of::<Registers>() == 928);
 const _: () = assert!(size_of::<Period>() == 24 && size_of::<Archive>() == 292);
-const _: () = assert!(size_of::<Meter>() == 996);
+const _: () = assert!(size_of::<Meter>() == 1000);
 
 /// What can happen to a meter.
 #[derive(Clone, Copy, Debug, PartialEq, Eq)]
@@ -198,6 +218,9 @@ extern "C" {
         hour: u8,
         minute: u8,
         second: u8,
+        edition: u8,
+        link: u8,
+        decimals: u8,
     ) -> u8;
     fn dirgemist_meter_check(meter: *const Meter) -> u8;
     fn dirgemist_meter_total(meter: *const Meter, total: *mut u32) -> u8;
@@ -218,8 +241,15 @@ extern "C" {
 }
 
 impl Meter {
-    /// A new meter with 1, or the blank one with 15 where a field lies outside its rule.
-    pub fn make(serial: &[u8], account: &[u8], password: &[u8], clock: Clock) -> (u8, Meter) {
+    /// A new meter with 1, or the blank one: with 16 for an edition that there is none of, then 18
+    /// for such decimals, then 15 where another field lies outside its rule.
+    pub fn make(
+        serial: &[u8],
+        account: &[u8],
+        password: &[u8],
+        clock: Clock,
+        kind: Kind,
+    ) -> (u8, Meter) {
         let mut meter = MaybeUninit::uninit();
         // SAFETY: the pointers and lengths are those of live borrows, and the record's is its own.
         let number = unsafe {
@@ -237,6 +267,9 @@ impl Meter {
                 clock.time.hour,
                 clock.time.minute,
                 clock.time.second,
+                kind.edition,
+                kind.link,
+                kind.decimals,
             )
         };
         // SAFETY: the call writes the whole record, whatever it answers.

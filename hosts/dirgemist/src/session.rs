@@ -2,10 +2,10 @@
 //! keeps, and the work, lent with every call.
 //!
 //! ```
-//! use dirgemist::meter::{Clock, Date, Event, Meter, Time, REPLY_ROOM};
+//! use dirgemist::meter::{Clock, Date, Event, Kind, Meter, Time, REPLY_ROOM};
 //! use dirgemist::session::{Told, DONE, GOES_ON, MESSAGE_ROOM, OVER};
 //! let clock = Clock { date: Date { year: 2024, month: 2, day: 29 }, time: Time { hour: 23, minute: 5, second: 9 } };
-//! let (_, mut meter) = Meter::make(b"1234567890", b"Kiln_7 old", b"20304050", clock);
+//! let (_, mut meter) = Meter::make(b"1234567890", b"Kiln_7 old", b"20304050", clock, Kind::default());
 //! let told = Told::post(b"131.0.07(123412341234123412341234)\r\n!\r\n").to(b"1234567890").with(b"20304050");
 //! let (mut message, mut reply) = ([0; MESSAGE_ROOM], [0; REPLY_ROOM]);
 //! let (started, mut session) = told.start(&mut message);

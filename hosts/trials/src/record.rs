@@ -1,7 +1,7 @@
 //! The model's meter as the record that the library takes.
 
 use dirgemist::meter::{
-    Archive, Clock, Counters, Date, Facts, Meter, Period, Receiver, Registers, Stamp, Time,
+    Archive, Clock, Counters, Date, Facts, Kind, Meter, Period, Receiver, Registers, Stamp, Time,
 };
 
 pub fn clock_of(clock: &model::meter::Clock) -> Clock {
@@ -49,6 +49,7 @@ pub fn record_of(meter: &model::meter::Meter) -> Meter {
             facts: Facts {
                 serial: meter.serial,
                 password: meter.password,
+                kind: Kind::default(),
             },
             account: meter.account,
             clock: clock_of(&meter.clock),

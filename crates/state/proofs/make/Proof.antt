@@ -10,7 +10,7 @@ returns c = rw (← c .before .before .factory-good .ensures, c .before .if1 .ta
 
 returns-2 : tie.Need-returns-2
 unfolding madeOf
-returns-2 c = rw (← c .before .before .factory-good .ensures, c .before .if1 .left, c .blank .ensures)
+returns-2 c = rw (← c .before .before .factory-good .ensures, c .before .if1 .left, c .not-made .ensures)
 
 pub make-spec : {M : Type 1} → statement M
 make-spec = tie.close (tie.spec (λ c. search needs) (λ c κs. search needs) (λ c κs. search needs) returns (λ c κs. search needs) returns-2)

@@ -30,6 +30,7 @@ impl Firmware for Proved {
             account.copy(&facts.account),
             password.copy(&facts.password),
             clock_of(&facts.clock),
+            library::Kind::default(),
         );
         self.record = record;
         number
