@@ -44,7 +44,7 @@ returns-3 c =
     let c8 = c7 .before in
     let c10 = c8 .before .before in
     let c13 = c10 .before .before .before in
-    (rw (ne-eqb _ _ (c13 .if1 .left), ← c10 .first .ensures .1, ← c8 .signs-on .ensures, c7 .if2 .left, ← c6 .closes .ensures, c5 .if3 .taken, c .before .before .sign-on2 .ensures .0, c4 .close-period .ensures), rw (ne-eqb _ _ (c13 .if1 .left), ← c10 .first .ensures .1, ← c8 .signs-on .ensures, c7 .if2 .left, ← c6 .closes .ensures, c5 .if3 .taken) (c .before .before .sign-on2 .ensures .1))
+    (rw (ne-eqb _ _ (c13 .if1 .left), ← c10 .first .ensures .1, ← c8 .signs-on .ensures, c7 .if2 .left, ← c6 .closes .ensures, c5 .if3 .taken, c .before .before .sign-on2 .ensures .0, c4 .close-period .ensures), rw (ne-eqb _ _ (c13 .if1 .left), ← c10 .first .ensures .1, ← c8 .signs-on .ensures, c7 .if2 .left, ← c6 .closes .ensures, c5 .if3 .taken) (rw (c4 .close-period .ensures) at (c .before .before .sign-on2 .ensures .1)))
 
 returns-4 : tie.Need-returns-4
 unfolding lineEnded holding
