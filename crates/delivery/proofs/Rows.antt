@@ -24,7 +24,7 @@ use Rattle.post.proofs.Reading.{rising-number, rising-rest, rising-table, risin
 use Rattle.delivery.specs.Acknowledged.{rowsAfter}
 
 -- what is put in before a place, and what is put in behind a part, leaves it
-stored-before : (s : List ℕ) (at : ℕ) (xs : List ℕ) (b : ℕ) → at + length xs ≤ b → drop b (stored s at xs) ≡ drop b s
+pub stored-before : (s : List ℕ) (at : ℕ) (xs : List ℕ) (b : ℕ) → at + length xs ≤ b → drop b (stored s at xs) ≡ drop b s
 unfolding stored
 stored-before s at [] b h = refl
 stored-before s at (x ∷ xs) b h = stored-before (set s at x) (at + 1) xs b (omega arith) ∙ drop-set-lt b s at x (omega arith)

@@ -79,3 +79,10 @@ pulse-quiet m wh = quiet m (isEdition (editionOf m)) (ltb 1000000 wh) (wellForme
 pub power-up-quiet : (m : Meter) → powerUp m .reply ≡ []
 unfolding powerUp
 power-up-quiet m = quiet m (isEdition (editionOf m)) false (wellFormed m) 0 (afterPowerUp m .next)
+
+pub unknown-quiet : (m : Meter) → ofEdition m (unheard 99 m) .reply ≡ []
+unknown-quiet m = go (isEdition (editionOf m))
+  where
+    go : (e : Bool) → cond e (unheard 99 m) (unheard 16 m) .reply ≡ []
+    go true = refl
+    go false = refl

@@ -7,8 +7,8 @@ use Rattle.export.proofs.export.Tie as tie
 
 returns : tie.Need-returns
 returns c =
-    let of = c .before .before .before .before in
-    record { none = λ e. absurd (is-one _ _ (of .before .before .is-edition .ensures) (of .before .if1 .taken) e); some = λ _. (rw (← of .tables-of .ensures .0) (c .before .before .export-of .ensures)) }
+    let of = c .before .before .before in
+    record { none = λ e. absurd (is-one _ _ (of .before .before .before .is-edition .ensures) (of .before .before .if1 .taken) e); some = λ _. (rw (← of .tables-of .ensures .0) (c .before .before .export-of .ensures)) }
 
 returns-2 : tie.Need-returns-2
 returns-2 c = record { none = λ _. (refl, refl, refl, refl); some = λ e. absurd (is-none _ _ (c .before .is-edition .ensures) (c .if1 .left) e) }

@@ -19,7 +19,7 @@ returns c =
 
 returns-2 : tie.Need-returns-2
 unfolding holding
-returns-2 c = let c4 = c .before .before .before .before in let c5 = c4 .before in let of = c5 .before .before in let start = of .before .before in
+returns-2 c = let c4 = c .before .before .before .before in let c5 = c4 .before in let of = c5 .before .before .before in let start = of .before .before .before in
     let a = start .before .before .before .before .before .args in
     let whole = whole-frame (a .m) (a .c) (a .damaged) (start .if1 .left) in
     let chosen = c4 .decide .ensures in

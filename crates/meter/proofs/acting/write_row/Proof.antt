@@ -10,7 +10,7 @@ use Rattle.meter.proofs.acting.write_row.Tie as tie
 
 take-row-requires : tie.Need-take-row-requires
 take-row-requires c κs =
-    let start = c .before .before .before .before in
+    let start = c .before .before .before .before .before .before in
     let edition = start .args .m .registers .facts .edition in
     let good = rw (c .before .before .tables-of .ensures .0) at (sym (c .before .is-table .ensures) ∙ c .if1 .taken) in
     (start .pre .0, (table-low (tablesOf edition) (start .args .t .0) good, table-high edition (start .args .t .0) good))

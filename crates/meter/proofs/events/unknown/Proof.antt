@@ -7,11 +7,11 @@ use Rattle.meter.proofs.events.unknown.Tie as tie
 
 returns : tie.Need-returns
 unfolding met
-returns c = rw (← c .before .before .has-edition .ensures, not-true _ (c .before .if1 .taken), c .unheard-with .ensures)
+returns c = rw (← c .before .before .has-edition .ensures, not-true (c .before .before .has-edition .result) (c .before .if1 .taken), c .unheard-with .ensures)
 
 returns-2 : tie.Need-returns-2
 unfolding met
-returns-2 c = rw (← c .before .before .has-edition .ensures, not-false _ (c .before .if1 .left), c .unheard-with2 .ensures)
+returns-2 c = rw (← c .before .before .has-edition .ensures, not-false (c .before .before .has-edition .result) (c .before .if1 .left), c .unheard-with2 .ensures)
 
 pub unknown-spec : {M : Type 1} → statement M
 unknown-spec = tie.close (tie.spec (λ c κs. search needs) (λ c κs. search needs) returns (λ c κs. search needs) returns-2)

@@ -8,14 +8,14 @@ use Rattle.meter.proofs.lines.read_out_long.Tie as tie
 
 long-block-requires : tie.Need-long-block-requires
 long-block-requires c κs =
-    let start = c .before .before .before .before in
+    let start = c .before .before .before .before .before in
     (rw (c .tables-of .ensures .0) (lengths (start .args .m) (start .pre .0)), start .pre .1)
 
 returns : tie.Need-returns
 returns c =
     let sent = c .before .before .before .long-block .ensures in
     let of = c .before .before .before .before .tables-of .ensures .0 in
-    let start = c .before .before .before .before .before .before .before .before in
+    let start = c .before .before .before .before .before .before .before .before .before in
     let g = start .args .m .registers in
     (rw (c .in-mode .ensures, sent .0, of, long-block-long (tablesIn g) g (lengths (start .args .m) (start .pre .0))), rw of at (sent .1))
 

@@ -9,13 +9,13 @@ use Rattle.meter.proofs.passing.take_pulse.Tie as tie
 
 returns : tie.Need-returns
 unfolding pulse
-returns c = rw (← c .before .before .has-edition .ensures, not-true _ (c .before .if1 .taken), c .unheard-with .ensures)
+returns c = rw (← c .before .before .has-edition .ensures, not-true (c .before .before .has-edition .result) (c .before .if1 .taken), c .unheard-with .ensures)
 
 returns-2 : tie.Need-returns-2
 unfolding pulse
 returns-2 c =
     let known = c .before .before in
-    rw (← known .before .has-edition .ensures, not-false _ (known .if1 .left), lt-ltb _ _ (c .before .if2 .taken), c .unheard-with2 .ensures)
+    rw (← known .before .has-edition .ensures, not-false (known .before .has-edition .result) (known .if1 .left), lt-ltb _ _ (c .before .if2 .taken), c .unheard-with2 .ensures)
 
 pulse-requires : tie.Need-pulse-requires
 pulse-requires c κs = (sym (c .before .is-well-formed .ensures) ∙ c .if3 .taken, omega arith)
@@ -26,7 +26,7 @@ returns-3 c =
     let formed = c .before .before in
     let small = formed .before in
     let known = small .before in
-    rw (← known .before .has-edition .ensures, not-false _ (known .if1 .left), le-ltb _ _ (small .if2 .left), ← formed .is-well-formed .ensures, c .before .if3 .taken, c .pulse .ensures)
+    rw (← known .before .has-edition .ensures, not-false (known .before .has-edition .result) (known .if1 .left), le-ltb _ _ (small .if2 .left), ← formed .is-well-formed .ensures, c .before .if3 .taken, c .pulse .ensures)
 
 returns-4 : tie.Need-returns-4
 unfolding pulse
@@ -34,7 +34,7 @@ returns-4 c =
     let formed = c .before .before in
     let small = formed .before in
     let known = small .before in
-    rw (← known .before .has-edition .ensures, not-false _ (known .if1 .left), le-ltb _ _ (small .if2 .left), ← formed .is-well-formed .ensures, c .before .if3 .left, c .unheard-with3 .ensures)
+    rw (← known .before .has-edition .ensures, not-false (known .before .has-edition .result) (known .if1 .left), le-ltb _ _ (small .if2 .left), ← formed .is-well-formed .ensures, c .before .if3 .left, c .unheard-with3 .ensures)
 
 pub take-pulse-spec : {M : Type 1} → statement M
 take-pulse-spec = tie.close (tie.spec (λ c κs. search needs) (λ c κs. search needs) returns (λ c κs. search needs) returns-2 (λ c κs. search needs) pulse-requires returns-3 (λ c κs. search needs) returns-4)
