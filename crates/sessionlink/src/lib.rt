@@ -90,6 +90,7 @@ fn hear_nothing(s: Session, fact: &mut u8, message: &mut u8) -> Left
 #[no_mangle]
 pub extern "C" fn dirgemist_session_start(
     session: &mut Session,
+    edition: u8,
     named: u8,
     serial: &[u8],
     access: u8,
@@ -103,6 +104,7 @@ pub extern "C" fn dirgemist_session_start(
     ensures { λ r. ⌜ Starts (toldOf edition named (now (serial .entry)) access (now (password .entry)) kind) (now (work .entry)) (now (out .entry)) (record { number = r; place = now (place .exit); length = now (size .exit); session = now (session .exit) }) (now (out .exit)) ⌝ }
 {
     let a = start(
+        edition,
         named,
         serial,
         access,
