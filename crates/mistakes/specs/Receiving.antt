@@ -93,8 +93,9 @@ pub record Closing : Type 0 where
 
 -- of `tariff`
 pub record Tariff : Type 0 where
-  -- a working day's table on a Saturday; a Saturday's on a Monday
+  -- edition 2: December's Saturday by table 24; a Sunday by table 25
   pub table-for-kilns : RuledOut (tableFor 2 (dateOf 2000 12 2)) 24 × RuledOut (tableFor 2 (dateOf 2000 1 2)) 25
+  -- a working day's table on a Saturday; a Saturday's on a Monday
   pub «table_for» : RuledOut (tableFor 1 (dateOf 2000 1 1)) 1 × RuledOut (tableFor 1 (dateOf 2000 1 3)) 13
   -- the zone of the hour before; the character for its number
   pub «zone_in» : RuledOut (zoneIn (withTables used (stored (newMeter .registers .tables) 300 (chars "2")))) 1

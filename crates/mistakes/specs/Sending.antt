@@ -86,7 +86,7 @@ pub record Sets : Type 0 where
 
 -- of `replies`
 pub record Replies : Type 0 where
-  -- no parity; no CR LF
+  -- no parity; edition 1's for edition 2
   pub identify : RuledOut (holding (replicate 19 0) (onWire (identification 1))) (identification 1)
       × RuledOut (holding (replicate 19 0) (onWire (identification 2))) (holding (replicate 19 0) (onWire (identification 1)))
   -- NAK; odd parity
