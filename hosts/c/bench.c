@@ -105,6 +105,7 @@ static const struct field state[] = {
     STATE(BYTES, "TABLES", registers.tables),
     STATE(NUMBER, "SPEED", speed),
     STATE(NUMBER, "PLACE", receiver.place),
+    STATE(NUMBER, "EDITION", registers.facts.edition),
     STATE(NUMBER, "TOTAL", registers.counters.total),
     STATE(NUMBER, "PERIODS", registers.archive.count),
     PERIOD(0),
@@ -128,6 +129,7 @@ struct facts {
     uint8_t serial[10], account[10], password[8];
     uint16_t year;
     uint8_t month, day, hour, minute, second;
+    uint8_t edition;
 };
 
 #define FACT(kind, name, member) FIELD(kind, struct facts, name, member)
@@ -143,10 +145,11 @@ static const struct field facts[] = {
     FACT(NUMBER, "HOUR", hour),
     FACT(NUMBER, "MINUTE", minute),
     FACT(NUMBER, "SECOND", second),
+    FACT(NUMBER, "EDITION", edition),
 };
 
 static struct facts usual(void) {
-    struct facts blank = {.year = 2000, .month = 1, .day = 1};
+    struct facts blank = {.year = 2000, .month = 1, .day = 1, .edition = 1};
     memset(blank.serial, '0', sizeof blank.serial);
     memset(blank.account, ' ', sizeof blank.account);
     memset(blank.password, '0', sizeof blank.password);
@@ -164,7 +167,7 @@ static struct dirgemist_meter *other_place(void) {
 static uint8_t make(struct dirgemist_meter *at, const struct facts *f) {
     return dirgemist_meter_make(at, f->serial, sizeof f->serial, f->account, sizeof f->account,
                                 f->password, sizeof f->password, f->year, f->month, f->day,
-                                f->hour, f->minute, f->second, 1, 1, 0);
+                                f->hour, f->minute, f->second, f->edition, 1, 0);
 }
 
 static bool play_new(const struct word *words, size_t count) {
