@@ -3,7 +3,7 @@
 use mathlib.Core.Path.{_≡_, refl, sym, ap, ap₂, subst, _∙_}
 use mathlib.Core.Bool.{true}
 use mathlib.Core.List.{List, [], _∷_, map}
-use Prim.Native.Nat.{ℕ, _*_, _≤_}
+use Prim.Native.Nat.{ℕ, _*_, _≤_, _<_}
 use native.Mathlib.Omega.{arith}
 use borrow.Author.Tests.{leb-true}
 use lib.Dec.{leb}
@@ -31,8 +31,9 @@ use Rattle.dialogue.specs.Feeding.{Said, answered, left}
 use Rattle.dialogue.proofs.Feeding.{Fed, fed-in}
 use Rattle.dialogue.proofs.Held.{Fit, idle, idle-is, fit-is}
 use Rattle.delivery.specs.Acknowledged.{acknowledgedOnce, deliveredTo}
+use Rattle.delivery.specs.Other.{answeredOnce, takenOf}
 use Rattle.delivery.specs.Delivery.{Ready, Delivered}
-use Rattle.delivery.proofs.Frames.{frames-fed}
+use Rattle.delivery.proofs.Frames.{frames-fed, others-fed}
 use Rattle.delivery.proofs.Rows.{others-kept, named-held}
 
 module _ (m : Meter) (r : Ready m) where
@@ -67,6 +68,18 @@ module _ (m : Meter) (r : Ready m) where
       let f = fed-in m rooms (framesOf es) (acknowledgedOnce (m .speed) es) (deliveredTo m es) room (entries-fed es h) in
       subst (λ (s : List Said). Delivered m es s (left m rooms (framesOf es))) (sym (f .0))
       (subst (λ (x : Meter). Delivered m es (acknowledgedOnce (m .speed) es) x) (sym (f .1)) (entries-delivered es h))
+
+  -- [3]: a post for meters of another edition: each line of a table that this meter has is acknowledged and taken, each other one is refused with 9,
+  -- and nothing else changes
+  pub other-edition : (tables : ℕ) → tables < 100 → (text : List ℕ) (p : IsPost tables text) (rooms : ℕ → ℕ) → ((i : ℕ) → replyRoom ≤ rooms i)
+      → (answered m rooms (framesOf (p .entries)) ≡ answeredOnce (tablesIn (m .registers)) (m .speed) (p .entries))
+      × (left m rooms (framesOf (p .entries)) ≡ deliveredTo m (takenOf (tablesIn (m .registers)) (p .entries)))
+  other-edition tables few text p rooms room =
+      let es = p .entries in
+      let own = tablesIn (m .registers) in
+      fed-in m rooms (framesOf es) (answeredOnce own (m .speed) es) (deliveredTo m (takenOf own es)) room
+      (subst (λ (x : Meter). Fed x (framesOf es) (answeredOnce own (m .speed) es) (deliveredTo x (takenOf own es))) (sym ready-is)
+      (others-fed tables few (m .attempts) (m .speed) (m .registers) 0 es fit-four (good-rising tables es (p .good))))
 
 length-frames : (tables above : ℕ) (es : List Entry) → rising tables above es ≡ true → length (framesOf es) ≡ 36 * length es
 unfolding framesOf entryFrame
