@@ -24,7 +24,7 @@ use Rattle.values.proofs.Rules.{digits-long, account-long, row-long, zone-most}
 use Rattle.frames.specs.Frames.{frameOf, onWire}
 use Rattle.frames.specs.Commands.{P1, R1, bracketed, setAccount, setTable}
 use Rattle.frames.specs.Session.{passwordData}
-use Rattle.state.specs.Sizes.{tables, rowLength}
+use Rattle.state.specs.Sizes.{rowLength}
 use Rattle.state.specs.declared.Registers.{Registers}
 use Rattle.state.specs.WellFormed.{tablesIn}
 use Rattle.state.specs.Setting.{withAccount, withTables, withRow}

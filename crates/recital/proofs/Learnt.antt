@@ -4,7 +4,6 @@ use mathlib.Core.Bool.{true}
 use Rattle.values.specs.declared.Energy.the-variants.{Total}
 use Rattle.values.specs.Registers.{energyNo, zoneEnergy}
 use Rattle.frames.specs.Frames.{blockOf}
-use Rattle.state.specs.Sizes.{tables}
 use Rattle.state.specs.declared.Meter.{Meter}
 use Rattle.state.specs.WellFormed.{wellFormed, tablesIn}
 use Rattle.replies.specs.declared.Ask.{Ask}

@@ -8,7 +8,6 @@ use Rattle.line.specs.Quoted.{char}
 use Rattle.values.specs.Registers.{goodTable, goodZone}
 use Rattle.frames.specs.Frames.{blockOf}
 use Rattle.frames.specs.Session.{goodSpeed}
-use Rattle.state.specs.Sizes.{tables}
 use Rattle.state.specs.declared.Meter.{Meter}
 use Rattle.state.specs.Setting.{counterOf}
 use Rattle.state.specs.WellFormed.{total, tablesIn}
