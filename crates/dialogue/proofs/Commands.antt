@@ -161,7 +161,7 @@ command-fed mode a s g c fit h k =
 -- [3]: a write of a table that the meter has not is refused with 9, and nothing else comes of it
 pub other-fed : (a s : ℕ) (g : Registers) (n : ℕ) (row : List ℕ) → Fit 4 a s g → 1 ≤ n → n < 100 → goodTable (tablesIn g) n ≡ false → goodRow row ≡ true
     → Fed (idle 4 a s g) (onWire (spoken (writeTable n row))) (atLast (suc (suc (length (bodyOf (writeTable n row))))) s (saidIn (nak 9 (idle 4 a s g)))) (idle 4 a s g)
-unfolding spoken frameOf acted fallen goodFields goodTable between lettersOf
+unfolding spoken frameOf acted fallen goodFields goodTable between lettersOf dataOf setTable
 other-fed a s g n row fit low small none good =
     let c = writeTable n row in
     let fields : goodFields 99 c ≡ true = rw (le-leb 1 n low, le-leb n 99 (omega arith)) good in
