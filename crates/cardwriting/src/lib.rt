@@ -5,6 +5,7 @@ ghost use lib.ListN.{length};
 ghost use Rattle.text.specs.Writing.{stored};
 ghost use Rattle.card.specs.Grammar.{tableField, tableFields, cardText};
 ghost use Rattle.cardwriting.specs.Writing.{entryAt, entriesFrom, writtenIn, writtenTo};
+use state::ALL_ROWS;
 use state::Meter;
 use values::ROW_LENGTH;
 
@@ -48,6 +49,14 @@ fn put_card(out: &mut [u8], account: &[u8], rows: &[u8], tables: usize)
     put_fields(out, rows, tables);
 }
 
+// The same of arrays, which are lent here and not out of the state.
+fn put_own(out: &mut [u8], account: [u8; 10], rows: [u8; ALL_ROWS], tables: usize)
+    requires { ⌜ (length account ≡ 10) × (tables ≤ 255) × (24 * tables ≤ length rows) × (13 + 28 * tables ≤ length (now out)) ⌝ }
+    ensures { λ _. ⌜ now (out .exit) ≡ stored (now (out .entry)) 0 (cardText account (entriesFrom 0 tables rows)) ⌝ }
+{
+    put_card(out, &account, &rows, tables);
+}
+
 // The card of a state, or why there is none; a refusal leaves the buffer as it was.
 pub fn write(m: Meter, out: &mut [u8]) -> Written
     ensures { λ r. ⌜ (r ≡ writtenIn m (now (out .entry))) × (now (out .exit) ≡ writtenTo m (now (out .entry))) ⌝ }
@@ -76,6 +85,6 @@ pub fn write(m: Meter, out: &mut [u8]) -> Written
     }
     let account = g.account;
     let rows = g.tables;
-    put_card(out, &account, &rows, tables);
+    put_own(out, account, rows, tables);
     Written { number: 1, length }
 }

@@ -27,9 +27,9 @@ returns-3 c =
     answers-41 (a .m) (a .out .now) (sym (left .before .has-edition .ensures) ∙ not-false _ (left .if1 .left)) (sym (formed .before .is-well-formed .ensures) ∙ not-false _ (formed .if2 .left)) _ _
     (c .before .tables-of .ensures .0) refl (c .if3 .taken)
 
-put-card-requires : tie.Need-put-card-requires
-put-card-requires c κs =
-    let room = c .before .before .before .before .before in
+put-own-requires : tie.Need-put-own-requires
+put-own-requires c κs =
+    let room = c .before .before .before in
     let formed = room .before .before .before .before in
     let a = formed .before .before .before .before .before .args in
     let few = room .before .tables-of .ensures .1 .1 in
@@ -38,12 +38,12 @@ put-card-requires c κs =
 
 returns-4 : tie.Need-returns-4
 returns-4 c =
-    let room = c .before .before .before .before .before .before .before .before in
+    let room = c .before .before .before .before .before .before in
     let formed = room .before .before .before .before in
     let left = formed .before .before in
     let a = left .before .before .before .args in
     answers-1 (a .m) (a .out .now) (sym (left .before .has-edition .ensures) ∙ not-false _ (left .if1 .left)) (sym (formed .before .is-well-formed .ensures) ∙ not-false _ (formed .if2 .left)) _ _
-    (room .before .tables-of .ensures .0) refl _ (room .if3 .left) (c .before .before .put-card .ensures)
+    (room .before .tables-of .ensures .0) refl _ (room .if3 .left) (c .before .before .put-own .ensures)
 
 pub write-spec : {M : Type 1} → statement M
-write-spec = tie.close (tie.spec (λ c κs. search needs) returns (λ c κs. search needs) returns-2 (λ c κs. search needs) (λ c. search needs) (λ c. search needs) (λ c. search needs) returns-3 (λ c. search needs) (λ c. search needs) put-card-requires (λ c. search needs) returns-4)
+write-spec = tie.close (tie.spec (λ c κs. search needs) returns (λ c κs. search needs) returns-2 (λ c κs. search needs) (λ c. search needs) (λ c. search needs) (λ c. search needs) returns-3 (λ c. search needs) put-own-requires (λ c. search needs) returns-4)
