@@ -46,4 +46,4 @@ returns-4 c =
     (room .before .tables-of .ensures .0) refl _ (room .if3 .left) (c .before .before .put-own .ensures)
 
 pub write-spec : {M : Type 1} → statement M
-write-spec = tie.close (tie.spec (λ c κs. search needs) returns (λ c κs. search needs) returns-2 (λ c κs. search needs) (λ c. search needs) (λ c. search needs) (λ c. search needs) returns-3 (λ c. search needs) put-own-requires (λ c. search needs) returns-4)
+write-spec = tie.close (tie.spec (λ c κs. search needs) returns (λ c κs. search needs) returns-2 (λ c κs. search needs) (λ c. search needs) (λ c. search needs) (λ c. search needs) returns-3 put-own-requires (λ c. search needs) returns-4)
