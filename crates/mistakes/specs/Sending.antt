@@ -12,7 +12,7 @@ use Rattle.values.specs.Registers.{energyNo, zoneEnergy}
 use Rattle.values.specs.Texts.{serialText, timeText, dateText}
 use Rattle.frames.specs.Frames.{sealed, frameOf, bareFrame, blockOf, onWire}
 use Rattle.frames.specs.Commands.{P0, P1, bracketed}
-use Rattle.state.specs.Sizes.{rowLength, tables, replyRoom, periodPlaces}
+use Rattle.state.specs.Sizes.{rowLength, replyRoom, periodPlaces, tablePlaces}
 use Rattle.state.specs.WellFormed.{limit, wellFormed}
 use Rattle.state.specs.Making.{emptyReceiver, noCounters, noPeriod, factsOf, meterOf, blankMeter, madeOf}
 use Rattle.datasets.specs.Sets.{dataSet, linesOf, lineOf, timeSet, dateSet, serialSet, accountSet, energySet, tableSet, closedSet, keptSet}
@@ -39,7 +39,7 @@ pub record States : Type 0 where
   -- a 32nd character in mode 0; the sixth of a confirmation
   pub «limit_of» : RuledOut (limit 0) 32 × RuledOut (limit 1) 6
   -- the tables not looked at; a mark on an empty receiver
-  pub «is_well_formed» : RuledOut (wellFormed (withRegisters newMeter (withTables (newMeter .registers) (replicate (tables * rowLength) 53)))) true
+  pub «is_well_formed» : RuledOut (wellFormed (withRegisters newMeter (withTables (newMeter .registers) (replicate (tablePlaces * rowLength) 53)))) true
       × RuledOut (wellFormed (withReceiver newMeter (withMark emptyReceiver 1 0))) true
   -- with a mark a place that nothing is held at; a place without a mark
   pub is-well-formed-place : RuledOut (wellFormed (withReceiver (heldIn 2 (SOH ∷ chars "B")) (withMark (heldIn 2 (SOH ∷ chars "B") .receiver) 1 2))) true
@@ -86,9 +86,9 @@ pub record Sets : Type 0 where
 
 -- of `replies`
 pub record Replies : Type 0 where
-  -- no parity; no CR LF
-  pub identify : RuledOut (holding (replicate 19 0) (onWire identification)) identification
-      × RuledOut (holding (replicate 19 0) (onWire identification)) (holding (replicate 19 0) (onWire (take 17 identification)))
+  -- no parity; edition 1's for edition 2
+  pub identify : RuledOut (holding (replicate 19 0) (onWire (identification 1))) (identification 1)
+      × RuledOut (holding (replicate 19 0) (onWire (identification 2))) (holding (replicate 19 0) (onWire (identification 1)))
   -- NAK; odd parity
   pub acknowledge : RuledOut (holding (0 ∷ []) (onWire accepted)) (onWire refused) × RuledOut (holding (0 ∷ []) (onWire accepted)) (0x86 ∷ [])
   -- ACK; no parity
@@ -101,8 +101,8 @@ pub record Replies : Type 0 where
       × RuledOut (holding (replicate replyRoom 0) (onWire (blockOf (askedData used (Table (record { 0 = 7 }))))))
       (holding (replicate replyRoom 0) (onWire (blockOf (lineOf (tableSet 7 twos)))))
   -- one table too few; no last line
-  pub «data_block» : RuledOut (holding (replicate replyRoom 0) (onWire (blockOf (blockData tables used)))) (holding (replicate replyRoom 0) (onWire (blockOf (blockData 23 used))))
-      × RuledOut (holding (replicate replyRoom 0) (onWire (blockOf (blockData tables used)))) (holding (replicate replyRoom 0) (onWire (blockOf (linesOf (blockSets tables used)))))
+  pub «data_block» : RuledOut (holding (replicate replyRoom 0) (onWire (blockOf (blockData 24 used)))) (holding (replicate replyRoom 0) (onWire (blockOf (blockData 23 used))))
+      × RuledOut (holding (replicate replyRoom 0) (onWire (blockOf (blockData 24 used)))) (holding (replicate replyRoom 0) (onWire (blockOf (linesOf (blockSets 24 used)))))
   -- no periods; the oldest first
-  pub «long_block» : RuledOut (holding (replicate replyRoom 0) (onWire (blockOf (longData tables closedTwice)))) (holding (replicate replyRoom 0) (onWire (blockOf (blockData tables closedTwice))))
-      × RuledOut (holding (replicate replyRoom 0) (onWire (blockOf (longData tables closedTwice)))) (holding (replicate replyRoom 0) (onWire (blockOf (longData tables oldestFirst))))
+  pub «long_block» : RuledOut (holding (replicate replyRoom 0) (onWire (blockOf (longData 24 closedTwice)))) (holding (replicate replyRoom 0) (onWire (blockOf (blockData 24 closedTwice))))
+      × RuledOut (holding (replicate replyRoom 0) (onWire (blockOf (longData 24 closedTwice)))) (holding (replicate replyRoom 0) (onWire (blockOf (longData 24 oldestFirst))))

@@ -1,12 +1,13 @@
 -- `reporting::report` meets its contract: what the delivery answers, and the rows of the meter after it. Assumes nothing.
 use mathlib.Core.Path.{_≡_, ap, subst, _∙_}
 use mathlib.Core.List.{_++_}
-use Prim.Native.Nat.{ℕ, _+_}
+use Prim.Native.Nat.{ℕ, _+_, _*_}
 use lib.ListN.{length}
 use Rattle.text.specs.Writing.{stored}
 use Rattle.numerals.specs.Numerals.{numberLine}
 use Rattle.numerals.proofs.Begun.{begun}
 use Rattle.state.specs.declared.Meter.{Meter}
+use Rattle.state.specs.WellFormed.{tablesIn}
 use Rattle.delivery.specs.Delivery.{DeliveredAs}
 use Rattle.reporting.specs.Report.{rowLines}
 use Rattle.reporting.proofs.Rows.{shows-report}
@@ -19,10 +20,10 @@ returns c = let c6 = c .before .before .before .before .before .before in let c7
     let d = c7 .deliver in
     let put = c .before .before .put-report .ensures in
     let behind = c6 .detail .ensures in
-    let s = shows-report (a .text .now) (a .out .now) (d .result .number) (d .result .place) (d .result .acknowledged) (d .result .next) _ _ (c11 .pre) (put .1 .1)
+    let s = shows-report (a .edition) (a .text .now) (a .out .now) (d .result .number) (d .result .place) (d .result .acknowledged) (d .result .next) _ _ (c11 .pre) (put .1 .1)
     (subst (λ (m : Meter). DeliveredAs m (a .text .now) (d .result .number) (d .result .place) (d .result .acknowledged) (d .result .next)) (c8 .opened .ensures) (d .ensures))
-    (put .0 ∙ ap (λ (n : ℕ). length (numberLine (d .result .number) n) + 600) behind)
-    (put .1 .0 ∙ ap (λ (n : ℕ). stored (a .out .now) 0 (numberLine (d .result .number) n ++ rowLines 24 (d .result .next .registers .tables))) behind) in
+    (put .0 ∙ ap (λ (n : ℕ). length (numberLine (d .result .number) n) + tablesIn (d .result .next .registers) * 25) behind)
+    (put .1 .0 ∙ ap (λ (n : ℕ). stored (a .out .now) 0 (numberLine (d .result .number) n ++ rowLines (tablesIn (d .result .next .registers)) (d .result .next .registers .tables))) behind) in
     (s, begun (a .out .now) (s .shown) _ (s .long) _ (s .held))
 
 pub report-spec : {M : Type 1} → statement M
