@@ -13,8 +13,7 @@
 #ifndef DIRGEMIST_H
 #define DIRGEMIST_H
 
-#include <stddef.h>
-#include <stdint.h>
+#include "dirgemist_size.h"
 
 #ifdef __cplusplus
 extern "C" {
@@ -37,7 +36,7 @@ extern "C" {
  * *place is always written: 0 for a post, and else the length of the longest beginning that the text shares with some post, so
  * that the byte at *place is the first that no post has there; it is text_length where the text is the proper beginning of a
  * post, and the post's length where more stands behind a post. */
-uint8_t dirgemist_post_check(uint8_t edition, const uint8_t *text, size_t text_length, size_t *place);
+uint8_t dirgemist_post_check(uint8_t edition, const uint8_t *text, dirgemist_size text_length, dirgemist_size *place);
 
 /* Turns the post, for meters of an edition, of text_length bytes at text into frames at out, a buffer of out_length bytes: one frame of DIRGEMIST_FRAME bytes a
  * line, in order, SOH `W1` STX `Z(xx;row)` ETX BCC with even parity, ready for the line. Returns
@@ -47,7 +46,7 @@ uint8_t dirgemist_post_check(uint8_t edition, const uint8_t *text, size_t text_l
  *   DIRGEMIST_NOT_A_POST  *place is the check's, *length is 0; this comes before the next, in any room;
  *   DIRGEMIST_NO_ROOM     out_length is under DIRGEMIST_FRAME times the number of lines; *length and *place are 0.
  * A refusal leaves every byte of out as it was. *length and *place are always written. */
-uint8_t dirgemist_post_export(uint8_t edition, const uint8_t *text, size_t text_length, uint8_t *out, size_t out_length, size_t *length, size_t *place);
+uint8_t dirgemist_post_export(uint8_t edition, const uint8_t *text, dirgemist_size text_length, uint8_t *out, dirgemist_size out_length, dirgemist_size *length, dirgemist_size *place);
 
 #ifdef __cplusplus
 }

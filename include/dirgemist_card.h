@@ -16,9 +16,6 @@
 
 #include "dirgemist_meter.h"
 
-#include <stddef.h>
-#include <stdint.h>
-
 #ifdef __cplusplus
 extern "C" {
 #endif
@@ -43,7 +40,7 @@ extern "C" {
 /* Tells whether the text_length bytes at text are a card for meters of an edition, 1 or 2. Returns DIRGEMIST_CARD_DONE if they are, and else
  * DIRGEMIST_CARD_NOT_A_CARD. *place is always written: 0 for a card, and else the length of the longest beginning that the text
  * shares with some card. Another edition is DIRGEMIST_CARD_NO_EDITION, with place 0, here and in the reader. */
-uint8_t dirgemist_card_check(uint8_t edition, const uint8_t *text, size_t text_length, size_t *place);
+uint8_t dirgemist_card_check(uint8_t edition, const uint8_t *text, dirgemist_size text_length, dirgemist_size *place);
 
 /* Turns the card of text_length bytes at text into frames at out, a buffer of out_length bytes: SOH `W1` STX `K(account)` ETX BCC,
  * then SOH `W1` STX `Z(xx;row)` ETX BCC for each table, in order, with even parity, ready for the line. Returns
@@ -53,7 +50,7 @@ uint8_t dirgemist_card_check(uint8_t edition, const uint8_t *text, size_t text_l
  *   DIRGEMIST_CARD_NO_ROOM     out_length is under DIRGEMIST_CARD_ACCOUNT_FRAME and DIRGEMIST_CARD_TABLE_FRAME a table; *length and
  *                              *place are 0.
  * A refusal leaves every byte of out as it was. *length and *place are always written. */
-uint8_t dirgemist_card_read(uint8_t edition, const uint8_t *text, size_t text_length, uint8_t *out, size_t out_length, size_t *length, size_t *place);
+uint8_t dirgemist_card_read(uint8_t edition, const uint8_t *text, dirgemist_size text_length, uint8_t *out, dirgemist_size out_length, dirgemist_size *length, dirgemist_size *place);
 
 /* Writes the card of the meter's record to out, a buffer of out_length bytes: its account and all of its tables. Returns
  *   DIRGEMIST_CARD_NO_EDITION the record's edition is none; *length is 0; this comes before all others;
@@ -62,7 +59,7 @@ uint8_t dirgemist_card_read(uint8_t edition, const uint8_t *text, size_t text_le
  *   DIRGEMIST_CARD_MALFORMED  *length is 0; this comes before the next, in any room;
  *   DIRGEMIST_CARD_NO_ROOM    out_length is under that; *length is 0.
  * A refusal leaves every byte of out as it was. *length is always written. */
-uint8_t dirgemist_card_write(const struct dirgemist_meter *meter, uint8_t *out, size_t out_length, size_t *length);
+uint8_t dirgemist_card_write(const struct dirgemist_meter *meter, uint8_t *out, dirgemist_size out_length, dirgemist_size *length);
 
 #ifdef __cplusplus
 }

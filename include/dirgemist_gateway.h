@@ -30,8 +30,8 @@ extern "C" {
  * the buffer are as they were, *length and *place are 0, and *speed is 0 with 12 and 14, the
  * record's with 17. A frame_length of 0 gives 17; frame is then not read through. */
 uint8_t dirgemist_meter_frame(struct dirgemist_meter *meter, const uint8_t *frame,
-                              size_t frame_length, uint8_t *reply, size_t room, size_t *length,
-                              uint8_t *speed, uint8_t *place);
+                              dirgemist_size frame_length, uint8_t *reply, dirgemist_size room,
+                              dirgemist_size *length, uint8_t *speed, uint8_t *place);
 
 #ifdef __cplusplus
 }

@@ -16,8 +16,7 @@
 #ifndef DIRGEMIST_MERCURY_H
 #define DIRGEMIST_MERCURY_H
 
-#include <stddef.h>
-#include <stdint.h>
+#include "dirgemist_size.h"
 
 #ifdef __cplusplus
 extern "C" {
@@ -53,7 +52,7 @@ extern "C" {
  *   DIRGEMIST_MERCURY_NO_ROOM  out_length is under DIRGEMIST_MERCURY_REQUEST.
  * A refusal leaves every byte of out as it was, and *length is 0. */
 uint8_t dirgemist_mercury_ask(uint8_t address, uint8_t array, uint8_t month, uint8_t tariff,
-                              uint8_t *out, size_t out_length, size_t *length);
+                              uint8_t *out, dirgemist_size out_length, dirgemist_size *length);
 
 /* Reads the answer_length bytes at answer as those of the meter of an address. Returns, and the
  * refusals come in this order,
@@ -67,12 +66,12 @@ uint8_t dirgemist_mercury_ask(uint8_t address, uint8_t array, uint8_t month, uin
  *                                    that were measured; one that was not is 0 and is no number.
  * But for DIRGEMIST_MERCURY_STATUS *status is 0; but for DIRGEMIST_MERCURY_DONE *measured and all
  * four are 0. */
-uint8_t dirgemist_mercury_read(uint8_t address, const uint8_t *answer, size_t answer_length,
+uint8_t dirgemist_mercury_read(uint8_t address, const uint8_t *answer, dirgemist_size answer_length,
                                uint8_t *status, uint8_t *measured, uint32_t *active_in,
                                uint32_t *active_out, uint32_t *reactive_in, uint32_t *reactive_out);
 
 /* The CRC of the message_length bytes at message; its low byte is sent first. */
-uint16_t dirgemist_mercury_crc(const uint8_t *message, size_t message_length);
+uint16_t dirgemist_mercury_crc(const uint8_t *message, dirgemist_size message_length);
 
 #ifdef __cplusplus
 }

@@ -11,17 +11,17 @@
  * Each is proved, for all records, numbers and buffers, to do what its paragraph says. Pointers
  * must not be null, and what they point to must not overlap.
  *
- * Stack: an event takes some 11,500 bytes (64-bit Arm), a test 2,700, making 400; DIRGEMIST_STACK
- * is above each, and hosts/stack measures them. The steps of an event hand the state on by value,
- * and up to eight copies of its tables and its archive are alive at once.
+ * Stack: an event takes some 11,500 bytes (64-bit Arm; 10,900 on thumbv6m, 9,400 on thumbv7em), a
+ * test 2,700, making 400; DIRGEMIST_STACK is above each, and hosts/stack and hosts/chip/count.c
+ * measure them. The steps of an event hand the state on by value, and up to eight copies of its
+ * tables and its archive are alive at once.
  *
  * Link with libfirmware.a for events, and with libkeeping.a for making, testing and showing.
  */
 #ifndef DIRGEMIST_METER_H
 #define DIRGEMIST_METER_H
 
-#include <stddef.h>
-#include <stdint.h>
+#include "dirgemist_size.h"
 
 #ifdef __cplusplus
 extern "C" {
@@ -116,6 +116,66 @@ struct dirgemist_meter {
     struct dirgemist_registers registers;
 };
 
+/* The layout of the record, in bytes: the same on every processor. A compiler that lays it out in
+ * another way does not build. */
+#ifdef __cplusplus
+#define DIRGEMIST_ASSERT(right, what) static_assert(right, what)
+#else
+#define DIRGEMIST_ASSERT(right, what) _Static_assert(right, what)
+#endif
+#define DIRGEMIST_AT(record, field, place) \
+    DIRGEMIST_ASSERT(offsetof(struct record, field) == (place), #record ": " #field)
+#define DIRGEMIST_SIZED(record, size) DIRGEMIST_ASSERT(sizeof(struct record) == (size), #record)
+
+DIRGEMIST_AT(dirgemist_date, year, 0);
+DIRGEMIST_AT(dirgemist_date, month, 2);
+DIRGEMIST_AT(dirgemist_date, day, 3);
+DIRGEMIST_SIZED(dirgemist_date, 4);
+DIRGEMIST_AT(dirgemist_time, hour, 0);
+DIRGEMIST_AT(dirgemist_time, minute, 1);
+DIRGEMIST_AT(dirgemist_time, second, 2);
+DIRGEMIST_SIZED(dirgemist_time, 3);
+DIRGEMIST_AT(dirgemist_clock, date, 0);
+DIRGEMIST_AT(dirgemist_clock, time, 4);
+DIRGEMIST_SIZED(dirgemist_clock, 8);
+DIRGEMIST_AT(dirgemist_receiver, held, 0);
+DIRGEMIST_AT(dirgemist_receiver, count, 63);
+DIRGEMIST_AT(dirgemist_receiver, mark, 64);
+DIRGEMIST_AT(dirgemist_receiver, place, 65);
+DIRGEMIST_SIZED(dirgemist_receiver, 66);
+DIRGEMIST_AT(dirgemist_counters, zones, 0);
+DIRGEMIST_AT(dirgemist_counters, total, 16);
+DIRGEMIST_SIZED(dirgemist_counters, 20);
+DIRGEMIST_AT(dirgemist_stamp, date, 0);
+DIRGEMIST_AT(dirgemist_stamp, hour, 4);
+DIRGEMIST_AT(dirgemist_stamp, minute, 5);
+DIRGEMIST_SIZED(dirgemist_stamp, 6);
+DIRGEMIST_AT(dirgemist_period, closed, 0);
+DIRGEMIST_AT(dirgemist_period, zones, 8);
+DIRGEMIST_SIZED(dirgemist_period, 24);
+DIRGEMIST_AT(dirgemist_archive, periods, 0);
+DIRGEMIST_AT(dirgemist_archive, count, 288);
+DIRGEMIST_SIZED(dirgemist_archive, 292);
+DIRGEMIST_AT(dirgemist_facts, serial, 0);
+DIRGEMIST_AT(dirgemist_facts, password, 10);
+DIRGEMIST_AT(dirgemist_facts, edition, 18);
+DIRGEMIST_AT(dirgemist_facts, link, 19);
+DIRGEMIST_AT(dirgemist_facts, decimals, 20);
+DIRGEMIST_SIZED(dirgemist_facts, 21);
+DIRGEMIST_AT(dirgemist_registers, facts, 0);
+DIRGEMIST_AT(dirgemist_registers, account, 21);
+DIRGEMIST_AT(dirgemist_registers, clock, 32);
+DIRGEMIST_AT(dirgemist_registers, counters, 40);
+DIRGEMIST_AT(dirgemist_registers, tables, 60);
+DIRGEMIST_AT(dirgemist_registers, archive, 660);
+DIRGEMIST_SIZED(dirgemist_registers, 952);
+DIRGEMIST_AT(dirgemist_meter, mode, 0);
+DIRGEMIST_AT(dirgemist_meter, attempts, 1);
+DIRGEMIST_AT(dirgemist_meter, speed, 2);
+DIRGEMIST_AT(dirgemist_meter, receiver, 3);
+DIRGEMIST_AT(dirgemist_meter, registers, 72);
+DIRGEMIST_SIZED(dirgemist_meter, 1024);
+
 /* The numbers returned.
  *    0  taken, and nothing to say
  *    1  done
@@ -155,10 +215,11 @@ struct dirgemist_meter {
  * meter: zeros for the serial and the password, ten spaces, 2000-01-01 00:00:00, edition 1, link 1,
  * decimals 0. What stood in *meter before does not matter. */
 uint8_t dirgemist_meter_make(struct dirgemist_meter *meter, const uint8_t *serial,
-                             size_t serial_length, const uint8_t *account, size_t account_length,
-                             const uint8_t *password, size_t password_length, uint16_t year,
-                             uint8_t month, uint8_t day, uint8_t hour, uint8_t minute,
-                             uint8_t second, uint8_t edition, uint8_t link, uint8_t decimals);
+                             dirgemist_size serial_length, const uint8_t *account,
+                             dirgemist_size account_length, const uint8_t *password,
+                             dirgemist_size password_length, uint16_t year, uint8_t month,
+                             uint8_t day, uint8_t hour, uint8_t minute, uint8_t second,
+                             uint8_t edition, uint8_t link, uint8_t decimals);
 
 /* Whether the record is well-formed: 1, 16 for an edition that is none, or 14. It is only read. */
 uint8_t dirgemist_meter_check(const struct dirgemist_meter *meter);
@@ -178,14 +239,15 @@ uint8_t dirgemist_meter_total(const struct dirgemist_meter *meter, uint32_t *tot
  * never read or written through. A kind that is none of the five, or a character over 255, gives
  * 99. */
 uint8_t dirgemist_meter_meet(struct dirgemist_meter *meter, uint8_t kind, uint32_t value,
-                             uint8_t *reply, size_t room, size_t *length, uint8_t *speed,
-                             uint8_t *place);
+                             uint8_t *reply, dirgemist_size room, dirgemist_size *length,
+                             uint8_t *speed, uint8_t *place);
 
 /* A byte has come from the line. 12, 14, or as the byte and the mode rule: 0 where it is only held
  * or dropped. */
 static inline uint8_t dirgemist_meter_receive(struct dirgemist_meter *meter, uint8_t byte,
-                                              uint8_t *reply, size_t room, size_t *length,
-                                              uint8_t *speed, uint8_t *place) {
+                                              uint8_t *reply, dirgemist_size room,
+                                              dirgemist_size *length, uint8_t *speed,
+                                              uint8_t *place) {
     return dirgemist_meter_meet(meter, DIRGEMIST_CHARACTER, byte, reply, room, length, speed,
                                 place);
 }
@@ -193,8 +255,8 @@ static inline uint8_t dirgemist_meter_receive(struct dirgemist_meter *meter, uin
 /* Eight seconds without a character: the meter listens again, with nothing received. A meter that
  * waits for the confirmation replies NAK, on the optical link. 12, 14, 0 where it was listening, else 1. */
 static inline uint8_t dirgemist_meter_silence(struct dirgemist_meter *meter, uint8_t *reply,
-                                              size_t room, size_t *length, uint8_t *speed,
-                                              uint8_t *place) {
+                                              dirgemist_size room, dirgemist_size *length,
+                                              uint8_t *speed, uint8_t *place) {
     return dirgemist_meter_meet(meter, DIRGEMIST_SILENCE, 0, reply, room, length, speed, place);
 }
 
@@ -202,7 +264,7 @@ static inline uint8_t dirgemist_meter_silence(struct dirgemist_meter *meter, uin
 static inline uint8_t dirgemist_meter_note(struct dirgemist_meter *meter, uint8_t kind,
                                            uint32_t value, uint8_t *speed) {
     uint8_t nowhere, place;
-    size_t length;
+    dirgemist_size length;
     return dirgemist_meter_meet(meter, kind, value, &nowhere, 0, &length, speed, &place);
 }
 

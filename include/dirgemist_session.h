@@ -19,8 +19,7 @@
 #ifndef DIRGEMIST_SESSION_H
 #define DIRGEMIST_SESSION_H
 
-#include <stddef.h>
-#include <stdint.h>
+#include "dirgemist_size.h"
 
 #ifdef __cplusplus
 extern "C" {
@@ -68,7 +67,7 @@ struct dirgemist_session {
  * was. Or a refusal, in the order 16, 19, 28, 29, 20, 30, 9: *session is then all zeros, which is no session, *length is 0, and every
  * byte of out is as it was. *place is 0 but for 20, where it is the length of the longest beginning that some post shares. A list
  * of reads with an odd number of bytes, a flag that is neither 0 nor 1, and a kind that is neither, are 9. */
-uint8_t dirgemist_session_start(struct dirgemist_session *session, uint8_t edition, uint8_t named, const uint8_t *serial, size_t serial_length, uint8_t access, const uint8_t *password, size_t password_length, uint8_t kind, const uint8_t *work, size_t work_length, uint8_t *out, size_t out_length, size_t *length, size_t *place);
+uint8_t dirgemist_session_start(struct dirgemist_session *session, uint8_t edition, uint8_t named, const uint8_t *serial, dirgemist_size serial_length, uint8_t access, const uint8_t *password, dirgemist_size password_length, uint8_t kind, const uint8_t *work, dirgemist_size work_length, uint8_t *out, dirgemist_size out_length, dirgemist_size *length, dirgemist_size *place);
 
 /* A reply has come, all of it, as the bytes of the line. Returns
  *   DIRGEMIST_SESSION_DONE     *fact says how the session stands. DIRGEMIST_SESSION_GOES_ON: the next message stands at the front of
@@ -77,7 +76,7 @@ uint8_t dirgemist_session_start(struct dirgemist_session *session, uint8_t editi
  *   DIRGEMIST_SESSION_NO_ROOM  out_length is under DIRGEMIST_SESSION_ROOM;
  *   DIRGEMIST_SESSION_NONE     no session, or not its work.
  * The last two leave *session as it was, and give *fact, *message and *length 0. Every byte of out past the message is as it was. */
-uint8_t dirgemist_session_reply(struct dirgemist_session *session, const uint8_t *work, size_t work_length, const uint8_t *reply, size_t reply_length, uint8_t *out, size_t out_length, uint8_t *fact, uint8_t *message, size_t *length);
+uint8_t dirgemist_session_reply(struct dirgemist_session *session, const uint8_t *work, dirgemist_size work_length, const uint8_t *reply, dirgemist_size reply_length, uint8_t *out, dirgemist_size out_length, uint8_t *fact, uint8_t *message, dirgemist_size *length);
 
 /* No reply came, for as long as the host waits. Returns DIRGEMIST_SESSION_DONE: the session is over, *fact is
  * DIRGEMIST_SESSION_SILENT, or what ended it before, and *message the number of the message that was not answered. Or

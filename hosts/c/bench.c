@@ -210,7 +210,7 @@ static bool play_dump(const struct word *words, size_t count) {
 
 static struct buffer replies;
 static struct buffer frames;
-static size_t *length;
+static dirgemist_size *length;
 static uint8_t *speed;
 static uint8_t *place;
 
@@ -385,7 +385,7 @@ int main(void) {
     size_t record = sizeof(struct dirgemist_meter);
     places[0] = (struct dirgemist_meter *)placed(guarded(record), record, false);
     places[1] = (struct dirgemist_meter *)placed(guarded(record), record, true);
-    length = (size_t *)placed(guarded(sizeof *length), sizeof *length, false);
+    length = (dirgemist_size *)placed(guarded(sizeof *length), sizeof *length, false);
     speed = placed(guarded(sizeof *speed), sizeof *speed, false);
     place = placed(guarded(sizeof *place), sizeof *place, false);
     replies = buffer_for(ROOM_MOST);

@@ -9,39 +9,6 @@
 
 #include <stdio.h>
 
-/* The layout that the library uses: C's own, without surprise. */
-_Static_assert(sizeof(struct dirgemist_date) == 4, "date");
-_Static_assert(sizeof(struct dirgemist_time) == 3, "time");
-_Static_assert(sizeof(struct dirgemist_clock) == 8, "clock");
-_Static_assert(sizeof(struct dirgemist_receiver) == 66, "receiver");
-_Static_assert(offsetof(struct dirgemist_receiver, count) == 63, "count's place");
-_Static_assert(offsetof(struct dirgemist_receiver, mark) == 64, "mark's place");
-_Static_assert(offsetof(struct dirgemist_receiver, place) == 65, "place's place");
-_Static_assert(sizeof(struct dirgemist_counters) == 20, "counters");
-_Static_assert(offsetof(struct dirgemist_counters, total) == 16, "total's place");
-_Static_assert(sizeof(struct dirgemist_facts) == 21, "facts");
-_Static_assert(offsetof(struct dirgemist_facts, password) == 10, "password's place");
-_Static_assert(offsetof(struct dirgemist_facts, edition) == 18, "edition's place");
-_Static_assert(offsetof(struct dirgemist_facts, link) == 19, "link's place");
-_Static_assert(offsetof(struct dirgemist_facts, decimals) == 20, "decimals' place");
-_Static_assert(offsetof(struct dirgemist_registers, facts) == 0, "facts' place");
-_Static_assert(offsetof(struct dirgemist_registers, account) == 21, "account's place");
-_Static_assert(offsetof(struct dirgemist_registers, clock) == 32, "clock's place");
-_Static_assert(offsetof(struct dirgemist_registers, counters) == 40, "counters' place");
-_Static_assert(offsetof(struct dirgemist_registers, tables) == 60, "tables' place");
-_Static_assert(sizeof(struct dirgemist_stamp) == 6, "stamp");
-_Static_assert(offsetof(struct dirgemist_stamp, hour) == 4, "hour's place");
-_Static_assert(sizeof(struct dirgemist_period) == 24, "period");
-_Static_assert(offsetof(struct dirgemist_period, zones) == 8, "a period's counters' place");
-_Static_assert(sizeof(struct dirgemist_archive) == 292, "archive");
-_Static_assert(offsetof(struct dirgemist_archive, count) == 288, "the number of periods' place");
-_Static_assert(offsetof(struct dirgemist_registers, archive) == 660, "archive's place");
-_Static_assert(sizeof(struct dirgemist_registers) == 952, "registers");
-_Static_assert(offsetof(struct dirgemist_meter, speed) == 2, "speed's place");
-_Static_assert(offsetof(struct dirgemist_meter, receiver) == 3, "receiver's place");
-_Static_assert(offsetof(struct dirgemist_meter, registers) == 72, "registers' place");
-_Static_assert(sizeof(struct dirgemist_meter) == 1024, "meter");
-
 #define ROOM DIRGEMIST_REPLY_ROOM
 
 static int wrong = 0;

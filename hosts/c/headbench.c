@@ -100,7 +100,7 @@ static bool play_call(const struct call *call, const struct word *words, size_t 
 #define UNWRITTEN 0xA5
 #define NUMBERS 6
 
-static size_t *numbers[NUMBERS];
+static dirgemist_size *numbers[NUMBERS];
 static uint8_t *shorts[4];
 static uint16_t *year;
 static uint32_t *wh;
@@ -142,12 +142,12 @@ static void put_written(uint8_t answer, size_t beside, size_t length) {
 
 /* ---- Commands built: after `build NAME` comes ROOM, and then the fields. */
 
-#define BUILD(name, call)                                \
-    static void name(const struct given *g) {            \
-        uint8_t *out = room_lent(g[0].number);           \
-        size_t room = buffer.room, *length = numbers[0]; \
-        uint8_t answer = call;                           \
-        put_written(answer, *length, *length);           \
+#define BUILD(name, call)                                        \
+    static void name(const struct given *g) {                    \
+        uint8_t *out = room_lent(g[0].number);                   \
+        dirgemist_size room = buffer.room, *length = numbers[0]; \
+        uint8_t answer = call;                                   \
+        put_written(answer, *length, *length);                   \
     }
 #define N(place) ((uint8_t)g[place].number)
 #define T(place) g[place].text, g[place].length
@@ -175,7 +175,7 @@ BUILD(mercury_ask, dirgemist_mercury_ask(N(1), N(2), N(3), N(4), out, room, leng
 /* ---- Values read back: after `value NAME` comes the value. */
 
 /* One that is characters, as many as the call writes. */
-static void characters(uint8_t (*call)(const uint8_t *, size_t, uint8_t *, size_t),
+static void characters(uint8_t (*call)(const uint8_t *, dirgemist_size, uint8_t *, dirgemist_size),
                        const struct given *g, size_t count) {
     uint8_t *out = room_lent(count);
     put_number(call(T(0), out, count));
@@ -248,7 +248,7 @@ static void card(const struct given *g) {
 
 static void strip(const struct given *g) {
     uint8_t *out = room_lent(g[0].number);
-    size_t *length = numbers[0], *place = numbers[1];
+    dirgemist_size *length = numbers[0], *place = numbers[1];
     uint8_t answer = dirgemist_head_strip(T(1), out, buffer.room, length, place);
     TELL(answer, *length);
     put(' ');
@@ -268,8 +268,8 @@ static void part(const struct given *g) {
 /* Where there is no set its places are 0, and the reader stays. */
 static void next(const struct given *g) {
     unwrite();
-    size_t at = g[0].number;
-    size_t *address = numbers[0], *value = numbers[1], *after = numbers[2], *place = numbers[3];
+    dirgemist_size at = g[0].number;
+    dirgemist_size *address = numbers[0], *value = numbers[1], *after = numbers[2], *place = numbers[3];
     uint8_t answer = dirgemist_head_next(T(1), at, address, value, after, place);
     bool set = answer == DIRGEMIST_HEAD_DONE;
     TELL(answer, *place, set ? at : 0, *address, set ? at + *address + 1 : 0, *value, *after);
@@ -360,7 +360,7 @@ static bool start_session(const struct word *words, size_t count) {
         return false;
     }
     uint8_t *out = room_lent(DIRGEMIST_SESSION_ROOM);
-    size_t *length = numbers[0], *place = numbers[1];
+    dirgemist_size *length = numbers[0], *place = numbers[1];
     uint8_t answer = dirgemist_session_start(
         session, (uint8_t)edition, (uint8_t)serial.number, serial.text, serial.length, (uint8_t)password.number,
         password.text, password.length, (uint8_t)work.number, work.text, work.length, out,

@@ -146,7 +146,7 @@ pub struct Meter {
     pub registers: Registers,
 }
 
-// The layout is C's; hosts/c/firmware.c holds the header to the same figures.
+// The layout is C's; include/dirgemist_meter.h has the same figures.
 const _: () = assert!(size_of::<Receiver>() == 66 && size_of::<Registers>() == 952);
 const _: () = assert!(size_of::<Period>() == 24 && size_of::<Archive>() == 292);
 const _: () = assert!(size_of::<Meter>() == 1024);

@@ -1,6 +1,7 @@
 //! Holds a bench program against the model: fixed scripts, sweeps and scripts by chance.
 //!
-//! `meter PROGRAM [SEED [EVENTS]]`; PROGRAM may be `'hosts/run bench'`, with its arguments
+//! `meter PROGRAM [SEED [EVENTS [brief]]]`; PROGRAM may be `'hosts/run bench'`, with its arguments.
+//! A brief trial has no sweeps, and of what has to be reached only every answer.
 
 mod aims;
 mod fixed;
@@ -40,8 +41,10 @@ fn trial() -> Result<String, String> {
             .parse::<u64>()
             .map_err(|_| format!("'{text}' is not a number")),
     };
-    let Some(program) = arguments.first().filter(|_| arguments.len() <= 3) else {
-        return Err("usage: meter PROGRAM [SEED [EVENTS]]".into());
+    let brief = arguments.get(3).is_some_and(|word| word == "brief");
+    let most = if brief { 4 } else { 3 };
+    let Some(program) = arguments.first().filter(|_| arguments.len() <= most) else {
+        return Err("usage: meter PROGRAM [SEED [EVENTS [brief]]]".into());
     };
     let seed = number(1, SEED)?;
     let events = number(2, EVENTS)?;
@@ -66,8 +69,10 @@ fn trial() -> Result<String, String> {
         sizes.1 += played.transcript.len();
         program::compare(program, &played)
     };
-    sweeps::all(seed, &mut reached, &mut hold)?;
-    println!("events of the sweeps: {}", reached.events);
+    if !brief {
+        sweeps::all(seed, &mut reached, &mut hold)?;
+        println!("events of the sweeps: {}", reached.events);
+    }
     let mut seeds = Chance::new(seed);
     while reached.events < events {
         let seed = seeds.bits();
@@ -76,7 +81,11 @@ fn trial() -> Result<String, String> {
         hold(aims::script(name, seed, most, &mut reached))?;
     }
 
-    let missed = reached.print();
+    let missed = if brief {
+        reached.print_answers()
+    } else {
+        reached.print()
+    };
     println!("script bytes: {}, transcript bytes: {}", sizes.0, sizes.1);
     println!("seconds: {:.1}", start.elapsed().as_secs_f64());
     if !missed.is_empty() {

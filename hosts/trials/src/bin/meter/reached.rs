@@ -746,6 +746,18 @@ impl Reached {
         }
     }
 
+    /// Prints how often each answer came; those that never did come back.
+    pub fn print_answers(&self) -> Vec<String> {
+        let mut missed = Vec::new();
+        for (number, count) in self.answers.iter().enumerate() {
+            println!("answer {number}: {count}");
+            if *count == 0 {
+                missed.push(format!("answer {number}"));
+            }
+        }
+        missed
+    }
+
     /// Prints all counts; what was missed comes back.
     pub fn print(&self) -> Vec<String> {
         let mut missed = Vec::new();
