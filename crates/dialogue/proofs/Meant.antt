@@ -134,7 +134,7 @@ module _ (letter : ℕ) (x : List ℕ) where
   encloses k =
       opened-closed (letter ∷ bracketed x) letter k (le-leb 3 (length (letter ∷ bracketed x)) (omega (arith, named-long))) refl (unfold bracketed in refl) last-bracket
 
-  inner-is : inner (letter ∷ bracketed x) ≡ x
+  pub inner-is : inner (letter ∷ bracketed x) ≡ x
   unfolding inner bracketed
   inner-is =
       ap (λ (n : ℕ). take n (x ++ (41 ∷ []))) {x = length (letter ∷ bracketed x) - 3} {y = length x} (omega (arith, named-long))

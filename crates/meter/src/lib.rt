@@ -20,8 +20,8 @@ mod acting;
 mod after;
 mod answers;
 pub mod events;
-mod link;
 mod lines;
+mod link;
 pub mod passing;
 
 // What can happen: a byte from the line, eight seconds of silence, a second, a pulse of so many Wh, power-up; or nothing that a meter knows.

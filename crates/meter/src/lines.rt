@@ -82,8 +82,7 @@ fn confirms(link: u8, five: &[u8], c: u8, y: u8) -> bool
     let fast = [line::ACK, b'0', b'5', y, line::CR];
     let slow = [line::ACK, b'0', b'0', y, line::CR];
     let ended = c == line::LF;
-    (text::same(five, &fast) & ended)
-        | (link::slow_too(link) & (text::same(five, &slow) & ended))
+    (text::same(five, &fast) & ended) | (link::slow_too(link) & (text::same(five, &slow) & ended))
 }
 
 // Whether they confirm a reading.

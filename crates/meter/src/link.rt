@@ -93,5 +93,9 @@ pub fn refuse(link: u8, reply: &mut [u8]) -> usize
 pub fn fall(link: u8, mode: u8) -> u8
     ensures { λ r. ⌜ r ≡ afterRefusal link mode ⌝ }
 {
-    if is_wired(link) | (mode == 2) { 0 } else { mode }
+    if is_wired(link) | (mode == 2) {
+        0
+    } else {
+        mode
+    }
 }

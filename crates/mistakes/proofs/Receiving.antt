@@ -22,6 +22,7 @@ use Rattle.state.specs.declared.Counters.{Counters}
 use Rattle.state.specs.declared.Period.{Period}
 use Rattle.state.specs.declared.Registers.{Registers}
 use Rattle.state.specs.WellFormed.{below, zonesGood, noTime, unused, periodGood, everyPeriod, archiveGood}
+use Rattle.state.specs.Link.{isWired, restSpeed}
 use Rattle.state.specs.Making.{noPeriod, newRows}
 use Rattle.state.specs.Closing.{periodsOf, closedWith}
 use Rattle.state.specs.Setting.{counterOf}
@@ -76,7 +77,7 @@ unfolding seven bccOf every between isDigit isPrintable matching sameText decima
 decisions = record { decide = (seen verdictCase refl, seen verdictCase refl) }
 
 pub setting : Setting
-unfolding stored decimal serial account twos newMeter used heldIn tablesOf newRows
+unfolding stored decimal serial account twos newMeter used heldIn tablesOf newRows isWired restSpeed
 setting =
     record {
       «with_receiver» = (seen (λ (m : Meter). m .receiver .count) refl, seen (λ (m : Meter). m .mode) refl);

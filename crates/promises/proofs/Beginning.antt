@@ -38,7 +38,7 @@ new-registers : (facts : Facts) (account : List ℕ) (clock : Clock) → factory
 unfolding registersGood zonesGood below sumOf total noTime unused everyPeriod archiveGood every
 new-registers facts account clock h = rw (h, new-rows-good (facts .edition))
 
-new-well-formed : (facts : Facts) (account : List ℕ) (clock : Clock) → factoryGood facts account clock ≡ true
+pub new-well-formed : (facts : Facts) (account : List ℕ) (clock : Clock) → factoryGood facts account clock ≡ true
     → wellFormed (meterOf facts account clock) ≡ true
 new-well-formed facts account clock h =
     well-formed (meterOf facts account clock)

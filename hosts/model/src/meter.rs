@@ -894,7 +894,7 @@ impl Meter {
         self.attempts = 0;
         Answer {
             number: 1,
-            speed: 0,
+            speed: self.speed,
             length: 0,
             place: 0,
         }

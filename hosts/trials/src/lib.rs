@@ -3,6 +3,7 @@
 
 pub mod chance;
 pub mod head_words;
+pub mod history;
 pub mod memory;
 pub mod program;
 pub mod record;

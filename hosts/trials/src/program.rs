@@ -26,7 +26,7 @@ const CUT: usize = 160;
 
 /// The program's transcript, and what was wrong with the run itself, if anything. The program comes
 /// with its arguments, after single spaces.
-fn transcript_of(program: &str, script: &[u8]) -> Result<(Vec<u8>, Option<String>), String> {
+pub fn transcript_of(program: &str, script: &[u8]) -> Result<(Vec<u8>, Option<String>), String> {
     let mut words = program.split(' ');
     let mut child = Command::new(words.next().unwrap_or_default())
         .args(words)

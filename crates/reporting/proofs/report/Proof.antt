@@ -16,12 +16,17 @@ use Rattle.reporting.proofs.report.Statement.{statement}
 use Rattle.reporting.proofs.report.Tie as tie
 
 returns : tie.Need-returns
-returns c = let c6 = c .before .before .before .before .before .before in let c7 = c6 .before in let c8 = c7 .before in let c11 = c8 .before .before .before in let a = c11 .args in
-    let d = c7 .deliver in
+returns c =
+    let c7 = c .before .before .before .before .before .before .before in
+    let c8 = c7 .before in
+    let c9 = c8 .before in
+    let c12 = c9 .before .before .before in
+    let a = c12 .args in
+    let d = c8 .deliver in
     let put = c .before .before .put-report .ensures in
-    let behind = c6 .detail .ensures in
-    let s = shows-report (a .edition) (a .text .now) (a .out .now) (d .result .number) (d .result .place) (d .result .acknowledged) (d .result .next) _ _ (c11 .pre) (put .1 .1)
-    (subst (λ (m : Meter). DeliveredAs m (a .text .now) (d .result .number) (d .result .place) (d .result .acknowledged) (d .result .next)) (c8 .opened .ensures) (d .ensures))
+    let behind = c7 .detail .ensures in
+    let s = shows-report (a .edition) (a .text .now) (a .out .now) (d .result .number) (d .result .place) (d .result .acknowledged) (d .result .next) _ _ (c12 .pre) (put .1 .1)
+    (subst (λ (m : Meter). DeliveredAs m (a .text .now) (d .result .number) (d .result .place) (d .result .acknowledged) (d .result .next)) (c9 .opened .ensures) (d .ensures))
     (put .0 ∙ ap (λ (n : ℕ). length (numberLine (d .result .number) n) + tablesIn (d .result .next .registers) * 25) behind)
     (put .1 .0 ∙ ap (λ (n : ℕ). stored (a .out .now) 0 (numberLine (d .result .number) n ++ rowLines (tablesIn (d .result .next .registers)) (d .result .next .registers .tables))) behind) in
     (s, begun (a .out .now) (s .shown) _ (s .long) _ (s .held))

@@ -323,7 +323,8 @@ fn broken(chance: &mut Chance) -> Meter {
         meter = holding(meter, &frame[..frame.len() - 1], true);
     }
     let odd = chance.byte();
-    match chance.below(22) {
+    match chance.below(30) {
+        22..=29 => meter.mark = 2,
         20 => meter.link = chance.one_of(&[0, 3, odd]),
         21 => meter.speed = 5 - meter.speed,
         0 => meter.mode = odd,

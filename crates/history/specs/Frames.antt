@@ -1,0 +1,106 @@
+-- What a whole frame says: it is compared with the frame that the rules build.
+use mathlib.Core.Bool.{Bool, true, false, cond, _&&_, _||_}
+use mathlib.Core.List.{List, [], _∷_, map}
+use Prim.Native.Nat.{ℕ, _-_}
+use lib.Dec.{eqb}
+use lib.ListN.{length, take, drop}
+use Rattle.line.specs.Characters.{seven}
+use Rattle.line.specs.Quoted.{chars}
+use Rattle.line.specs.Runs.{every}
+use Rattle.text.specs.Classes.{isPrintable, sameText}
+use Rattle.text.specs.Layout.{fits}
+use Rattle.clock.specs.Seconds.{realClock}
+use Rattle.clock.specs.declared.Clock.{Clock}
+use Rattle.values.specs.Edition.{editionTables}
+use Rattle.values.specs.Registers.{goodAccount, goodRow, goodTable}
+use Rattle.values.specs.Reading.{clockRead, tableRead}
+use Rattle.frames.specs.Frames.{frameOf, bareFrame}
+use Rattle.frames.specs.Commands.{B0, P1, R1, W1, askClock, askSerial, askAccount, askEnergy, setClock, setAccount, setTable}
+use Rattle.frames.specs.Session.{enterData}
+use Rattle.history.specs.Saying.{says}
+
+-- what stands behind SOH, two letters and STX, and before ETX and BCC
+unfoldable pub dataIn : List ℕ → List ℕ
+dataIn frame = take (length frame - 6) (drop 4 (map seven frame))
+
+-- whole, undamaged and correctly checked: it is the frame of this command with its own data, which is printable
+unfoldable pub isFrame : List ℕ → List ℕ → Bool
+isFrame command frame = says frame (frameOf command (dataIn frame)) && every isPrintable (dataIn frame)
+
+-- B0
+unfoldable pub leaves : List ℕ → Bool
+leaves frame = says frame (bareFrame B0)
+
+-- P1 with (), P1 with eight digits in brackets, and these digits
+unfoldable pub enters : List ℕ → Bool
+enters frame = isFrame P1 frame && sameText (dataIn frame) enterData
+
+unfoldable pub tries : List ℕ → Bool
+tries frame = isFrame P1 frame && fits (chars "(########)") (dataIn frame)
+
+abbrev pub passwordIn : List ℕ → List ℕ
+passwordIn frame = take 8 (drop 1 (dataIn frame))
+
+-- the writes of document 01: the clock, the account, the row of a table
+pub data Write : Type 0 where
+  clock : Clock → Write
+  account : List ℕ → Write
+  row : ℕ → List ℕ → Write
+
+unfoldable pub goodWrite : Write → Bool
+goodWrite (clock c) = realClock c
+goodWrite (account a) = goodAccount a
+goodWrite (row n r) = goodTable editionTables n && goodRow r
+
+unfoldable pub writeData : Write → List ℕ
+writeData (clock c) = setClock c
+writeData (account a) = setAccount a
+writeData (row n r) = setTable n r
+
+-- data is just what the rules write for this write, and its fields are good
+unfoldable pub tells : List ℕ → Write → Bool
+tells d w = goodWrite w && sameText d (writeData w)
+
+-- what stands between the brackets behind a letter
+unfoldable pub inside : List ℕ → List ℕ
+inside d = take (length d - 3) (drop 2 d)
+
+-- what the write would be, by the place where each field stands
+abbrev pub clockHere : List ℕ → Write
+clockHere d = clock (clockRead (inside d) .clock)
+
+abbrev pub accountHere : List ℕ → Write
+accountHere d = account (inside d)
+
+abbrev pub rowHere : List ℕ → Write
+rowHere d = row (tableRead editionTables (take 2 (inside d)) .table .0) (drop 3 (inside d))
+
+-- the write that data tells, if it tells one
+unfoldable pub writeOf : List ℕ → List Write
+writeOf d =
+    cond (tells d (clockHere d)) (clockHere d ∷ [])
+    (cond (tells d (accountHere d)) (accountHere d ∷ [])
+    (cond (tells d (rowHere d)) (rowHere d ∷ []) []))
+
+-- W1
+unfoldable pub writeIn : List ℕ → List Write
+writeIn frame = cond (isFrame W1 frame) (writeOf (dataIn frame)) []
+
+-- there is one
+unfoldable pub someWrite : List Write → Bool
+someWrite [] = false
+someWrite (w ∷ ws) = true
+
+-- R1 with what may be asked: T(), L(), K(), E0() to E4(), Z(xx)
+unfoldable pub isAsk : List ℕ → Bool
+isAsk d =
+    sameText d askClock || (sameText d askSerial || (sameText d askAccount
+    || (sameText d (askEnergy 0) || (sameText d (askEnergy 1) || (sameText d (askEnergy 2) || (sameText d (askEnergy 3) || (sameText d (askEnergy 4)
+    || (fits (chars "Z(##)") d && tableRead editionTables (take 2 (drop 2 d)) .ok))))))))
+
+unfoldable pub asks : List ℕ → Bool
+asks frame = isFrame R1 frame && isAsk (dataIn frame)
+
+-- a frame that is taken in modes 3 and 4: a question in either, a write in mode 4
+unfoldable pub isTaken : ℕ → List ℕ → Bool
+isTaken mode frame = asks frame || (eqb mode 4 && someWrite (writeIn frame))

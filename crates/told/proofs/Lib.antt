@@ -1,0 +1,12 @@
+pub mod Holding
+pub mod Lines
+pub mod Listening
+pub mod Confirming
+pub mod Frames
+pub mod Writes
+pub mod Framing
+pub mod Registers
+pub mod Told
+pub mod Rows
+pub mod Corollaries
+pub mod Exactly

@@ -1,0 +1,26 @@
+-- What one deed does to the registers: the same steps as in `history`, one at a time.
+use mathlib.Core.List.{List, [], _∷_}
+use Rattle.state.specs.declared.Registers.{Registers}
+use Rattle.state.specs.Setting.{withClock, withAccount, withTables, withCounters, withRow}
+use Rattle.state.specs.Closing.{closing}
+use Rattle.tariff.specs.Zones.{counted}
+use Rattle.tariff.specs.Months.{secondLater}
+use Rattle.history.specs.Frames.{Write, clock, account, row}
+use Rattle.history.specs.Deeds.{Deed, wrote, second, energy, closed}
+use Rattle.history.specs.Told.{zoneAt}
+
+unfoldable pub written : Write → Registers → Registers
+written (clock c) g = withClock g c
+written (account a) g = withAccount g a
+written (row n r) g = withTables g (withRow (g .tables) n r)
+
+unfoldable pub done : Deed → Registers → Registers
+done (wrote w) g = written w g
+done second g = secondLater g
+done (energy wh) g = withCounters g (counted (g .counters) (zoneAt (g .tables) (g .clock)) wh)
+done closed g = closing g
+
+-- the newest first
+unfoldable pub doneAll : List Deed → Registers → Registers
+doneAll [] g = g
+doneAll (d ∷ ds) g = done d (doneAll ds g)

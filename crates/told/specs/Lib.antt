@@ -1,0 +1,4 @@
+pub mod Doing
+pub mod Claims
+pub mod Corollaries
+pub mod Exactly
