@@ -6,14 +6,13 @@ ghost use Prim.Native.Nat.{_+_, _*_, _≤_};
 ghost use lib.ListN.{length, take};
 ghost use Rattle.text.specs.Writing.{stored};
 ghost use Rattle.numerals.specs.Numerals.{numberLine};
-ghost use Rattle.state.specs.WellFormed.{tablesIn};
 ghost use Rattle.reporting.specs.Report.{newMeter, openedMeter, rowLines, detail, ShowsReport};
 use clock::Clock;
 use clock::Date;
 use clock::Time;
+use state::ALL_ROWS;
 use state::Facts;
 use state::Meter;
-use state::Registers;
 
 // What is said: 1 or 20, and how many bytes of the buffer are to be written.
 pub struct Said {
@@ -88,16 +87,19 @@ fn put_rows(out: &mut [u8], at: usize, rows: &[u8], tables: usize) -> usize
 }
 
 // The line of the answer and the rows below it.
-fn put_report(out: &mut [u8], number: u8, behind: usize, g: Registers) -> usize
-    requires { ⌜ 667 ≤ length (now out) ⌝ }
-    ensures next { λ r. ⌜ r ≡ length (numberLine number behind) + tablesIn g * 25 ⌝ }
-    ensures held { λ _. ⌜ now (out .exit) ≡ stored (now (out .entry)) 0 (numberLine number behind ++ rowLines (tablesIn g) (g .tables)) ⌝ }
-    ensures all { λ _. ⌜ length (g .tables) ≡ 600 ⌝ }
+fn put_report(
+    out: &mut [u8],
+    number: u8,
+    behind: usize,
+    rows: [u8; ALL_ROWS],
+    tables: usize,
+) -> usize
+    requires { ⌜ (667 ≤ length (now out)) × (tables ≤ 25) ⌝ }
+    ensures next { λ r. ⌜ r ≡ length (numberLine number behind) + tables * 25 ⌝ }
+    ensures held { λ _. ⌜ now (out .exit) ≡ stored (now (out .entry)) 0 (numberLine number behind ++ rowLines tables rows) ⌝ }
+    ensures all { λ _. ⌜ length rows ≡ 600 ⌝ }
 {
-    let f = g.facts;
-    let tables = values::tables_of(f.edition) as usize;
     let at = numerals::put_line(out, 0, number as u64, behind as u64);
-    let rows = g.tables;
     put_rows(out, at, &rows, tables)
 }
 
@@ -111,6 +113,9 @@ pub fn report(edition: u8, text: &[u8], out: &mut [u8]) -> Said
     let behind = detail(number, delivered.place, delivered.acknowledged);
     let next = delivered.next;
     let registers = next.registers;
-    let length = put_report(out, number, behind, registers);
+    let facts = registers.facts;
+    let tables = values::tables_of(facts.edition) as usize;
+    let rows = registers.tables;
+    let length = put_report(out, number, behind, rows, tables);
     Said { number, length }
 }
