@@ -202,15 +202,7 @@ fn open_post(
         return refuse(30, 0);
     }
     begin(
-        edition,
-        named,
-        serial,
-        access,
-        password,
-        kind,
-        lines,
-        true,
-        buf,
+        edition, named, serial, access, password, kind, lines, true, buf,
     )
 }
 
@@ -234,7 +226,9 @@ pub fn start(
         return refuse(commands::SHORT, 0);
     }
     if kind == 0 {
-        return open_reads(edition, named, serial, access, password, kind, work, buf);
+        return open_reads(
+            edition, named, serial, access, password, kind, work, buf,
+        );
     }
     if kind != 1 {
         return refuse(commands::FIELD, 0);
