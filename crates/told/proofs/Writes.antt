@@ -64,7 +64,7 @@ enclosed-text letter d h =
 
 pub data Tells (tables : ℕ) (d : List ℕ) : Verdict → Type 0 where
   the-clock : (c : Clock) → realClock c ≡ true → d ≡ setClock c → Tells tables d (WriteClock c)
-  the-account : goodAccount (inner d) ≡ true → d ≡ setAccount (inner d) → Tells d WriteAccount
+  the-account : goodAccount (inner d) ≡ true → d ≡ setAccount (inner d) → Tells tables d WriteAccount
   the-row : (t : TableNo) → goodTable tables (t .0) ≡ true → goodRow (drop 3 (inner d)) ≡ true → d ≡ setTable (t .0) (drop 3 (inner d)) → Tells tables d (WriteTable t)
   nothing : Tells tables d (Refuse 9)
 

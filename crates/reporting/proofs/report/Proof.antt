@@ -16,8 +16,8 @@ use Rattle.reporting.proofs.report.Tie as tie
 
 put-report-requires : tie.Need-put-report-requires
 put-report-requires c κs =
-    let c3 = c .before .before .before in
-    (c3 .before .before .before .before .before .before .before .before .before .pre, c3 .tables-of .ensures .1 .1)
+    let c2 = c .before .before in
+    (c2 .before .before .before .before .before .before .before .before .before .pre, c2 .tables-of .ensures .1 .1)
 
 returns : tie.Need-returns
 returns c =
