@@ -38,4 +38,4 @@ returns c =
     (s, begun (a .out .now) (s .shown) _ (s .long) _ (s .held))
 
 pub report-spec : {M : Type 1} → statement M
-report-spec = tie.close (tie.spec (λ c κs. search needs) (λ c κs. search needs) (λ c κs. search needs) (λ c κs. search needs) put-report-requires (λ c. search needs) returns)
+report-spec = tie.close (tie.spec (λ c κs. search needs) (λ c κs. search needs) (λ c κs. search needs) (λ c κs. search needs) (λ c. search needs) put-report-requires (λ c. search needs) returns)
