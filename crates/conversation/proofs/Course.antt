@@ -244,7 +244,7 @@ module _ (s : Session) (work : List ℕ) (a mode b : ℕ) (g : ℕ → Registers
   same-at (suc (suc zero)) = goes .edition 0
   same-at (suc (suc (suc i))) = go (leb i (s .count))
     where
-      go : (p : Bool) → s .edition ≡ editionOf (cond p (idle mode b 5 (g i)) (idle 0 b 0 (g (s .count))))
+      go : (p : Bool) → s .edition ≡ editionOf (cond p (idle mode b 5 (g i)) (idle 0 b (resting (g (s .count))) (g (s .count))))
       go true = goes .edition i
       go false = goes .edition (s .count)
 

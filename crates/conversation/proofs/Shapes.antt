@@ -180,7 +180,7 @@ shaped tables mode close h k =
     (record { first = 47; inside = 67 ∷ 33 ∷ 13 ∷ []; last = 10; is = refl; opens-none = all-mild mode (67 ∷ 33 ∷ 13 ∷ []) (unfold every mild in refl) })
 shaped tables mode (callTo s) h k = shape-to mode s h
 shaped tables mode (callWired s) h k = shape-wired mode s h
-shaped mode (confirm v y) h k = shape-confirm mode v y (and-left (goodSpeed v) (goodChoice y) h) (and-right (goodSpeed v) (goodChoice y) h)
+shaped tables mode (confirm v y) h k = shape-confirm mode v y (and-left (goodSpeed v) (goodChoice y) h) (and-right (goodSpeed v) (goodChoice y) h)
 shaped tables mode (command c) h k = shape-command tables mode c h k
 shaped tables mode leave h k =
     unfold bareFrame closed in

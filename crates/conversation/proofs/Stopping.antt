@@ -78,7 +78,7 @@ module _ (t : Told) (work : List ℕ) (o : Opening) (count : ℕ) (began : Began
   same-at (suc (suc zero)) = same-edition
   same-at (suc (suc (suc i))) = go (leb i (s .count))
     where
-      go : (p : Bool) → s .edition ≡ editionOf (cond p (idle 3 a 5 g) (idle 0 a 0 g))
+      go : (p : Bool) → s .edition ≡ editionOf (cond p (idle 3 a 5 g) (idle 0 a (resting g) g))
       go true = same-edition
       go false = same-edition
 
