@@ -24,6 +24,7 @@ extern "C" {
 #define DIRGEMIST_HEAD_END 0         /* no more data sets; the reader stays */
 #define DIRGEMIST_HEAD_DONE 1        /* built, stripped, found or read */
 #define DIRGEMIST_HEAD_FIELD 9       /* a field outside its rule; nothing written */
+#define DIRGEMIST_HEAD_NO_EDITION 16 /* an edition that there is not; before all others, nothing written */
 #define DIRGEMIST_HEAD_NO_ROOM 19    /* a command buffer under DIRGEMIST_HEAD_COMMAND_ROOM; nothing written */
 #define DIRGEMIST_HEAD_NO_BLOCK 22   /* not STX .. ETX and one character */
 #define DIRGEMIST_HEAD_WRONG_BCC 23  /* a block whose BCC does not fit */
@@ -79,8 +80,9 @@ uint8_t dirgemist_head_read_total(uint8_t *out, dirgemist_size out_length, dirge
 /* R1 `En()`: asks for a zone's energy. The zone is 1 to 4. */
 uint8_t dirgemist_head_read_zone(uint8_t zone, uint8_t *out, dirgemist_size out_length, dirgemist_size *length);
 
-/* R1 `Z(xx)`: asks for a table. The table is 1 to 24. */
-uint8_t dirgemist_head_read_table(uint8_t table, uint8_t *out, dirgemist_size out_length, dirgemist_size *length);
+/* R1 `Z(xx)`: asks a meter of an edition for a table. The table is 1 to 24, and to 25 for edition 2; an edition that is neither 1 nor
+ * 2 is DIRGEMIST_HEAD_NO_EDITION, before all others. */
+uint8_t dirgemist_head_read_table(uint8_t edition, uint8_t table, uint8_t *out, dirgemist_size out_length, dirgemist_size *length);
 
 /* W1 `T(dd-mm-yyyy;hh:nn:ss)`: sets the clock. It is a real date in 2000 to 2099 with a time of day. */
 uint8_t dirgemist_head_write_clock(uint16_t year, uint8_t month, uint8_t day, uint8_t hour, uint8_t minute, uint8_t second, uint8_t *out, dirgemist_size out_length, dirgemist_size *length);
@@ -88,8 +90,8 @@ uint8_t dirgemist_head_write_clock(uint16_t year, uint8_t month, uint8_t day, ui
 /* W1 `K(account)`: sets the account. It is ten letters, digits, spaces or underscores. */
 uint8_t dirgemist_head_write_account(const uint8_t *account, dirgemist_size account_length, uint8_t *out, dirgemist_size out_length, dirgemist_size *length);
 
-/* W1 `Z(xx;row)`: sets a table. The table is 1 to 24, the row 24 characters '1' to '4'. */
-uint8_t dirgemist_head_write_table(uint8_t table, const uint8_t *row, dirgemist_size row_length, uint8_t *out, dirgemist_size out_length, dirgemist_size *length);
+/* W1 `Z(xx;row)`: sets a table of a meter of an edition. Edition and table are as above, the row is 24 characters '1' to '4'. */
+uint8_t dirgemist_head_write_table(uint8_t edition, uint8_t table, const uint8_t *row, dirgemist_size row_length, uint8_t *out, dirgemist_size out_length, dirgemist_size *length);
 
 /* B0: ends the session. */
 uint8_t dirgemist_head_sign_off(uint8_t *out, dirgemist_size out_length, dirgemist_size *length);

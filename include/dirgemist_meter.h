@@ -5,8 +5,8 @@
  * meter replies. Every call takes the record where it lies and leaves the next state there.
  *
  * The record may lie anywhere and may be kept, copied or stored as it is. Every field is a number,
- * and any bytes at all may stand there: each call tells a record that is not well-formed by 14 and
- * leaves it as it was, so a record that comes back from flash needs no test of its own.
+ * and any bytes at all may stand there: each call tells a record that is not well-formed by 14, or
+ * 16, and leaves it as it was, so a record that comes back from flash needs no test of its own.
  * The functions keep nothing between calls: two meters may be served from two threads at once.
  * Each is proved, for all records, numbers and buffers, to do what its paragraph says. Pointers
  * must not be null, and what they point to must not overlap.
@@ -85,7 +85,7 @@ struct dirgemist_archive {
     uint8_t count;
 };
 
-/* What a meter has for life: texts without an end mark; the edition, 1; the link, 1 (optical) or 2
+/* What a meter has for life: texts without an end mark; the edition, 1 or 2; the link, 1 (optical) or 2
  * (wired); the decimals of its family, 0. */
 struct dirgemist_facts {
     uint8_t serial[10];
@@ -95,13 +95,14 @@ struct dirgemist_facts {
     uint8_t decimals;
 };
 
-/* Texts without an end mark; the tables are 24 rows of 24 characters '1' to '4'. */
+/* Texts without an end mark; the tables are 24 rows of 24 characters '1' to '4', and of edition 2 25 rows. The 25th row of an
+ * edition 1 meter is 24 bytes of 0, or the record is not well-formed. */
 struct dirgemist_registers {
     struct dirgemist_facts facts;
     uint8_t account[10];
     struct dirgemist_clock clock;
     struct dirgemist_counters counters;
-    uint8_t tables[576];
+    uint8_t tables[600];
     struct dirgemist_archive archive;
 };
 
@@ -166,14 +167,14 @@ DIRGEMIST_AT(dirgemist_registers, account, 21);
 DIRGEMIST_AT(dirgemist_registers, clock, 32);
 DIRGEMIST_AT(dirgemist_registers, counters, 40);
 DIRGEMIST_AT(dirgemist_registers, tables, 60);
-DIRGEMIST_AT(dirgemist_registers, archive, 636);
-DIRGEMIST_SIZED(dirgemist_registers, 928);
+DIRGEMIST_AT(dirgemist_registers, archive, 660);
+DIRGEMIST_SIZED(dirgemist_registers, 952);
 DIRGEMIST_AT(dirgemist_meter, mode, 0);
 DIRGEMIST_AT(dirgemist_meter, attempts, 1);
 DIRGEMIST_AT(dirgemist_meter, speed, 2);
 DIRGEMIST_AT(dirgemist_meter, receiver, 3);
 DIRGEMIST_AT(dirgemist_meter, registers, 72);
-DIRGEMIST_SIZED(dirgemist_meter, 1000);
+DIRGEMIST_SIZED(dirgemist_meter, 1024);
 
 /* The numbers returned.
  *    0  taken, and nothing to say
@@ -193,9 +194,10 @@ DIRGEMIST_SIZED(dirgemist_meter, 1000);
  *   13  a pulse of more than 1,000,000 Wh
  *   14  the record is not well-formed
  *   15  the facts that a meter is to be made from are bad
+ *   16  the record's edition is neither 1 nor 2
  *   99  no such event
- * 12, 13, 14 and 99 leave every byte of the record and of the buffer as it was. The order of the
- * tests is 99, 13, 12, 14. */
+ * 12, 13, 14, 16 and 99 leave every byte of the record and of the buffer as it was. The order of
+ * the tests is 16, 99, 13, 12, 14. */
 #define DIRGEMIST_NO_EVENT 99
 
 /* What can happen, and what the value beside it is. */
@@ -219,10 +221,10 @@ uint8_t dirgemist_meter_make(struct dirgemist_meter *meter, const uint8_t *seria
                              uint8_t day, uint8_t hour, uint8_t minute, uint8_t second,
                              uint8_t edition, uint8_t link, uint8_t decimals);
 
-/* Whether the record is well-formed: 1, or 14. It is only read. */
+/* Whether the record is well-formed: 1, 16 for an edition that is none, or 14. It is only read. */
 uint8_t dirgemist_meter_check(const struct dirgemist_meter *meter);
 
-/* The total for a display: 1, and *total is what the record keeps; or 14, and *total is 0. The record
+/* The total for a display: 1, and *total is what the record keeps; or 16 or 14, and *total is 0. The record
  * is only read, and nothing is added up but for the test that it is well-formed. */
 uint8_t dirgemist_meter_total(const struct dirgemist_meter *meter, uint32_t *total);
 
@@ -231,8 +233,8 @@ uint8_t dirgemist_meter_total(const struct dirgemist_meter *meter, uint32_t *tot
  * number and *speed the speed identifier, 0 (300 baud) or 5 (9600): the reply's where there is one,
  * else that of the next state. Every byte of reply past them is as it was. With 3 *place is that of
  * the first damaged character of the frame, its SOH being at 0 and its BCC behind the last held one;
- * with any other number it is 0. *length, *speed and *place are always written; with 12, 13, 14 and
- * 99 they are 0.
+ * with any other number it is 0. *length, *speed and *place are always written; with 12, 13, 14,
+ * 16 and 99 they are 0.
  * A tick, a pulse and power-up have no reply and take any room, none too; where room is 0, reply is
  * never read or written through. A kind that is none of the five, or a character over 255, gives
  * 99. */

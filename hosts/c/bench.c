@@ -105,6 +105,7 @@ static const struct field state[] = {
     STATE(BYTES, "TABLES", registers.tables),
     STATE(NUMBER, "SPEED", speed),
     STATE(NUMBER, "PLACE", receiver.place),
+    STATE(NUMBER, "EDITION", registers.facts.edition),
     STATE(NUMBER, "TOTAL", registers.counters.total),
     STATE(NUMBER, "PERIODS", registers.archive.count),
     PERIOD(0),

@@ -1,12 +1,13 @@
 /* cardlink.c: reads and writes settings cards as a host does, in memory of its exact size, and tries
- * fixed cases of request [11]. Prints one line, and exits with 1 on any difference. */
+ * fixed cases of request [11], for both editions. Prints one line, and exits with 1 on any difference. */
 #include "exactly.h"
 
 #include "dirgemist_card.h"
 
 #include <stdio.h>
 
-#define TABLES 24
+static uint8_t edition;
+static int most; /* the tables of that edition */
 
 static int wrong = 0;
 static int texts = 0;
@@ -59,10 +60,10 @@ static void try_text(const char *what, const void *text, size_t text_length, siz
     memset(out, 0x5A, room);
     texts++;
     size_t got_place = 99, got_length = 99;
-    uint8_t got = dirgemist_card_check(own, text_length, &got_place);
+    uint8_t got = dirgemist_card_check(edition, own, text_length, &got_place);
     uint8_t no = DIRGEMIST_CARD_NOT_A_CARD;
     expect(got == (number == no ? no : DIRGEMIST_CARD_DONE) && got_place == place, what);
-    got = dirgemist_card_read(own, text_length, out, room, &got_length, &got_place);
+    got = dirgemist_card_read(edition, own, text_length, out, room, &got_length, &got_place);
     expect(got == number && got_length == length && got_place == place, what);
     expect(length == 0 || memcmp(out, frames, length) == 0, what);
     for (size_t at = length; at < room; at++) {
@@ -76,19 +77,20 @@ static void try_text(const char *what, const void *text, size_t text_length, siz
 static void try_meter(void) {
     struct dirgemist_meter meter;
     dirgemist_meter_make(&meter, (const uint8_t *)"0123456789", 10, (const uint8_t *)"STUDIO_7  ", 10,
-                         (const uint8_t *)"00000000", 8, 2024, 2, 29, 12, 0, 0, 1, 1, 0);
-    uint8_t card[DIRGEMIST_CARD_LONGEST];
-    expect(card_of(card, TABLES) == sizeof card, "the longest card");
-    for (size_t room = 0; room <= sizeof card + 2; room++) {
+                         (const uint8_t *)"00000000", 8, 2024, 2, 29, 12, 0, 0, edition, 1, 0);
+    uint8_t card[DIRGEMIST_CARD_LONGEST_2];
+    size_t whole = card_of(card, most);
+    expect(whole == (edition == 2 ? DIRGEMIST_CARD_LONGEST_2 : DIRGEMIST_CARD_LONGEST), "the longest card");
+    for (size_t room = 0; room <= whole + 2; room++) {
         uint8_t *out = exactly(room);
         memset(out, 0x5A, room);
         texts++;
         size_t length = 99;
         uint8_t got = dirgemist_card_write(&meter, out, room, &length);
-        int fits = room >= sizeof card;
+        int fits = room >= whole;
         expect(got == (fits ? DIRGEMIST_CARD_DONE : DIRGEMIST_CARD_NO_ROOM), "a meter's card");
-        expect(length == (fits ? sizeof card : 0), "a meter's card: the length");
-        expect(!fits || memcmp(out, card, sizeof card) == 0, "a meter's card: its bytes");
+        expect(length == (fits ? whole : 0), "a meter's card: the length");
+        expect(!fits || memcmp(out, card, whole) == 0, "a meter's card: its bytes");
         for (size_t at = length; at < room; at++) {
             expect(out[at] == 0x5A, "a meter's card: the rest of the buffer");
         }
@@ -99,12 +101,29 @@ static void try_meter(void) {
     uint8_t out[1] = {0x5A};
     expect(dirgemist_card_write(&meter, out, 1, &length) == DIRGEMIST_CARD_MALFORMED, "malformed, before no room");
     expect(length == 0 && out[0] == 0x5A, "malformed: nothing written");
+    meter.registers.facts.edition = 3;
+    expect(dirgemist_card_write(&meter, out, 1, &length) == DIRGEMIST_CARD_NO_EDITION, "no edition, before malformed");
+    expect(length == 0 && out[0] == 0x5A, "no edition: nothing written");
 }
 
-int main(void) {
+/* 16 before all else, whatever the text and the room. */
+static void try_none(uint8_t number) {
+    size_t place = 99, length = 99;
+    uint8_t out[1] = {0x5A};
+    texts++;
+    expect(dirgemist_card_check(number, (const uint8_t *)"x", 1, &place) == DIRGEMIST_CARD_NO_EDITION && place == 0, "no edition");
+    place = 99;
+    uint8_t got = dirgemist_card_read(number, (const uint8_t *)"x", 1, out, 1, &length, &place);
+    expect(got == DIRGEMIST_CARD_NO_EDITION && length == 0 && place == 0 && out[0] == 0x5A, "no edition to read for");
+}
+
+/* The texts for one edition. */
+static void try_edition(uint8_t number) {
+    edition = number;
+    most = number == 2 ? 25 : 24;
     uint8_t text[1024], frames[1024];
-    frames_of(frames, TABLES);
-    for (int tables = 0; tables <= TABLES; tables++) {
+    frames_of(frames, most);
+    for (int tables = 0; tables <= most; tables++) {
         size_t length = card_of(text, tables), size = 19 + 36 * (size_t)tables;
         try_text("a card", text, length, size, DIRGEMIST_CARD_DONE, size, 0, frames);
         try_text("a card, more room", text, length, size + 5, DIRGEMIST_CARD_DONE, size, 0, frames);
@@ -112,13 +131,13 @@ int main(void) {
         text[length] = 1;
         try_text("a second account", text, length + 1, size, DIRGEMIST_CARD_NOT_A_CARD, 0, length, frames);
     }
-    size_t all = card_of(text, TABLES);
+    size_t all = card_of(text, most);
     text[all] = 2;
     try_text("a table behind the last", text, all + 1, 2000, DIRGEMIST_CARD_NOT_A_CARD, 0, all, frames);
     for (size_t cut = 0; cut < all; cut++) {
         int whole = cut >= 13 && (cut - 13) % 28 == 0;
         size_t size = whole ? 19 + 36 * ((cut - 13) / 28) : 0;
-        try_text("a beginning", text, cut, 900, whole ? DIRGEMIST_CARD_DONE : DIRGEMIST_CARD_NOT_A_CARD, size, whole ? 0 : cut, frames);
+        try_text("a beginning", text, cut, 919, whole ? DIRGEMIST_CARD_DONE : DIRGEMIST_CARD_NOT_A_CARD, size, whole ? 0 : cut, frames);
     }
     card_of(text, 2);
     text[1] = 10, text[2] = 0;
@@ -129,6 +148,16 @@ int main(void) {
     card_of(text, 1);
     try_text("a length for more than there is", text, 30, 0, DIRGEMIST_CARD_NOT_A_CARD, 0, 30, frames);
     try_meter();
+}
+
+int main(void) {
+    for (unsigned number = 0; number <= 255; number++) {
+        if (number == 1 || number == 2) {
+            try_edition((uint8_t)number);
+        } else {
+            try_none((uint8_t)number);
+        }
+    }
     printf("cardlink: %d texts and records\n", texts);
     return wrong;
 }

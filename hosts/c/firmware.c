@@ -21,6 +21,14 @@ static void expect(int right, const char *what) {
     wrong |= !right;
 }
 
+static int all_within(const uint8_t *bytes, size_t count, uint8_t least, uint8_t most) {
+    int within = 1;
+    for (size_t at = 0; at < count; at++) {
+        within &= least <= bytes[at] && bytes[at] <= most;
+    }
+    return within;
+}
+
 static uint8_t with_parity(uint8_t character) {
     return (uint8_t)(character | (__builtin_parity(character) << 7));
 }
@@ -105,15 +113,15 @@ static void say(struct dirgemist_meter *meter, const char *what, const char *mes
     say(meter, what, message, sizeof(message) - 1, number, answer, sizeof(answer) - 1, speed)
 
 /* A meter from these facts; the texts are memory that ends where its length says. */
-static uint8_t make(struct dirgemist_meter *meter, const char *serial, const char *account,
-                    const char *password, uint16_t year, uint8_t month, uint8_t day, uint8_t hour,
-                    uint8_t minute, uint8_t second) {
+static uint8_t make_for(struct dirgemist_meter *meter, const char *serial, const char *account,
+                        const char *password, uint16_t year, uint8_t month, uint8_t day, uint8_t hour,
+                        uint8_t minute, uint8_t second, uint8_t edition) {
     size_t lengths[3] = {strlen(serial), strlen(account), strlen(password)};
     const uint8_t *texts[3] = {lent(serial, lengths[0]), lent(account, lengths[1]),
                                lent(password, lengths[2])};
     memset(meter, 0x5A, sizeof *meter);
     uint8_t number = dirgemist_meter_make(meter, texts[0], lengths[0], texts[1], lengths[1], texts[2],
-                                          lengths[2], year, month, day, hour, minute, second, 1, 1, 0);
+                                          lengths[2], year, month, day, hour, minute, second, edition, 1, 0);
     for (int i = 0; i < 3; i++) {
         give_back(texts[i], lengths[i]);
     }
@@ -121,12 +129,18 @@ static uint8_t make(struct dirgemist_meter *meter, const char *serial, const cha
     return number;
 }
 
+static uint8_t make(struct dirgemist_meter *meter, const char *serial, const char *account,
+                    const char *password, uint16_t year, uint8_t month, uint8_t day, uint8_t hour,
+                    uint8_t minute, uint8_t second) {
+    return make_for(meter, serial, account, password, year, month, day, hour, minute, second, 1);
+}
+
 static void makes(struct dirgemist_meter *meter) {
     struct dirgemist_meter blank = {0};
     memset(blank.registers.facts.serial, '0', sizeof blank.registers.facts.serial);
     memset(blank.registers.account, ' ', sizeof blank.registers.account);
     memset(blank.registers.facts.password, '0', sizeof blank.registers.facts.password);
-    memset(blank.registers.tables, '1', sizeof blank.registers.tables);
+    memset(blank.registers.tables, '1', 24 * 24); /* and 0 behind them: edition 1 has no table 25 */
     blank.registers.facts.edition = blank.registers.facts.link = 1;
     blank.registers.clock.date = (struct dirgemist_date){2000, 1, 1};
 
@@ -433,19 +447,77 @@ static void refuses(struct dirgemist_meter *meter) {
     expect(meter->receiver.count == 1, "one character");
 }
 
+/* 16 before all else: before a malformed record, no room, a pulse of too much and an unknown kind. */
+static void refuses_editions(struct dirgemist_meter *meter) {
+    for (int number = 0; number < 256; number++) {
+        struct dirgemist_meter kept = *meter;
+        meter->registers.facts.edition = (uint8_t)number;
+        meter->attempts = 4;
+        if (number != 1 && number != 2) {
+            expect(dirgemist_meter_check(meter) == 16, "the check of an edition that is none");
+            *total = 99;
+            expect(dirgemist_meter_total(meter, total) == 16 && *total == 0, "its total");
+            for (int kind = 0; kind < 256; kind++) {
+                refused(meter, (uint8_t)kind, 47, ROOM, 16, "an edition that is none");
+                refused(meter, (uint8_t)kind, 1000001, 0, 16, "an edition that is none, without room");
+            }
+        }
+        memcpy(meter, &kept, sizeof kept);
+    }
+    /* the unused row of edition 1 is 0, and edition 2 uses it */
+    meter->registers.tables[24 * 24 + 7] = '1';
+    refused(meter, DIRGEMIST_TICK, 0, 0, 14, "edition 1 with a character of a 25th row");
+    memset(meter->registers.tables + 24 * 24, '1', 24);
+    meter->registers.facts.edition = 2;
+    expect(dirgemist_meter_check(meter) == 1, "edition 2 with 25 rows");
+    meter->registers.tables[24 * 24 + 7] = 0;
+    refused(meter, DIRGEMIST_TICK, 0, 0, 14, "edition 2 with a row of less");
+    memset(meter->registers.tables + 24 * 24, 0, 24);
+    meter->registers.facts.edition = 1;
+}
+
+/* Edition 2: its name, table 25 on Saturdays, 12 + month on Sundays; edition 1 has no table 25. */
+static void keeps_saturdays(struct dirgemist_meter *meter) {
+    struct dirgemist_meter kept = *meter;
+    for (uint8_t edition = 1; edition <= 2; edition++) {
+        make_for(meter, "1234567890", "Kiln_7 old", "20304050", 2024, 2, 24, 23, 5, 9, edition);
+        expect(all_within(meter->registers.tables, 24 * 24, '1', '1'), "24 rows of '1'");
+        uint8_t last = edition == 2 ? '1' : 0;
+        expect(all_within(meter->registers.tables + 24 * 24, 24, last, last), "the 25th row");
+        if (edition == 1) {
+            SAY(meter, "sign-on", "/?!\r\n", 1, "/ZZZ5SUB-VP01.00*\r\n", 0);
+        } else {
+            SAY(meter, "sign-on", "/?!\r\n", 1, "/ZZZ5SUB-VP02.00*\r\n", 0);
+        }
+        meter->mode = 4;
+        meter->speed = 5;
+        struct dirgemist_meter before = *meter;
+        if (edition == 1) {
+            SAY(meter, "a table 25", "\001W1\002Z(25;222222222222222222222222)\003\000", 9, "\x15", 5);
+            expect(same(meter, &before), "refused, and nothing else changes");
+            SAY(meter, "table 25 asked for", "\001R1\002Z(25)\003>", 9, "\x15", 5);
+        } else {
+            SAY(meter, "table 25", "\001W1\002Z(25;222222222222222222222222)\003\000", 1, "\006", 5);
+            memset(before.registers.tables + 24 * 24, '2', 24);
+            expect(same(meter, &before), "row 25 and nothing else");
+            SAY(meter, "table 25 asked for", "\001R1\002Z(25)\003>", 1, "\002131.0.25(222222222222222222222222)\r\n\003\001", 5);
+        }
+        meter->mode = meter->speed = 0;
+        /* a Saturday, then the Sunday behind it */
+        expect(dirgemist_meter_pulse(meter, 7, speed) == 1, "a pulse on a Saturday");
+        expect(meter->registers.counters.zones[edition - 1] == 7, "its zone");
+        meter->registers.clock.date.day = 25;
+        expect(dirgemist_meter_pulse(meter, 11, speed) == 1, "a pulse on a Sunday");
+        expect(meter->registers.counters.zones[0] == (edition == 1 ? 18 : 11), "its zone");
+    }
+    memcpy(meter, &kept, sizeof kept);
+}
+
 static uint64_t seed = 20000101;
 
 static uint32_t any(void) {
     seed = seed * 6364136223846793005u + 1442695040888963407u;
     return (uint32_t)(seed >> 33);
-}
-
-static int all_within(const uint8_t *bytes, size_t count, uint8_t least, uint8_t most) {
-    int within = 1;
-    for (size_t at = 0; at < count; at++) {
-        within &= least <= bytes[at] && bytes[at] <= most;
-    }
-    return within;
 }
 
 /* Document 01's ranges once more. */
@@ -508,8 +580,10 @@ static int is_formed(const struct dirgemist_meter *meter) {
     return account && zones && periods && all_within(held->held, 63, 0, 127)
            && all_within(held->held + held->count, 63 - held->count, 0, 0)
            && all_within(have->facts.serial, 10, '0', '9') && all_within(have->facts.password, 8, '0', '9')
-           && have->facts.edition == 1 && (have->facts.link == 1 || have->facts.link == 2) && have->facts.decimals == 0
-           && all_within(have->tables, sizeof have->tables, '1', '4') && date->year >= 2000
+           && (have->facts.link == 1 || have->facts.link == 2) && have->facts.decimals == 0
+           && all_within(have->tables, 24 * 24, '1', '4')
+           && all_within(have->tables + 24 * 24, 24, have->facts.edition == 2 ? '1' : 0, have->facts.edition == 2 ? '4' : 0)
+           && date->year >= 2000
            && date->year <= 2099 && date->month >= 1 && date->month <= 12 && date->day >= 1
            && date->day <= days[date->month - 1] - (date->month == 2 && !leap) && time->hour <= 23
            && time->minute <= 59 && time->second <= 59;
@@ -530,7 +604,8 @@ static void takes_anything(struct dirgemist_meter *meter, long *formed) {
         memcpy(meter, bytes, sizeof made);
         memcpy(&before, bytes, sizeof made);
         uint8_t checked = dirgemist_meter_check(meter);
-        expect(checked == (is_formed(meter) ? 1 : 14), "the check's number");
+        uint8_t edition = meter->registers.facts.edition;
+        expect(checked == (edition != 1 && edition != 2 ? 16 : is_formed(meter) ? 1 : 14), "the check's number");
         uint32_t kept;
         *total = 99;
         memcpy(&kept, &before.registers.counters.total, sizeof kept);
@@ -540,8 +615,8 @@ static void takes_anything(struct dirgemist_meter *meter, long *formed) {
         uint8_t kind = (uint8_t)(any() % 5);
         uint32_t value = kind == DIRGEMIST_PULSE ? any() % 1000001 : any() % 256;
         uint8_t number = meet(meter, kind, value, ROOM);
-        if (checked == 14) {
-            expect(number == 14 && *length == 0 && *speed == 0, "a malformed record is refused");
+        if (checked != 1) {
+            expect(number == checked && *length == 0 && *speed == 0, "a malformed record is refused");
             expect(memcmp(&before, meter, sizeof before) == 0, "a malformed record comes back");
         } else {
             ++*formed;
@@ -568,6 +643,8 @@ int main(void) {
     passes(meter);
     closes(meter);
     refuses(meter);
+    refuses_editions(meter);
+    keeps_saturdays(meter);
     takes_anything(meter, &formed);
     give_back(total, sizeof *total);
     give_back(place, sizeof *place);
@@ -576,6 +653,6 @@ int main(void) {
     give_back(reply, ROOM);
     give_back(meter, sizeof *meter);
     printf("firmware in C: %ld calls, 1,000,000 records of any bytes (%ld well-formed), %s\n", calls,
-           formed, wrong ? "WRONG" : "as document 01 has them");
+           formed, wrong ? "WRONG" : "as the page has them");
     return wrong;
 }

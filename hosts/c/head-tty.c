@@ -1,10 +1,10 @@
 /* head-tty.c: a visit of the head to a meter, over a serial device or a pseudo-terminal.
  *
- *     head-tty [-b] [-w SECONDS] [-g SECONDS] DEVICE METER ACCESS reads READ..
- *     head-tty [-b] [-w SECONDS] [-g SECONDS] DEVICE METER ACCESS post FILE
+ *     head-tty [-b] [-e EDITION] [-w SECONDS] [-g SECONDS] DEVICE METER ACCESS reads READ..
+ *     head-tty [-b] [-e EDITION] [-w SECONDS] [-g SECONDS] DEVICE METER ACCESS post FILE
  *
  * METER is `any` or ten digits of a serial; ACCESS is `open` or eight digits of a password; a READ
- * is T, L, K, E0 to E4, Z1 to Z24, or `all` for these 32. Each line that is read goes to standard
+ * is T, L, K, E0 to E4, Z1 to Z24, or `all` for these 32; a meter of edition 2 (-e 2) has Z25 too. Each line that is read goes to standard
  * output as its address, a space and its value; of a post, how many tables were written.
  *
  * With -b the bytes take their time on a pseudo-terminal too, as they do on a serial device.
@@ -39,9 +39,10 @@ enum { DONE = 0, REFUSED = 1, STOPPED_BY_NAK = 3, STOPPED_BY_WRONG = 4, STOPPED_
 #define POST_MOST 1024 /* a post is shorter; a longer text is none */
 
 static double patience = 2, gap = 0.5;
+static uint8_t edition = 1;
 
 static _Noreturn void usage(void) {
-    fprintf(stderr, "usage: head-tty [-b] [-w SECONDS] [-g SECONDS] DEVICE METER ACCESS WORK..\n"
+    fprintf(stderr, "usage: head-tty [-b] [-e EDITION] [-w SECONDS] [-g SECONDS] DEVICE METER ACCESS WORK..\n"
                     "  METER   any, or a serial's ten digits\n"
                     "  ACCESS  open, or a password's eight digits\n"
                     "  WORK    reads T L K E0..E4 Z1..Z24, reads all, or post FILE\n");
@@ -201,7 +202,8 @@ static const char *named(const struct dirgemist_session *session, uint8_t messag
 }
 
 static int refused(uint8_t number, size_t place) {
-    const char *why = number == DIRGEMIST_SESSION_FIELD      ? "a serial, a password or a read that is none"
+    const char *why = number == DIRGEMIST_SESSION_NO_EDITION ? "there are editions 1 and 2"
+                      : number == DIRGEMIST_SESSION_FIELD    ? "a serial, a password or a read that is none"
                       : number == DIRGEMIST_SESSION_NO_POST  ? "the text is no post"
                       : number == DIRGEMIST_SESSION_NO_READS ? "nothing to read"
                       : number == DIRGEMIST_SESSION_MANY_READS
@@ -262,10 +264,12 @@ static int visit(int line, struct dirgemist_session *session, uint8_t *message, 
 
 int main(int count, char **words) {
     program = "head-tty";
-    for (int option; (option = getopt(count, words, "+bw:g:")) != -1;) {
+    for (int option; (option = getopt(count, words, "+be:w:g:")) != -1;) {
         if (option == 'b') {
             paced = true;
-        } else if (option == '?' || !seconds_of(optarg, option == 'w' ? &patience : &gap)) {
+        } else if (option == 'e' && strlen(optarg) == 1 && *optarg >= '0' && *optarg <= '9') {
+            edition = (uint8_t)(*optarg - '0');
+        } else if (option == '?' || option == 'e' || !seconds_of(optarg, option == 'w' ? &patience : &gap)) {
             usage();
         }
     }
@@ -279,7 +283,7 @@ int main(int count, char **words) {
     uint8_t message[DIRGEMIST_SESSION_ROOM];
     size_t length, place;
     uint8_t number = dirgemist_session_start(
-        &session, named, (const uint8_t *)told[1], strlen(told[1]), entered,
+        &session, edition, named, (const uint8_t *)told[1], strlen(told[1]), entered,
         (const uint8_t *)told[2], strlen(told[2]), kind, work, work_length, message, sizeof message,
         &length, &place);
     if (number != DIRGEMIST_SESSION_DONE) {

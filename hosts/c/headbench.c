@@ -164,11 +164,11 @@ BUILD(number_asked, dirgemist_head_read_serial(out, room, length))
 BUILD(account_asked, dirgemist_head_read_account(out, room, length))
 BUILD(energy_asked, N(1) == 0 ? dirgemist_head_read_total(out, room, length)
                               : dirgemist_head_read_zone(N(1), out, room, length))
-BUILD(table_asked, dirgemist_head_read_table(N(1), out, room, length))
+BUILD(table_asked, dirgemist_head_read_table(N(1), N(2), out, room, length))
 BUILD(set_clock, dirgemist_head_write_clock((uint16_t)g[1].number, N(2), N(3), N(4), N(5), N(6),
                                             out, room, length))
 BUILD(set_account, dirgemist_head_write_account(T(1), out, room, length))
-BUILD(set_table, dirgemist_head_write_table(N(1), T(2), out, room, length))
+BUILD(set_table, dirgemist_head_write_table(N(1), N(2), T(3), out, room, length))
 BUILD(sign_off, dirgemist_head_sign_off(out, room, length))
 BUILD(mercury_ask, dirgemist_mercury_ask(N(1), N(2), N(3), N(4), out, room, length))
 
@@ -228,21 +228,21 @@ static void value_period(const struct given *g) {
 
 static void check(const struct given *g) {
     unwrite();
-    uint8_t answer = dirgemist_post_check(T(0), numbers[0]);
+    uint8_t answer = dirgemist_post_check(N(0), T(1), numbers[0]);
     TELL(answer, *numbers[0]);
     put('\n');
 }
 
 /* The number beside the answer is the place for a text that is no post, else the length. */
 static void export(const struct given *g) {
-    uint8_t *out = room_lent(g[0].number);
-    uint8_t answer = dirgemist_post_export(T(1), out, buffer.room, numbers[0], numbers[1]);
+    uint8_t *out = room_lent(g[1].number);
+    uint8_t answer = dirgemist_post_export(N(0), T(2), out, buffer.room, numbers[0], numbers[1]);
     put_written(answer, answer == DIRGEMIST_NOT_A_POST ? *numbers[1] : *numbers[0], *numbers[0]);
 }
 
 static void card(const struct given *g) {
-    uint8_t *out = room_lent(g[0].number);
-    uint8_t answer = dirgemist_card_read(T(1), out, buffer.room, numbers[0], numbers[1]);
+    uint8_t *out = room_lent(g[1].number);
+    uint8_t answer = dirgemist_card_read(N(0), T(2), out, buffer.room, numbers[0], numbers[1]);
     put_written(answer, answer == DIRGEMIST_CARD_NOT_A_CARD ? *numbers[1] : *numbers[0], *numbers[0]);
 }
 
@@ -351,16 +351,18 @@ static void keep(const struct given *work) {
 
 static bool start_session(const struct word *words, size_t count) {
     struct given serial, password, work;
+    uint64_t edition;
     texts_taken = 0;
     text_at_the_start = !text_at_the_start;
-    if (count < 3 || !take_or("any", words[0], &serial) || !take_or("open", words[1], &password) ||
-        !take_work(words + 2, count - 2, &work)) {
+    if (count < 4 || !number_of(words[0], UINT8_MAX, &edition) ||
+        !take_or("any", words[1], &serial) || !take_or("open", words[2], &password) ||
+        !take_work(words + 3, count - 3, &work)) {
         return false;
     }
     uint8_t *out = room_lent(DIRGEMIST_SESSION_ROOM);
     dirgemist_size *length = numbers[0], *place = numbers[1];
     uint8_t answer = dirgemist_session_start(
-        session, (uint8_t)serial.number, serial.text, serial.length, (uint8_t)password.number,
+        session, (uint8_t)edition, (uint8_t)serial.number, serial.text, serial.length, (uint8_t)password.number,
         password.text, password.length, (uint8_t)work.number, work.text, work.length, out,
         buffer.room, length, place);
     put_written(answer, *place, *length);
@@ -413,10 +415,10 @@ static const struct call calls[] = {
     {"build", "number", 1, {ROOM}, number_asked},
     {"build", "account", 1, {ROOM}, account_asked},
     {"build", "energy", 2, {ROOM, SHORT}, energy_asked},
-    {"build", "table", 2, {ROOM, SHORT}, table_asked},
+    {"build", "table", 3, {ROOM, SHORT, SHORT}, table_asked},
     {"build", "setclock", 7, {ROOM, YEAR, SHORT, SHORT, SHORT, SHORT, SHORT}, set_clock},
     {"build", "setaccount", 2, {ROOM, TEXT}, set_account},
-    {"build", "settable", 3, {ROOM, SHORT, TEXT}, set_table},
+    {"build", "settable", 4, {ROOM, SHORT, SHORT, TEXT}, set_table},
     {"build", "break", 1, {ROOM}, sign_off},
     {"value", "serial", 1, {TEXT}, value_serial},
     {"value", "account", 1, {TEXT}, value_account},
@@ -427,9 +429,9 @@ static const struct call calls[] = {
     {"value", "period", 1, {TEXT}, value_period},
     {"mercury", "ask", 5, {ROOM, SHORT, SHORT, SHORT, SHORT}, mercury_ask},
     {"mercury", "read", 2, {SHORT, TEXT}, mercury_read},
-    {"check", "", 1, {TEXT}, check},
-    {"export", "", 2, {ROOM, TEXT}, export},
-    {"card", "", 2, {ROOM, TEXT}, card},
+    {"check", "", 2, {SHORT, TEXT}, check},
+    {"export", "", 3, {SHORT, ROOM, TEXT}, export},
+    {"card", "", 3, {SHORT, ROOM, TEXT}, card},
     {"strip", "", 2, {ROOM, TEXT}, strip},
     {"part", "", 1, {TEXT}, part},
     {"next", "", 2, {ROOM, TEXT}, next},

@@ -152,7 +152,7 @@ static void answered(uint8_t got, const char *text, size_t text_length) {
 #define SIGN_ON_WIRED dirgemist_head_sign_on_wired(field, field_length, out, room, length)
 #define PASSWORD dirgemist_head_password(field, field_length, out, room, length)
 #define WRITE_ACCOUNT dirgemist_head_write_account(field, field_length, out, room, length)
-#define WRITE_TABLE(table) dirgemist_head_write_table(table, field, field_length, out, room, length)
+#define WRITE_TABLE(edition, table) dirgemist_head_write_table(edition, table, field, field_length, out, room, length)
 
 static void try_fixed_commands(void) {
     SAYS("/?!\r\n", dirgemist_head_sign_on(out, room, length));
@@ -181,10 +181,22 @@ static void try_numbered_commands(void) {
         size = sprintf(text, "\001R1\002E%d()\003", c);
         BUILDS(c >= 1 && c <= 4 ? text : NULL, (size_t)size, dirgemist_head_read_zone((uint8_t)c, out, room, length));
         size = sprintf(text, "\001R1\002Z(%02d)\003", c);
-        BUILDS(c >= 1 && c <= 24 ? text : NULL, (size_t)size, dirgemist_head_read_table((uint8_t)c, out, room, length));
+        for (uint8_t edition = 1; edition <= 2; edition++) {
+            BUILDS(c >= 1 && c <= 23 + edition ? text : NULL, (size_t)size, dirgemist_head_read_table(edition, (uint8_t)c, out, room, length));
+        }
         size = sprintf(text, "\001W1\002Z(%02d;123412341234123412341234)\003", c);
         set_field(TEXT("123412341234123412341234"));
-        BUILDS(c >= 1 && c <= 24 ? text : NULL, (size_t)size, WRITE_TABLE((uint8_t)c));
+        for (uint8_t edition = 1; edition <= 2; edition++) {
+            BUILDS(c >= 1 && c <= 23 + edition ? text : NULL, (size_t)size, WRITE_TABLE(edition, (uint8_t)c));
+        }
+        if (c != 1 && c != 2) {
+            /* 16 before no room and before a bad field */
+            uint8_t byte = KEPT;
+            size_t none = 99;
+            expect(dirgemist_head_read_table((uint8_t)c, 0, &byte, 1, &none) == DIRGEMIST_HEAD_NO_EDITION && none == 0 && byte == KEPT, "no edition");
+            none = 99;
+            expect(dirgemist_head_write_table((uint8_t)c, 0, &byte, 0, &byte, 1, &none) == DIRGEMIST_HEAD_NO_EDITION && none == 0 && byte == KEPT, "no edition");
+        }
     }
 }
 
@@ -200,7 +212,7 @@ static void try_fields(void) {
     }
     for (size_t size = 0; size <= 26; size++) {
         set_field("11111111111111111111111111", size);
-        BUILDS(size == 24 ? "\001W1\002Z(01;111111111111111111111111)\003" : NULL, 35, WRITE_TABLE(1));
+        BUILDS(size == 24 ? "\001W1\002Z(01;111111111111111111111111)\003" : NULL, 35, WRITE_TABLE(1, 1));
     }
     for (size_t at = 0; at < 24; at++) {
         for (int c = 0; c < 256; c++) {
@@ -210,7 +222,7 @@ static void try_fields(void) {
             memcpy(text, "\001W1\002Z(24;", 9);
             memcpy(text + 9, characters, 24);
             memcpy(text + 33, ")\003", 2);
-            BUILDS(is_zone(c) ? text : NULL, 35, WRITE_TABLE(24));
+            BUILDS(is_zone(c) ? text : NULL, 35, WRITE_TABLE(1, 24));
             if (at < 10) {
                 memcpy(characters, "2030405060", 10);
                 characters[at] = (char)c;
@@ -236,15 +248,15 @@ static void try_fields(void) {
         }
     }
     set_field(TEXT("111111111111111111111111"));
-    REFUSES(WRITE_TABLE(0));
-    REFUSES(WRITE_TABLE(25));
+    REFUSES(WRITE_TABLE(1, 0));
+    REFUSES(WRITE_TABLE(1, 25));
     static const struct { uint8_t table, bcc; } known[] = {{1, 0x06}, {4, 0x03}, {6, 0x81}};
     for (size_t i = 0; i < COUNT(known); i++) {
         lend(64);
-        expect(WRITE_TABLE(known[i].table) == 1 && *length == 36 && out[35] == known[i].bcc, "the BCC of a row of '1'");
+        expect(WRITE_TABLE(1, known[i].table) == 1 && *length == 36 && out[35] == known[i].bcc, "the BCC of a row of '1'");
         give_back(out, room);
     }
-    FIXED(WRITE_TABLE(1), 0x81, 0xD7, 0xB1, 0x82, 0x5A, 0x28, 0x30, 0xB1, 0xBB, 0xB1, 0xB1, 0xB1, 0xB1, 0xB1, 0xB1, 0xB1, 0xB1, 0xB1, 0xB1,
+    FIXED(WRITE_TABLE(1, 1), 0x81, 0xD7, 0xB1, 0x82, 0x5A, 0x28, 0x30, 0xB1, 0xBB, 0xB1, 0xB1, 0xB1, 0xB1, 0xB1, 0xB1, 0xB1, 0xB1, 0xB1, 0xB1,
           0xB1, 0xB1, 0xB1, 0xB1, 0xB1, 0xB1, 0xB1, 0xB1, 0xB1, 0xB1, 0xB1, 0xB1, 0xB1, 0xB1, 0xA9, 0x03, 0x06);
 }
 

@@ -1,6 +1,6 @@
 /* meter-tty.c: a meter on a line, a serial device or a pseudo-terminal.
  *
- *     meter-tty [-pb] [-s SECONDS] [-w WH] [-n SERIAL,ACCOUNT,PASSWORD] DEVICE STATE
+ *     meter-tty [-pb] [-e EDITION] [-s SECONDS] [-w WH] [-n SERIAL,ACCOUNT,PASSWORD] DEVICE STATE
  *
  * Each character that comes, each second, and each silence (8 seconds without a character, or those
  * of -s, counted from the last one that came or went) is told to the proved meter, and what it
@@ -12,7 +12,8 @@
  * place, before a change of it is acknowledged; a power cut at any time loses the session and
  * nothing else. At the start the file is read, the record checked, and met with power-up; the clock
  * goes on from where it stood. A file that is no meter's is refused. With -n a meter is made where
- * there is no file; where there is one, it must be of that serial and password. */
+ * there is no file, of the edition of -e, else 1; where there is one, it must be of that serial and
+ * password. */
 #include "tty.h"
 
 #include "dirgemist_meter.h"
@@ -133,6 +134,8 @@ static bool fetch(void) {
 
 /* ---- A new meter. */
 
+static uint8_t edition = 1;
+
 struct facts {
     const char *serial, *account, *password;
 };
@@ -157,7 +160,7 @@ static void make(const struct facts *facts) {
         (const uint8_t *)facts->account, strlen(facts->account), (const uint8_t *)facts->password,
         strlen(facts->password), (uint16_t)(date.tm_year + 1900), (uint8_t)(date.tm_mon + 1),
         (uint8_t)date.tm_mday, (uint8_t)date.tm_hour, (uint8_t)date.tm_min,
-        (uint8_t)(date.tm_sec > 59 ? 59 : date.tm_sec), 1, 1, 0);
+        (uint8_t)(date.tm_sec > 59 ? 59 : date.tm_sec), edition, 1, 0);
     if (number != 1) {
         fprintf(stderr,
                 "%s: no meter is made (%u): the serial has ten digits, the account ten letters, "
@@ -240,7 +243,7 @@ static void serve(double silence, uint32_t wh) {
 }
 
 static _Noreturn void usage(void) {
-    fprintf(stderr, "usage: meter-tty [-pb] [-s SECONDS] [-w WH] "
+    fprintf(stderr, "usage: meter-tty [-pb] [-e EDITION] [-s SECONDS] [-w WH] "
                     "[-n SERIAL,ACCOUNT,PASSWORD] DEVICE STATE\n");
     exit(UNABLE);
 }
@@ -252,10 +255,16 @@ int main(int count, char **words) {
     struct facts facts = {0};
     char *stop;
     program = "meter-tty";
-    for (int option; (option = getopt(count, words, "pbs:w:n:")) != -1;) {
+    for (int option; (option = getopt(count, words, "pbe:s:w:n:")) != -1;) {
         switch (option) {
         case 'p': made_here = true; break;
         case 'b': paced = true; break;
+        case 'e':
+            if (strlen(optarg) != 1 || *optarg < '0' || *optarg > '9') {
+                usage();
+            }
+            edition = (uint8_t)(*optarg - '0');
+            break;
         case 's':
             if (!seconds_of(optarg, &silence)) {
                 usage();

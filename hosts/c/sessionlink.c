@@ -1,4 +1,5 @@
-/* sessionlink.c: a head that holds sessions in C. Every start is held to request [7]: each refusal in its order, each read, each post.
+/* sessionlink.c: a head that holds sessions in C. Every start is held to requests [7] and [3]: each refusal in its order, each read, each post, for
+ * both editions and for none.
  * Whole sessions of reads and of posts are played against right replies, and at each message every other reply, silence, a small
  * buffer and other work are tried on a copy; then records with any byte hurt. What each call answers, every byte of its buffer and of
  * the record, and every number handed out are compared. What is lent is memory of its exact size, and what is only read may only be
@@ -15,11 +16,12 @@
 #include <stdio.h>
 
 /* The layout that the library uses, and the header's names for the numbers. */
-_Static_assert(sizeof(struct dirgemist_session) == 24 && _Alignof(struct dirgemist_session) == 1, "the record");
+_Static_assert(sizeof(struct dirgemist_session) == 25 && _Alignof(struct dirgemist_session) == 1, "the record");
 _Static_assert(offsetof(struct dirgemist_session, password) == 10 && offsetof(struct dirgemist_session, named) == 18, "the record");
 _Static_assert(offsetof(struct dirgemist_session, access) == 19 && offsetof(struct dirgemist_session, work) == 20, "the record");
 _Static_assert(offsetof(struct dirgemist_session, count) == 21 && offsetof(struct dirgemist_session, sent) == 22, "the record");
-_Static_assert(offsetof(struct dirgemist_session, fact) == 23, "the record");
+_Static_assert(offsetof(struct dirgemist_session, fact) == 23 && offsetof(struct dirgemist_session, edition) == 24, "the record");
+_Static_assert(DIRGEMIST_SESSION_NO_EDITION == 16, "numbers");
 _Static_assert(DIRGEMIST_SESSION_DONE == 1 && DIRGEMIST_SESSION_FIELD == 9 && DIRGEMIST_SESSION_NO_ROOM == 19, "numbers");
 _Static_assert(DIRGEMIST_SESSION_NO_POST == 20 && DIRGEMIST_SESSION_NO_READS == 28 && DIRGEMIST_SESSION_MANY_READS == 29, "numbers");
 _Static_assert(DIRGEMIST_SESSION_READ_ONLY == 30 && DIRGEMIST_SESSION_NONE == 31 && DIRGEMIST_SESSION_ROOM == 64, "numbers");
@@ -29,6 +31,7 @@ _Static_assert(DIRGEMIST_SESSION_WRONG == 3 && DIRGEMIST_SESSION_SILENT == 4, "f
 #define KEPT 0x5A
 #define COUNT(array) (sizeof(array) / sizeof *(array))
 
+static uint8_t edition; /* that each start is told */
 static unsigned long calls = 0;
 static unsigned long numbers_seen[32], facts_seen[5];
 
@@ -129,6 +132,11 @@ static bool is_date(unsigned year, unsigned month, unsigned day) {
     return month >= 1 && month <= 12 && day >= 1 && day <= days[month - 1] + (month == 2 && year % 4 == 0);
 }
 
+/* The tables of an edition. */
+static unsigned tables_of(uint8_t number) {
+    return number == 2 ? 25 : 24;
+}
+
 /* The place of a text: how much of it some post begins with; and how many lines it has, 0 where it is no post. */
 static size_t post_place(struct text text, unsigned *lines) {
     static const char form[] = "131.0.xx(" ROW_FORM ")\r\n";
@@ -146,14 +154,14 @@ static size_t post_place(struct text text, unsigned *lines) {
             return at;
         }
         for (size_t i = 0; i < 36; i++, at++) {
-            if (at == text.length || above == 24) {
+            if (at == text.length || above == tables_of(edition)) {
                 return at;
             }
             uint8_t c = text.at[at];
             bool good = form[i] == 'r'   ? c >= '1' && c <= '4'
                         : form[i] != 'x' ? c == (uint8_t)form[i]
                         : i == 6         ? c >= '0' && c <= '2' && (unsigned)(c - '0') >= (above + 1) / 10
-                                         : is_digit(c) && two(&text.at[at - 1]) > above && two(&text.at[at - 1]) <= 24;
+                                         : is_digit(c) && two(&text.at[at - 1]) > above && two(&text.at[at - 1]) <= tables_of(edition);
             if (!good) {
                 return at;
             }
@@ -163,8 +171,8 @@ static size_t post_place(struct text text, unsigned *lines) {
     }
 }
 
-static bool good_read(uint8_t letter, uint8_t n) {
-    return letter == 'T' || letter == 'L' || letter == 'K' || (letter == 'E' && n <= 4) || (letter == 'Z' && n >= 1 && n <= 24);
+static bool good_read(uint8_t of, uint8_t letter, uint8_t n) {
+    return letter == 'T' || letter == 'L' || letter == 'K' || (letter == 'E' && n <= 4) || (letter == 'Z' && n >= 1 && n <= tables_of(of));
 }
 
 static uint8_t byte_at(struct text text, size_t at) {
@@ -178,14 +186,14 @@ static size_t work_message(const struct dirgemist_session *s, struct text work, 
     if (s->work == 1) {
         const uint8_t *line = work.at + i * 36;
         bool there = work.length >= i * 36 + 36 && fits("131.0.dd(" ROW_FORM ")\r\n", line, 36);
-        if (!there || two(line + 6) < 1 || two(line + 6) > 24) {
+        if (!there || two(line + 6) < 1 || two(line + 6) > tables_of(s->edition)) {
             return 0;
         }
         length = snprintf(text, sizeof text, "\001W1\002Z(%.2s;%.24s)\003", (const char *)line + 6, (const char *)line + 9);
         return to_wire(text, (size_t)length, wire);
     }
     uint8_t letter = byte_at(work, i * 2), n = byte_at(work, i * 2 + 1);
-    if (!good_read(letter, n)) {
+    if (!good_read(s->edition, letter, n)) {
         return 0;
     }
     length = letter == 'Z'   ? snprintf(text, sizeof text, "\001R1\002Z(%02u)\003", n)
@@ -208,9 +216,9 @@ static size_t message_of(const struct dirgemist_session *s, struct text work, un
 }
 
 /* Whether a reply is a block with just what a read asked for. */
-static bool answers(uint8_t letter, uint8_t n, struct text reply) {
+static bool answers(uint8_t of, uint8_t letter, uint8_t n, struct text reply) {
     uint8_t plain[64], bcc = 0;
-    if (!good_read(letter, n) || reply.length < 3 || reply.length > sizeof plain) {
+    if (!good_read(of, letter, n) || reply.length < 3 || reply.length > sizeof plain) {
         return false;
     }
     for (size_t at = 0; at < reply.length; at++) {
@@ -241,7 +249,7 @@ static bool answers(uint8_t letter, uint8_t n, struct text reply) {
 static size_t right_reply(const struct dirgemist_session *s, struct text work, unsigned n, uint8_t *wire) {
     char text[64];
     if (n == 1) {
-        return to_wire("/ZZZ5SUB-VP01.00*\r\n", 19, wire);
+        return to_wire(s->edition == 2 ? "/ZZZ5SUB-VP02.00*\r\n" : "/ZZZ5SUB-VP01.00*\r\n", 19, wire);
     }
     if (n == 2) {
         return to_wire("\001P0\002(0000)\003", 11, wire);
@@ -265,7 +273,7 @@ static bool same_text(struct text a, const uint8_t *b, size_t length) {
 static bool is_right(const struct dirgemist_session *s, struct text work, struct text reply) {
     uint8_t wire[64];
     if (s->sent > 3 && s->sent <= s->count + 3u && s->work == 0) {
-        return answers(byte_at(work, (s->sent - 4u) * 2), byte_at(work, (s->sent - 4u) * 2 + 1), reply);
+        return answers(s->edition, byte_at(work, (s->sent - 4u) * 2), byte_at(work, (s->sent - 4u) * 2 + 1), reply);
     }
     size_t length = right_reply(s, work, s->sent, wire);
     return same_text(reply, wire, length);
@@ -275,9 +283,9 @@ static bool is_right(const struct dirgemist_session *s, struct text work, struct
 static bool good_record(const struct dirgemist_session *s) {
     bool named = s->named == 0 ? all_zero(s->serial, 10) : s->named == 1 && all_digits(s->serial, 10);
     bool entered = s->access == 0 ? all_zero(s->password, 8) : s->access == 1 && all_digits(s->password, 8);
-    bool worked = s->work == 0 || (s->work == 1 && s->access == 1 && s->count <= 24);
+    bool worked = s->work == 0 || (s->work == 1 && s->access == 1 && s->count <= tables_of(s->edition));
     bool placed_well = s->count >= 1 && s->count <= 32 && s->sent >= 1 && s->sent <= s->count + 4;
-    return named && entered && worked && placed_well && s->fact <= 4 && (s->fact != 1 || s->sent == s->count + 4);
+    return (s->edition == 1 || s->edition == 2) && named && entered && worked && placed_well && s->fact <= 4 && (s->fact != 1 || s->sent == s->count + 4);
 }
 
 static struct outcome start_of(const struct told *t, size_t room) {
@@ -290,10 +298,11 @@ static struct outcome start_of(const struct told *t, size_t room) {
     if (t->kind == 0 && length <= 64) {
         good = good && length % 2 == 0;
         for (size_t at = 0; at + 1 < length; at += 2) {
-            good = good && good_read(t->work.at[at], t->work.at[at + 1]);
+            good = good && good_read(edition, t->work.at[at], t->work.at[at + 1]);
         }
     }
-    o.number = room < 64                                ? DIRGEMIST_SESSION_NO_ROOM
+    o.number = edition != 1 && edition != 2             ? DIRGEMIST_SESSION_NO_EDITION
+               : room < 64                              ? DIRGEMIST_SESSION_NO_ROOM
                : t->kind == 0 && length == 0            ? DIRGEMIST_SESSION_NO_READS
                : t->kind == 0 && length > 64            ? DIRGEMIST_SESSION_MANY_READS
                : t->kind == 1 && lines == 0             ? DIRGEMIST_SESSION_NO_POST
@@ -302,7 +311,7 @@ static struct outcome start_of(const struct told *t, size_t room) {
                                                         : DIRGEMIST_SESSION_DONE;
     o.place = o.number == DIRGEMIST_SESSION_NO_POST ? place : 0;
     if (o.number == DIRGEMIST_SESSION_DONE) {
-        o.record = (struct dirgemist_session){.named = t->named, .access = t->access, .work = t->kind, .sent = 1};
+        o.record = (struct dirgemist_session){.named = t->named, .access = t->access, .work = t->kind, .sent = 1, .edition = edition};
         o.record.count = (uint8_t)(t->kind == 1 ? lines : length / 2);
         if (t->named) {
             memcpy(o.record.serial, t->serial.at, 10);
@@ -386,7 +395,7 @@ static void try_start(const struct told *t, size_t r) {
     struct text serial = lend(t->serial), password = lend(t->password), work = lend(t->work);
     memset(record, KEPT, sizeof *record);
     unwrite(r);
-    uint8_t number = dirgemist_session_start(record, t->named, serial.at, serial.length, t->access, password.at, password.length,
+    uint8_t number = dirgemist_session_start(record, edition, t->named, serial.at, serial.length, t->access, password.at, password.length,
                                              t->kind, work.at, work.length, outs[r], rooms[r], length, place);
     compare(&o, number, r, "a start");
     expect(*length == o.length && *place == o.place, "a start's numbers");
@@ -431,7 +440,7 @@ static const struct text nobody = TEXT("");
 static const struct text serial_told = TEXT("1234567890");
 static const struct text password_told = TEXT("00008642");
 
-static uint8_t post_bytes[25 * 36 + 3];
+static uint8_t post_bytes[26 * 36 + 3];
 
 /* A post of so many lines, from a table on. */
 static struct text post_of(unsigned first, unsigned lines) {
@@ -466,7 +475,7 @@ static void every_start(void) {
     }
     /* each letter and each number */
     for (unsigned letter = 0; letter < 256; letter++) {
-        for (unsigned n = 0; n < 256; n += good_read((uint8_t)letter, 1) ? 1 : 51) {
+        for (unsigned n = 0; n < 256; n += good_read(edition, (uint8_t)letter, 1) ? 1 : 51) {
             uint8_t read[2] = {(uint8_t)letter, (uint8_t)n};
             struct told t = {0, 0, 0, nobody, nobody, {read, 2}};
             try_start(&t, FULL);
@@ -477,11 +486,11 @@ static void every_start(void) {
 /* Each post, cut at each character and hurt at each character. */
 static void every_post(void) {
     struct told t = {0, 1, 1, nobody, password_told, nobody};
-    for (unsigned lines = 0; lines <= 25; lines++) {
+    for (unsigned lines = 0; lines <= 26; lines++) {
         t.work = post_of(1, lines);
         try_start(&t, FULL);
     }
-    t.work = post_of(21, 4);
+    t.work = post_of(22, tables_of(edition) - 21);
     struct text whole = t.work;
     for (size_t cut = 0; cut < whole.length; cut++) {
         t.work.length = cut;
@@ -533,6 +542,7 @@ static void all_else(const struct dirgemist_session *now, struct text work, stru
         try_reply(now, (struct text){work.at, less}, right, FULL);
     }
     try_reply(now, (struct text)TEXT("L\0Z\30"), right, FULL);
+    try_reply(now, (struct text)TEXT("L\0Z\31"), right, FULL);
     try_silence(now);
     struct dirgemist_session ended = *record;
     try_reply(&ended, work, right, FULL);
@@ -574,13 +584,13 @@ static void not_quite(void) {
         {"E", "15.8.0(00012.3456*kWh)\r\n"}, {"E", "15.8.0(000123.456*kWH)\r\n"}, {"E", "15.8.0(000123.456)\r\n"},
         {"Z\1", "131.0.01(111111111111111111111111)\r\n"}, {"Z\1", "131.0.02(111111111111111111111111)\r\n"},
         {"Z\1", "131.0.1(111111111111111111111111)\r\n"}, {"Z\1", "131.0.01(11111111111111111111111)\r\n"},
-        {"Z\1", "131.0.01(111111111111111111111115)\r\n"}, {"Z\30", "131.0.24(444444444444444444444444)\r\n"},
+        {"Z\1", "131.0.01(111111111111111111111115)\r\n"}, {"Z\30", "131.0.24(444444444444444444444444)\r\n"}, {"Z\31", "131.0.25(444444444444444444444444)\r\n"},
         {"L", ""}, {"L", "\r\n"}, {"E", "15.8.0()\r\n"}, {"E", "15.8.0(00000000000000000000000000000000000000000*kWh)\r\n"},
     };
     for (size_t at = 0; at < COUNT(tries); at++) {
         uint8_t read[2] = {(uint8_t)tries[at].read[0], (uint8_t)tries[at].read[1]}, wire[80];
         char text[80];
-        struct dirgemist_session now = {.count = 1, .sent = 4};
+        struct dirgemist_session now = {.count = 1, .sent = 4, .edition = edition};
         int size = snprintf(text, sizeof text, "\002%s\003", tries[at].data);
         struct text reply = {wire, to_wire(text, (size_t)size, wire)};
         try_reply(&now, (struct text){read, 2}, reply, FULL);
@@ -601,16 +611,9 @@ static void every_damage(const struct dirgemist_session *base, struct text work)
     }
 }
 
-int main(void) {
-    for (size_t r = 0; r < COUNT(rooms); r++) {
-        outs[r] = exactly(rooms[r]);
-    }
-    record = exactly(sizeof *record);
-    length = exactly(sizeof *length);
-    place = exactly(sizeof *place);
-    fact = exactly(1);
-    message = exactly(1);
-
+/* Everything above, for one edition. */
+static void try_edition(uint8_t number) {
+    edition = number;
     every_start();
     every_post();
 
@@ -621,7 +624,7 @@ int main(void) {
     play(&told, true);
     static uint8_t many[64];
     for (size_t at = 0; at < sizeof many; at++) {
-        many[at] = at % 2 == 0 ? "TLKEZ"[at / 2 % 5] : (uint8_t)(at / 2 % 5 == 3 ? at / 10 % 5 : 1 + at / 2 % 24);
+        many[at] = at % 2 == 0 ? "TLKEZ"[at / 2 % 5] : (uint8_t)(at / 2 % 5 == 3 ? at / 10 % 5 : 1 + at / 2 % tables_of(edition));
     }
     for (size_t count = 1; count <= 32; count++) {
         told = (struct told){(uint8_t)(count % 2), (uint8_t)(count / 2 % 2), 0, serial_told, password_told, {many, 2 * count}};
@@ -629,31 +632,50 @@ int main(void) {
     }
     told = (struct told){1, 1, 1, serial_told, password_told, post_of(9, 3)};
     play(&told, true);
-    for (unsigned lines = 1; lines <= 24; lines++) {
-        told = (struct told){0, 1, 1, nobody, password_told, post_of(25 - lines, lines)};
+    for (unsigned lines = 1; lines <= tables_of(edition); lines++) {
+        told = (struct told){0, 1, 1, nobody, password_told, post_of(tables_of(edition) + 1 - lines, lines)};
         play(&told, false);
     }
     not_quite();
 
     for (uint8_t sent = 1; sent <= 6; sent++) {
-        struct dirgemist_session base = {.named = 1, .access = 1, .count = 2, .sent = sent};
+        struct dirgemist_session base = {.named = 1, .access = 1, .count = 2, .sent = sent, .edition = edition};
         memcpy(base.serial, serial_told.at, 10);
         memcpy(base.password, password_told.at, 8);
         every_damage(&base, reads);
-        base = (struct dirgemist_session){.access = 1, .work = 1, .count = 2, .sent = sent, .fact = sent > 4 ? sent - 2u : 0};
+        base = (struct dirgemist_session){.access = 1, .work = 1, .count = 2, .sent = sent, .fact = sent > 4 ? sent - 2u : 0, .edition = edition};
         memcpy(base.password, password_told.at, 8);
         every_damage(&base, post_of(1, 2));
-        base = (struct dirgemist_session){.count = 2, .sent = sent, .fact = sent == 6};
+        base = (struct dirgemist_session){.count = 2, .sent = sent, .fact = sent == 6, .edition = edition};
         every_damage(&base, reads);
     }
+}
 
-    static const uint8_t reached[] = {1, 9, 19, 20, 28, 29, 30, 31};
+int main(void) {
+    for (size_t r = 0; r < COUNT(rooms); r++) {
+        outs[r] = exactly(rooms[r]);
+    }
+    record = exactly(sizeof *record);
+    length = exactly(sizeof *length);
+    place = exactly(sizeof *place);
+    fact = exactly(1);
+    message = exactly(1);
+
+    static const uint8_t none[] = {0, 3, 24, 25, 255};
+    for (size_t at = 0; at < sizeof none; at++) {
+        edition = none[at];
+        every_start();
+    }
+    try_edition(1);
+    try_edition(2);
+
+    static const uint8_t reached[] = {1, 9, 16, 19, 20, 28, 29, 30, 31};
     for (size_t at = 0; at < sizeof reached; at++) {
         expect(numbers_seen[reached[at]] > 0, "a number that was never reached");
     }
     for (size_t at = 0; at < COUNT(facts_seen); at++) {
         expect(facts_seen[at] > 0, "a fact that was never reached");
     }
-    printf("sessions in C: %lu calls, as request [7] has them\n", calls);
+    printf("sessions in C: %lu calls, as requests [7] and [3] have them\n", calls);
     return 0;
 }

@@ -3,7 +3,9 @@
  * is then only printed. Exit status: 0, shown; 1, no card; 2, the input or the output failed. */
 #include "dirgemist_card.h"
 
+#include <stdbool.h>
 #include <stdio.h>
+#include <string.h>
 
 /* More than the longest card: a longer text leaves every card within so many bytes. */
 #define KEPT 4096
@@ -15,7 +17,13 @@ static int fail(const char *what) {
     return 2;
 }
 
-int main(void) {
+/* The one word is the edition; 0, which there is none of, for any other word. */
+static uint8_t edition_of(int count, char **words) {
+    bool one = count < 2 || strcmp(words[1], "1") == 0;
+    return one ? 1 : count == 2 && strcmp(words[1], "2") == 0 ? 2 : 0;
+}
+
+int main(int count, char **words) {
     static uint8_t text[KEPT];
     size_t length = fread(text, 1, sizeof text, stdin);
     while (!feof(stdin) && !ferror(stdin)) {
@@ -25,7 +33,7 @@ int main(void) {
         return fail("the input can't be read");
     }
     size_t place;
-    uint8_t number = dirgemist_card_check(text, length, &place);
+    uint8_t number = dirgemist_card_check(edition_of(count, words), text, length, &place);
     if (number != DIRGEMIST_CARD_DONE) {
         printf("%d %zu\n", number, place);
     } else {

@@ -1,12 +1,13 @@
 -- Request [11]: a card that is read, and what the call answers.
 use mathlib.Core.Path.{_≡_}
 use mathlib.Core.Logic.{_⊎_}
+use mathlib.Core.Bool.{true, false}
 use mathlib.Core.List.{List, [], _∷_, _++_}
 use Prim.Native.Nat.{ℕ, zero, suc, _+_, _*_, _<_, _≤_}
 use lib.ListN.{length, getD, take, drop}
 use Rattle.text.specs.Beginnings.{Longest}
 use Rattle.text.specs.Writing.{holding}
-use Rattle.values.specs.Edition.{rowLength}
+use Rattle.values.specs.Edition.{isEdition, tablesOf, rowLength}
 use Rattle.frames.specs.Frames.{frameOf, onWire}
 use Rattle.frames.specs.Commands.{W1, setAccount, setTable}
 use Rattle.post.specs.Grammar.{Entry}
@@ -54,6 +55,11 @@ pub record NoCard (tables : ℕ) (text out : List ℕ) (number size place : ℕ)
 unfoldable pub ReadAs : ℕ → List ℕ → List ℕ → ℕ → ℕ → ℕ → List ℕ → Type 0
 ReadAs tables text out number size place after =
     Done tables text out number size place after ⊎ (NoRoom tables text out number size place after ⊎ NoCard tables text out number size place after)
+
+-- [3]: 16 before all else for an edition that there is not
+pub record ReadFor (edition : ℕ) (text out : List ℕ) (number size place : ℕ) (after : List ℕ) : Type 0 where
+  pub none : isEdition edition ≡ false → (number ≡ 16) × (size ≡ 0) × (place ≡ 0) × (after ≡ out)
+  pub some : isEdition edition ≡ true → ReadAs (tablesOf edition) text out number size place after
 
 -- the frame of the table field that a text begins with, and of the first n of them
 unfoldable pub fieldFrame : List ℕ → List ℕ

@@ -8,10 +8,10 @@ ghost use Rattle.text.specs.Writing.{stored, holding};
 ghost use Rattle.values.specs.Edition.{rowLength};
 ghost use Rattle.frames.specs.Frames.{sealed, frameOf, onWire};
 ghost use Rattle.frames.specs.Commands.{W1, setTable};
-ghost use Rattle.card.specs.Place.{CheckedAs};
+ghost use Rattle.card.specs.Place.{CheckedAs, CheckedFor};
 ghost use Rattle.card.specs.Columns.{accountColumn, tableColumn, FirstStray, tableStands};
 ghost use Rattle.card.specs.Fields.{Passed, Scanned};
-ghost use Rattle.card.specs.Frames.{accountFrame, fieldFrame, fieldFrames, textFrames, ReadAs};
+ghost use Rattle.card.specs.Frames.{accountFrame, fieldFrame, fieldFrames, textFrames, ReadAs, ReadFor};
 
 // The account's field and a table's, and their frames, in bytes.
 const ACCOUNT_FIELD: usize = 13;
@@ -22,13 +22,13 @@ const ACCOUNT_FRAME: usize = 19;
 
 const TABLE_FRAME: usize = 36;
 
-// The check's answer: 1, or 40 with the place.
+// The check's answer: 1, or 40 with the place, or 16.
 pub struct Checked {
     pub number: u8,
     pub place: usize,
 }
 
-// The reader's answer: 1 with the length, 40 with the place, or 41.
+// The reader's answer: 1 with the length, 40 with the place, or 41, or 16.
 pub struct Framed {
     pub number: u8,
     pub length: usize,
@@ -161,11 +161,17 @@ pub fn check_of(text: &[u8], tables: u8) -> Checked
     }
 }
 
-// The check: whether a text is a card, and if not, where it leaves every card.
-pub fn check(text: &[u8]) -> Checked
-    ensures { λ r. ⌜ CheckedAs 24 (now (text .entry)) (r .number) (r .place) ⌝ }
+// The check: whether a text is a card for an edition, and if not, where it leaves every card.
+pub fn check(edition: u8, text: &[u8]) -> Checked
+    ensures { λ r. ⌜ CheckedFor edition (now (text .entry)) (r .number) (r .place) ⌝ }
 {
-    check_of(text, values::TABLES)
+    if values::is_edition(edition) {
+        return check_of(text, values::tables_of(edition));
+    }
+    Checked {
+        number: 16,
+        place: 0,
+    }
 }
 
 // A frame: its start up to the content, the content, the closing bracket, ETX and BCC, with parity.
@@ -277,9 +283,16 @@ pub fn read_of(text: &[u8], out: &mut [u8], tables: u8) -> Framed
     }
 }
 
-// A card read: the frames that set the account and then the tables, or why there are none; a refusal leaves the buffer as it was.
-pub fn read(text: &[u8], out: &mut [u8]) -> Framed
-    ensures { λ r. ⌜ ReadAs 24 (now (text .entry)) (now (out .entry)) (r .number) (r .length) (r .place) (now (out .exit)) ⌝ }
+// A card read for an edition: the frames that set the account and then the tables, or why there are none; a refusal leaves the buffer as it was.
+pub fn read(edition: u8, text: &[u8], out: &mut [u8]) -> Framed
+    ensures { λ r. ⌜ ReadFor edition (now (text .entry)) (now (out .entry)) (r .number) (r .length) (r .place) (now (out .exit)) ⌝ }
 {
-    read_of(text, out, values::TABLES)
+    if values::is_edition(edition) {
+        return read_of(text, out, values::tables_of(edition));
+    }
+    Framed {
+        number: 16,
+        length: 0,
+        place: 0,
+    }
 }

@@ -9,6 +9,8 @@ use borrow.Author.Tests.{leb-true}
 use lib.Dec.{leb}
 use lib.ListN.{length, take, drop, replicate, length-map}
 use lib.Seq.{take-append-seam}
+use Rattle.values.proofs.Editions.{tables-most}
+use Rattle.state.specs.WellFormed.{tablesIn, editionOf}
 use Rattle.line.specs.Characters.{sent}
 use Rattle.line.proofs.Runs.{and-left}
 use Rattle.text.specs.Classes.{between, matching, sameText}
@@ -16,7 +18,7 @@ use Rattle.text.specs.Writing.{holding}
 use Rattle.values.specs.Registers.{goodAccount, goodTable}
 use Rattle.frames.specs.Frames.{frameOf, onWire}
 use Rattle.frames.specs.Commands.{W1, setAccount}
-use Rattle.state.specs.Sizes.{replyRoom, tables}
+use Rattle.state.specs.Sizes.{replyRoom}
 use Rattle.state.specs.declared.Registers.{Registers}
 use Rattle.state.specs.declared.Meter.{Meter}
 use Rattle.state.specs.Setting.{withAccount, withTables}
@@ -65,7 +67,7 @@ account-fed a s g fit account good =
     subst (λ (k : ℕ). Fed (idle 4 a s g) (onWire (frameOf W1 (setAccount account))) (replicate k (nothing s) ++ (acknowledgement s ∷ [])) (idle 4 a s (withAccount g account))) {x = length (frameOf W1 (setAccount account)) - 1} {y = 18} (omega arith) fed
 
 -- and then the tables' frames
-frames-all-fed : (a s : ℕ) (g : Registers) → Fit 4 a s g → (account : List ℕ) (es : List Entry) → goodAccount account ≡ true → rising tables 0 es ≡ true
+frames-all-fed : (a s : ℕ) (g : Registers) → Fit 4 a s g → (account : List ℕ) (es : List Entry) → goodAccount account ≡ true → rising (tablesIn g) 0 es ≡ true
     → Fed (idle 4 a s g) (cardFrames account es) (cardAcknowledged s es) (idle 4 a s (withTables (withAccount g account) (rowsAfter (g .tables) es)))
 unfolding cardFrames cardAcknowledged
 frames-all-fed a s g fit account es good h =
@@ -78,25 +80,25 @@ module _ (m : Meter) (r : Ready m) where
   ready-is = idle-is m (r .formed) (r .empty) ∙ ap (λ (n : ℕ). idle n (m .attempts) (m .speed) (m .registers)) (r .mode)
 
   -- the state after the frames of a card, as one definition
-  pub card-fed : (account : List ℕ) (es : List Entry) → goodAccount account ≡ true → rising tables 0 es ≡ true
+  pub card-fed : (account : List ℕ) (es : List Entry) → goodAccount account ≡ true → rising (tablesIn (m .registers)) 0 es ≡ true
       → Fed m (cardFrames account es) (cardAcknowledged (m .speed) es) (cardedTo m account es)
   card-fed account es good h =
       subst (λ (x : Meter). Fed x (cardFrames account es) (cardAcknowledged (m .speed) es) (cardedTo x account es)) (sym ready-is)
       (frames-all-fed (m .attempts) (m .speed) (m .registers) (rw (r .mode) at (fit-is m (r .formed))) account es good h)
 
-  card-left : (account : List ℕ) (es : List Entry) → rising tables 0 es ≡ true → CardDelivered m account es (cardAcknowledged (m .speed) es) (cardedTo m account es)
+  card-left : (account : List ℕ) (es : List Entry) → rising (tablesIn (m .registers)) 0 es ≡ true → CardDelivered m account es (cardAcknowledged (m .speed) es) (cardedTo m account es)
   unfolding goodTable between
   card-left account es h =
       record {
         acknowledged = refl;
         account-held = refl;
-        named = named-held (m .registers .tables) 0 es h (long m (r .formed) .tables);
-        others = λ n good other. others-kept (m .registers .tables) 0 es h n (leb-true 1 n (and-left (leb 1 n) (leb n 24) good)) other;
+        named = named-held (tablesIn (m .registers)) (m .registers .tables) 0 es (tables-most (editionOf m)) h (long m (r .formed) .tables);
+        others = λ n good other. others-kept (tablesIn (m .registers)) (m .registers .tables) 0 es h n (leb-true 1 n (and-left (leb 1 n) (leb n (tablesIn (m .registers))) good)) other;
         kept = refl;
       }
 
   -- every accepted card is delivered
-  pub card-delivery : (text : List ℕ) (p : IsCard tables text) (rooms : ℕ → ℕ) → ((i : ℕ) → replyRoom ≤ rooms i)
+  pub card-delivery : (text : List ℕ) (p : IsCard (tablesIn (m .registers)) text) (rooms : ℕ → ℕ) → ((i : ℕ) → replyRoom ≤ rooms i)
       → CardDelivered m (p .account) (p .entries) (answered m rooms (cardFrames (p .account) (p .entries))) (left m rooms (cardFrames (p .account) (p .entries)))
   card-delivery text p rooms room =
       let frames = cardFrames (p .account) (p .entries) in
@@ -105,16 +107,16 @@ module _ (m : Meter) (r : Ready m) where
       (subst (λ (x : Meter). CardDelivered m (p .account) (p .entries) (cardAcknowledged (m .speed) (p .entries)) x) (sym (f .1)) (card-left (p .account) (p .entries) (p .good)))
 
 -- what the reader writes is the frames
-pub read-frames : (text out : List ℕ) (number size place : ℕ) (after : List ℕ) (d : Done 24 text out number size place after)
+pub read-frames : (tables : ℕ) (text out : List ℕ) (number size place : ℕ) (after : List ℕ) (d : Done tables text out number size place after)
     → take size after ≡ cardFrames (d .is-card .account) (d .is-card .entries)
 unfolding holding
-read-frames text out number size place after d =
+read-frames tables text out number size place after d =
     let frames = cardFrames (d .is-card .account) (d .is-card .entries) in
-    ap₂ take (d .long ∙ sym (length-card-frames 24 text (d .is-card))) (d .written) ∙ take-append-seam frames (drop (length frames) out)
+    ap₂ take (d .long ∙ sym (length-card-frames tables text (d .is-card))) (d .written) ∙ take-append-seam frames (drop (length frames) out)
 
 -- the bytes that the reader wrote, in order, deliver the card
-pub read-delivers : (m : Meter) → Ready m → (text out : List ℕ) (number size place : ℕ) (after : List ℕ) (d : Done 24 text out number size place after) (rooms : ℕ → ℕ)
+pub read-delivers : (m : Meter) → Ready m → (text out : List ℕ) (number size place : ℕ) (after : List ℕ) (d : Done (tablesIn (m .registers)) text out number size place after) (rooms : ℕ → ℕ)
     → ((i : ℕ) → replyRoom ≤ rooms i) → CardDelivered m (d .is-card .account) (d .is-card .entries) (answered m rooms (take size after)) (left m rooms (take size after))
 read-delivers m r text out number size place after d rooms room =
-    subst (λ (b : List ℕ). CardDelivered m (d .is-card .account) (d .is-card .entries) (answered m rooms b) (left m rooms b)) (sym (read-frames text out number size place after d))
+    subst (λ (b : List ℕ). CardDelivered m (d .is-card .account) (d .is-card .entries) (answered m rooms b) (left m rooms b)) (sym (read-frames (tablesIn (m .registers)) text out number size place after d))
     (card-delivery m r text (d .is-card) rooms room)

@@ -3,8 +3,16 @@ use mathlib.Core.Path.{_≡_, refl, sym, ap, ap₂, _∙_}
 use mathlib.Core.List.{List, [], _∷_, _++_}
 use Prim.Native.Nat.{ℕ, zero, suc, _+_, _-_, _*_, _<_, _≤_}
 use native.Mathlib.Omega.{arith}
-use lib.ListN.{length, take, drop, length-append, length-drop}
+use mathlib.Core.Bool.{true, _&&_}
+use borrow.Author.Tests.{leb-true}
+use lib.Dec.{leb}
+use lib.ListN.{length, take, drop, length-append, length-drop, take-append-drop}
 use lib.Seq.{take-at, take-add, take-all, length-take-le}
+use Rattle.line.proofs.Runs.{and-left, and-right}
+use Rattle.text.specs.Classes.{between}
+use Rattle.line.specs.Runs.{every}
+use Rattle.replies.proofs.Sizes.{row-short}
+use Rattle.delivery.proofs.Rows.{stored-before}
 use Rattle.text.specs.Writing.{stored}
 use Rattle.text.proofs.Writing.{stored-is, length-stored}
 use Rattle.replies.specs.Shown.{rowOf}
@@ -50,10 +58,34 @@ length-copied above zero t rows = refl
 length-copied above (suc k) t rows =
     length-copied (suc above) k (stored t ((suc above - 1) * 24) (rowOf rows (suc above))) rows ∙ length-stored t ((suc above - 1) * 24) (rowOf rows (suc above))
 
--- the tables of the one
-pub all-rows : (n : ℕ) (t rows : List ℕ) → length t ≡ n * 24 → length rows ≡ n * 24 → rowsAfter t (entriesFrom 0 n rows) ≡ rows
-all-rows n t rows l h =
+-- what lies behind the rows that are put in stays
+behind-copied : (above k : ℕ) (t rows : List ℕ) → drop (24 * (above + k)) (rowsAfter t (entriesFrom above k rows)) ≡ drop (24 * (above + k)) t
+unfolding rowsAfter entriesFrom
+behind-copied above zero t rows = refl
+behind-copied above (suc k) t rows =
+    let at = (suc above - 1) * 24 in
+    let row = rowOf rows (suc above) in
+    let z : above + suc k ≡ suc above + k = omega arith in
+    rw z (behind-copied (suc above) k (stored t at row) rows ∙ stored-before t at row (24 * (suc above + k)) (omega (arith, row-short rows (suc above))))
+
+-- places that are all 0
+pub zeros-same : (s t : List ℕ) → every (between 0 0) s ≡ true → every (between 0 0) t ≡ true → length s ≡ length t → s ≡ t
+unfolding every between
+zeros-same [] [] h k e = refl
+zeros-same [] (y ∷ t) h k e = absurd (omega (arith, e))
+zeros-same (x ∷ s) [] h k e = absurd (omega (arith, e))
+zeros-same (x ∷ s) (y ∷ t) h k e =
+    let low = leb-true x 0 (and-right (leb 0 x) (leb x 0) (and-left (leb 0 x && leb x 0) (every (between 0 0) s) h)) in
+    let also = leb-true y 0 (and-right (leb 0 y) (leb y 0) (and-left (leb 0 y && leb y 0) (every (between 0 0) t) k)) in
+    ap₂ (λ (c : ℕ) (l : List ℕ). c ∷ l) {x = x} {y = y} (omega (arith, low, also))
+    (zeros-same s t (and-right (leb 0 x && leb x 0) (every (between 0 0) s) h) (and-right (leb 0 y && leb y 0) (every (between 0 0) t) k) (omega (arith, e)))
+
+-- the tables of the one, where what is unused is the same
+pub all-rows : (n : ℕ) (t rows : List ℕ) → length t ≡ length rows → n * 24 ≤ length rows → drop (n * 24) t ≡ drop (n * 24) rows → rowsAfter t (entriesFrom 0 n rows) ≡ rows
+all-rows n t rows l h same =
     let after = rowsAfter t (entriesFrom 0 n rows) in
-    sym (take-all (24 * (0 + n)) after (omega (arith, length-copied 0 n t rows)))
-    ∙ rows-copied 0 n t rows (omega arith) (omega arith) refl
-    ∙ take-all (24 * (0 + n)) rows (omega arith)
+    let k : n * 24 ≡ 24 * (0 + n) = omega arith in
+    let d : drop (24 * (0 + n)) t ≡ drop (24 * (0 + n)) rows = rw k at same in
+    sym (take-append-drop (24 * (0 + n)) after)
+    ∙ ap₂ _++_ (rows-copied 0 n t rows l (omega arith) refl) (behind-copied 0 n t rows ∙ d)
+    ∙ take-append-drop (24 * (0 + n)) rows

@@ -4,8 +4,8 @@ use mathlib.Core.Bool.{true}
 use mathlib.Core.List.{List, [], _∷_, _++_, List·Memᴰ}
 use Prim.Native.Nat.{ℕ}
 use lib.ListN.{replicate}
+use Rattle.state.specs.WellFormed.{tablesIn}
 use Rattle.values.specs.Registers.{goodTable}
-use Rattle.state.specs.Sizes.{tables}
 use Rattle.state.specs.declared.Meter.{Meter}
 use Rattle.state.specs.Setting.{withRegisters, withAccount, withTables}
 use Rattle.replies.specs.Shown.{rowOf}
@@ -27,13 +27,13 @@ pub record CardDelivered (m : Meter) (account : List ℕ) (es : List Entry) (sai
   pub acknowledged : said ≡ cardAcknowledged (m .speed) es
   pub account-held : after .registers .account ≡ account
   pub named : (e : Entry) → List·Memᴰ e es → rowOf (after .registers .tables) (e .number) ≡ e .row
-  pub others : (n : ℕ) → goodTable tables n ≡ true → ((e : Entry) → List·Memᴰ e es → e .number ≡ n → ⊥)
+  pub others : (n : ℕ) → goodTable (tablesIn (m .registers)) n ≡ true → ((e : Entry) → List·Memᴰ e es → e .number ≡ n → ⊥)
       → rowOf (after .registers .tables) n ≡ rowOf (m .registers .tables) n
   pub kept : after ≡ withRegisters m (withTables (withAccount (m .registers) account) (after .registers .tables))
 
--- the card of one meter, delivered to another: account and tables are equal, and all else of the other is as before
+-- the card of one meter, delivered to another of its edition: account and tables are equal, and all else of the other is as before
 pub record Copied (from to : Meter) (said : List Said) (after : Meter) : Type 0 where
-  pub acknowledged : said ≡ cardAcknowledged (to .speed) (entriesFrom 0 tables (from .registers .tables))
+  pub acknowledged : said ≡ cardAcknowledged (to .speed) (entriesFrom 0 (tablesIn (from .registers)) (from .registers .tables))
   pub account : after .registers .account ≡ from .registers .account
   pub rows : after .registers .tables ≡ from .registers .tables
   pub kept : after ≡ withRegisters to (withTables (withAccount (to .registers) (from .registers .account)) (from .registers .tables))

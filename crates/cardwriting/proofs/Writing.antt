@@ -10,14 +10,16 @@ use lib.ListN.{length, take, drop, length-append, length-drop}
 use lib.Seq.{length-take-le}
 use Rattle.text.specs.Writing.{stored, holding}
 use Rattle.text.proofs.Writing.{and-then, stored-holding}
+use Rattle.values.specs.Edition.{isEdition, tablesOf}
+use Rattle.values.proofs.Editions.{tables-most}
 use Rattle.state.specs.declared.Meter.{Meter}
-use Rattle.state.specs.WellFormed.{wellFormed}
+use Rattle.state.specs.WellFormed.{tablesIn, editionOf, wellFormed}
 use Rattle.state.proofs.Parts.{long}
 use Rattle.replies.specs.Shown.{rowOf}
 use Rattle.post.specs.Grammar.{Entry}
 use Rattle.card.specs.Grammar.{accountField, tableField, tableFields, cardText}
 use Rattle.card.proofs.Fields.{account-field, table-field}
-use Rattle.cardwriting.specs.Writing.{entryAt, entriesFrom, cardOf, writtenIn, writtenTo}
+use Rattle.cardwriting.specs.Writing.{entryAt, entriesFrom, cardOf, unwritten, writtenIn, writtenTo}
 
 -- the last table apart
 fields-snoc : (above n : ℕ) (rows : List ℕ)
@@ -100,22 +102,31 @@ length-card-of account rows n h k =
     let l : length (accountField account) ≡ 13 = ap length (account-field account h) ∙ omega arith in
     length-append (accountField account) (tableFields (entriesFrom 0 n rows)) ∙ ap₂ _+_ l (length-from 0 n rows (omega arith))
 
--- the three answers
+-- the four answers
 module _ (m : Meter) (out : List ℕ) where
-  pub answers-14 : wellFormed m ≡ false → (record { number = 14; length = 0 } ≡ writtenIn 24 m out) × (out ≡ writtenTo 24 m out)
-  unfolding writtenIn writtenTo
-  answers-14 w = (rw w, rw w)
+  abbrev n : ℕ
+  n = tablesIn (m .registers)
 
-  pub answers-41 : wellFormed m ≡ true → length out < 685 → (record { number = 41; length = 0 } ≡ writtenIn 24 m out) × (out ≡ writtenTo 24 m out)
+  pub answers-16 : isEdition (editionOf m) ≡ false → (unwritten 16 ≡ writtenIn m out) × (out ≡ writtenTo m out)
   unfolding writtenIn writtenTo
-  answers-41 w h = let s = lt-ltb (length out) 685 h in (rw (w, s), rw (w, s))
+  answers-16 e = (rw e, rw e)
 
-  pub answers-1 : (after : List ℕ) → wellFormed m ≡ true → 685 ≤ length out → after ≡ stored out 0 (cardText (m .registers .account) (entriesFrom 0 24 (m .registers .tables)))
-      → (record { number = 1; length = 685 } ≡ writtenIn 24 m out) × (after ≡ writtenTo 24 m out)
-  unfolding writtenIn writtenTo cardOf
-  answers-1 after w h e =
-      let l = long m w in
-      let card = cardText (m .registers .account) (entriesFrom 0 24 (m .registers .tables)) in
-      let n = length-card-of (m .registers .account) (m .registers .tables) 24 (l .account) (omega (arith, l .tables)) in
-      let s = le-ltb (length out) 685 h in
-      (rw (w, s), rw (w, s) (e ∙ stored-holding out card (omega arith)))
+  pub answers-14 : isEdition (editionOf m) ≡ true → wellFormed m ≡ false → (unwritten 14 ≡ writtenIn m out) × (out ≡ writtenTo m out)
+  unfolding writtenIn writtenTo
+  answers-14 e w = (rw (e, w), rw (e, w))
+
+  module _ (e : isEdition (editionOf m) ≡ true) (w : wellFormed m ≡ true) (tables size : ℕ) (t : tables ≡ tablesOf (editionOf m)) (z : size ≡ 13 + 28 * tables) where
+    pub answers-41 : length out < size → (unwritten 41 ≡ writtenIn m out) × (out ≡ writtenTo m out)
+    unfolding writtenIn writtenTo
+    answers-41 h = let s = lt-ltb (length out) (13 + 28 * n) (omega (arith, h, t, z)) in (rw (e, w, s), rw (e, w, s))
+
+    pub answers-1 : (after : List ℕ) → size ≤ length out → after ≡ stored out 0 (cardText (m .registers .account) (entriesFrom 0 tables (m .registers .tables)))
+        → (record { number = 1; length = size } ≡ writtenIn m out) × (after ≡ writtenTo m out)
+    unfolding writtenIn writtenTo cardOf
+    answers-1 after h f =
+        let l = long m w in
+        let card = cardText (m .registers .account) (entriesFrom 0 n (m .registers .tables)) in
+        let k = length-card-of (m .registers .account) (m .registers .tables) n (l .account) (omega (arith, l .tables, tables-most (editionOf m))) in
+        let s = le-ltb (length out) (13 + 28 * n) (omega (arith, h, t, z)) in
+        let is : after ≡ stored out 0 card = f ∙ ap (λ (i : ℕ). stored out 0 (cardText (m .registers .account) (entriesFrom 0 i (m .registers .tables)))) t in
+        (rw (e, w, s, z, t), rw (e, w, s) (is ∙ stored-holding out card (omega (arith, h, t, z, k))))

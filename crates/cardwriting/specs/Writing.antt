@@ -5,9 +5,10 @@ use Prim.Native.Nat.{ℕ, zero, suc, _+_, _*_}
 use lib.Dec.{ltb}
 use lib.ListN.{length}
 use Rattle.text.specs.Writing.{holding}
+use Rattle.values.specs.Edition.{isEdition}
 use Rattle.state.specs.declared.Registers.{Registers}
 use Rattle.state.specs.declared.Meter.{Meter}
-use Rattle.state.specs.WellFormed.{wellFormed}
+use Rattle.state.specs.WellFormed.{tablesIn, editionOf, wellFormed}
 use Rattle.replies.specs.Shown.{rowOf}
 use Rattle.post.specs.Grammar.{Entry}
 use Rattle.card.specs.Grammar.{cardText}
@@ -29,13 +30,21 @@ cardOf tables g = cardText (g .account) (entriesFrom 0 tables (g .tables))
 abbrev pub cardLength : ℕ → ℕ
 cardLength tables = 13 + 28 * tables
 
--- 14 for a malformed state, then 41 for a buffer shorter than the card, else 1 with the card's length
-unfoldable pub writtenIn : ℕ → Meter → List ℕ → Written
-writtenIn tables m out =
-    cond (wellFormed m)
-    (cond (ltb (length out) (cardLength tables)) (record { number = 41; length = 0 }) (record { number = 1; length = cardLength tables }))
-    (record { number = 14; length = 0 })
+-- 16 for an edition that there is not, 14 for a malformed state, then 41 for a buffer shorter than the card, else 1 with the card's length
+abbrev pub unwritten : ℕ → Written
+unwritten number = record { number = number; length = 0 }
+
+unfoldable pub writtenIn : Meter → List ℕ → Written
+writtenIn m out =
+    cond (isEdition (editionOf m))
+    (cond (wellFormed m)
+    (cond (ltb (length out) (cardLength (tablesIn (m .registers)))) (unwritten 41) (record { number = 1; length = cardLength (tablesIn (m .registers)) }))
+    (unwritten 14))
+    (unwritten 16)
 
 -- the buffer begins with the card just where it is written, and keeps all else
-unfoldable pub writtenTo : ℕ → Meter → List ℕ → List ℕ
-writtenTo tables m out = cond (wellFormed m) (cond (ltb (length out) (cardLength tables)) out (holding out (cardOf tables (m .registers)))) out
+unfoldable pub writtenTo : Meter → List ℕ → List ℕ
+writtenTo m out =
+    cond (isEdition (editionOf m))
+    (cond (wellFormed m) (cond (ltb (length out) (cardLength (tablesIn (m .registers)))) out (holding out (cardOf (tablesIn (m .registers)) (m .registers)))) out)
+    out

@@ -8,12 +8,8 @@ ghost use Rattle.cardwriting.specs.Writing.{entryAt, entriesFrom, writte
 use state::ALL_ROWS;
 use state::Meter;
 use values::ROW_LENGTH;
-use values::TABLES;
 
-// The bytes of a card with all of its tables.
-pub const CARD: usize = 685;
-
-// The writer's answer: 1 with the card's length, 14 or 41.
+// The writer's answer: 1 with the card's length, 16, 14 or 41.
 pub struct Written {
     pub number: u8,
     pub length: usize,
@@ -63,26 +59,32 @@ fn put_own(out: &mut [u8], account: [u8; 10], rows: [u8; ALL_ROWS], tables: usiz
 
 // The card of a state, or why there is none; a refusal leaves the buffer as it was.
 pub fn write(m: Meter, out: &mut [u8]) -> Written
-    ensures { λ r. ⌜ (r ≡ writtenIn 24 m (now (out .entry))) × (now (out .exit) ≡ writtenTo 24 m (now (out .entry))) ⌝ }
+    ensures { λ r. ⌜ (r ≡ writtenIn m (now (out .entry))) × (now (out .exit) ≡ writtenTo m (now (out .entry))) ⌝ }
 {
+    if !state::has_edition(m) {
+        return Written {
+            number: 16,
+            length: 0,
+        };
+    }
     if !state::is_well_formed(m) {
         return Written {
             number: 14,
             length: 0,
         };
     }
-    if out.len() < CARD {
+    let g = m.registers;
+    let f = g.facts;
+    let tables = values::tables_of(f.edition) as usize;
+    let length = 13 + 28 * tables;
+    if out.len() < length {
         return Written {
             number: 41,
             length: 0,
         };
     }
-    let g = m.registers;
     let account = g.account;
     let rows = g.tables;
-    put_own(out, account, rows, TABLES as usize);
-    Written {
-        number: 1,
-        length: CARD,
-    }
+    put_own(out, account, rows, tables);
+    Written { number: 1, length }
 }

@@ -1,12 +1,13 @@
 -- Document 01, "The head": a command is built in a buffer of at least 64 bytes, or nothing is written.
 use mathlib.Core.Path.{_≡_}
-use mathlib.Core.Bool.{Bool, true, cond, _||_}
+use mathlib.Core.Bool.{Bool, true, false, cond, _||_}
 use mathlib.Core.List.{List}
 use Prim.Native.Nat.{ℕ, _+_, _≤_}
 use lib.Dec.{eqb, ltb}
 use lib.ListN.{length}
 use Rattle.line.specs.Quoted.{char}
 use Rattle.text.specs.Writing.{holding}
+use Rattle.values.specs.Edition.{isEdition}
 use Rattle.commands.specs.declared.Built.{Built}
 
 -- Y of the confirmation: '0', '6' or '7' for a block, '1' for a session
@@ -27,6 +28,11 @@ keptOr buf ok command = cond (ltb (length buf) 64) buf (cond ok (holding buf com
 pub record Builds (buf : List ℕ) (ok : Bool) (command : List ℕ) (r : Built) (after : List ℕ) : Type 0 where
   pub answer : r ≡ builtIn buf ok command
   pub held : after ≡ keptOr buf ok command
+
+-- [3]: of a command about a table, 16 before all else for an edition that there is not
+pub record BuildsFor (edition : ℕ) (buf : List ℕ) (ok : Bool) (command : List ℕ) (r : Built) (after : List ℕ) : Type 0 where
+  pub none : isEdition edition ≡ false → (r ≡ record { number = 16; length = 0 }) × (after ≡ buf)
+  pub some : isEdition edition ≡ true → Builds buf ok command r after
 
 -- what a command is made in: room for it, a first part and a content of a command's size
 pub record Room (buf start content : List ℕ) : Type 0 where

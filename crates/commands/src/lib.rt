@@ -6,21 +6,23 @@ ghost use Prim.Native.Nat.{_+_, _≤_};
 ghost use lib.ListN.{length};
 ghost use Rattle.line.specs.Quoted.{chars};
 ghost use Rattle.clock.specs.Seconds.{realClock};
-ghost use Rattle.values.specs.Edition.{editionTables, rowLength};
+ghost use Rattle.values.specs.Edition.{tablesOf, rowLength};
 ghost use Rattle.values.specs.Registers.{goodSerial, goodPassword, goodAccount, goodRow, goodTable, goodZone};
 ghost use Rattle.values.specs.Texts.{serialText, wiredText, tableText, clockText};
 ghost use Rattle.frames.specs.Frames.{sealed, frameOf, bareFrame, onWire};
 ghost use Rattle.frames.specs.Commands.{B0, P1, R1, W1, askClock, askSerial, askAccount, askEnergy, askTable, setClock, setAccount, setTable};
 ghost use Rattle.frames.specs.Session.{signOn, closingSignOn, signOnTo, wiredSignOn, confirmation, goodSpeed, enterData, passwordData};
-ghost use Rattle.commands.specs.Building.{goodChoice, Builds, Room, Small, Made};
+ghost use Rattle.commands.specs.Building.{goodChoice, Builds, BuildsFor, Room, Small, Made};
 use clock::Clock;
 use values::TableNo;
 use values::ZoneNo;
 
-// The answers of document 01: built; a field outside its rule; a buffer under 64 bytes.
+// The answers: built; a field outside its rule; an edition that there is not; a buffer under 64 bytes.
 pub const DONE: u8 = 1;
 
 pub const FIELD: u8 = 9;
+
+pub const NO_EDITION: u8 = 16;
 
 pub const SHORT: u8 = 19;
 
@@ -237,11 +239,11 @@ pub fn read_zone(buf: &mut [u8], zone: ZoneNo) -> Built
     )
 }
 
-// R1 for a table.
-pub fn read_table(buf: &mut [u8], table: TableNo) -> Built
-    ensures { λ r. ⌜ Builds (now (buf .entry)) (goodTable editionTables (table .0)) (onWire (frameOf R1 (askTable (table .0)))) r (now (buf .exit)) ⌝ }
+// R1 for a table, of so many tables.
+pub fn read_table_of(buf: &mut [u8], tables: u8, table: TableNo) -> Built
+    ensures { λ r. ⌜ Builds (now (buf .entry)) (goodTable tables (table .0)) (onWire (frameOf R1 (askTable (table .0)))) r (now (buf .exit)) ⌝ }
 {
-    let good = values::is_table(table, values::TABLES);
+    let good = values::is_table(table, tables);
     let n = table.0;
     build(
         buf,
@@ -249,6 +251,25 @@ pub fn read_table(buf: &mut [u8], table: TableNo) -> Built
         b"\x01R1\x02Z(",
         &[b'0' + n / 10 % 10, b'0' + n % 10],
     )
+}
+
+fn no_edition() -> Built
+    ensures { λ r. ⌜ r ≡ record { number = 16; length = 0 } ⌝ }
+{
+    Built {
+        number: NO_EDITION,
+        length: 0,
+    }
+}
+
+// R1 for a table of an edition's meter.
+pub fn read_table(buf: &mut [u8], edition: u8, table: TableNo) -> Built
+    ensures { λ r. ⌜ BuildsFor edition (now (buf .entry)) (goodTable (tablesOf edition) (table .0)) (onWire (frameOf R1 (askTable (table .0)))) r (now (buf .exit)) ⌝ }
+{
+    if values::is_edition(edition) {
+        return read_table_of(buf, values::tables_of(edition), table);
+    }
+    no_edition()
 }
 
 // The clock as it is written.
@@ -288,18 +309,28 @@ fn shown_table(t: TableNo, row: &[u8]) -> [u8; 27]
     shown
 }
 
-// W1 for a table.
-pub fn write_table(buf: &mut [u8], table: TableNo, row: &[u8]) -> Built
-    ensures { λ r. ⌜ Builds (now (buf .entry)) (goodTable editionTables (table .0) && goodRow (now (row .entry))) (onWire (frameOf W1 (setTable (table .0) (now (row .entry))))) r (now (buf .exit)) ⌝ }
+// W1 for a table, of so many tables.
+pub fn write_table_of(buf: &mut [u8], tables: u8, table: TableNo, row: &[u8]) -> Built
+    ensures { λ r. ⌜ Builds (now (buf .entry)) (goodTable tables (table .0) && goodRow (now (row .entry))) (onWire (frameOf W1 (setTable (table .0) (now (row .entry))))) r (now (buf .exit)) ⌝ }
 {
     if buf.len() < ROOM {
         return short();
     }
-    let good = values::is_table(table, values::TABLES) & values::is_row(row);
+    let good = values::is_table(table, tables) & values::is_row(row);
     if !good {
         return refused();
     }
     frame(buf, b"\x01W1\x02Z(", &shown_table(table, row))
+}
+
+// W1 for a table of an edition's meter.
+pub fn write_table(buf: &mut [u8], edition: u8, table: TableNo, row: &[u8]) -> Built
+    ensures { λ r. ⌜ BuildsFor edition (now (buf .entry)) (goodTable (tablesOf edition) (table .0) && goodRow (now (row .entry))) (onWire (frameOf W1 (setTable (table .0) (now (row .entry))))) r (now (buf .exit)) ⌝ }
+{
+    if values::is_edition(edition) {
+        return write_table_of(buf, values::tables_of(edition), table, row);
+    }
+    no_edition()
 }
 
 // B0, the end of a session.

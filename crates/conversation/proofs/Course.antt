@@ -8,17 +8,18 @@ use native.Mathlib.Omega.{arith}
 use borrow.Author.Tests.{le-leb, lt-leb, ne-eqb, eqb-true}
 use lib.Dec.{eqb, leb, lit≤}
 use lib.ListN.{length, replicate}
+use Rattle.line.specs.Quoted.{chars}
+use Rattle.values.specs.Edition.{tablesOf}
 use Rattle.text.specs.Classes.{sameText, matching}
 use Rattle.text.proofs.Matching.{same-self}
 use Rattle.text.proofs.Beginnings.{le-or-lt}
-use Rattle.values.specs.Edition.{editionTables}
 use Rattle.values.specs.Registers.{goodSerial, goodPassword}
 use Rattle.frames.specs.Frames.{onWire}
 use Rattle.frames.specs.Session.{goodSpeed, speedSaid}
 use Rattle.state.specs.Sizes.{replyRoom}
 use Rattle.state.specs.declared.Registers.{Registers}
 use Rattle.state.specs.declared.Meter.{Meter}
-use Rattle.state.specs.WellFormed.{speedGood, registersGood}
+use Rattle.state.specs.WellFormed.{speedGood, registersGood, tablesIn, editionOf}
 use Rattle.state.specs.Link.{linkOf, isWired}
 use Rattle.state.proofs.Parts.{rest-good, fast-good}
 use Rattle.meter.specs.Link.{identified as identifiedOn}
@@ -39,6 +40,15 @@ use Rattle.dialogue.proofs.Dialogue.{idle-listens}
 use Rattle.conversation.specs.Conversation.{Talk, exchange, converse, asking, stopped}
 use Rattle.conversation.proofs.Right.{identified, password-asked, long-is-no-nak}
 use Rattle.conversation.proofs.Exchange.{Right, acknowledged, Sound, message-work, right-work, message-leave, right-leave, goes-on, is-done, exchange-right}
+
+-- an identification has 19 characters
+pub identification-long : (edition : ℕ) → length (identification edition) ≡ 19
+unfolding identification
+identification-long edition = go (eqb edition 2)
+  where
+    go : (two : Bool) → length (cond two (chars "/ZZZ5SUB-VP02.00*\r\n") (chars "/ZZZ5SUB-VP01.00*\r\n")) ≡ 19
+    go true = refl
+    go false = refl
 
 -- the same message by another name, judged the same
 pub renamed : (x y : Message) (m next : Meter) (j k : List ℕ → Bool) → y ≡ x → ((r : List ℕ) → j r ≡ k r) → Right x m next k → Right y m next j
@@ -70,32 +80,32 @@ pub working : (s : Session) (a : ℕ) (g : Registers) (mode b : ℕ) → EntersA
 working s a g mode b (as-plain h) = refl
 working s a g mode b (as-known h p k l) = refl
 
-module _ (s : Session) (work : List ℕ) (a : ℕ) (g : Registers) (few : a ≤ 3) (good : registersGood g ≡ true) where
+module _ (s : Session) (work : List ℕ) (a : ℕ) (g : Registers) (same : s .edition ≡ g .facts .edition) (few : a ≤ 3) (good : registersGood g ≡ true) where
   fit-here : (mode speed : ℕ) → mode ≤ 4 → speedGood (g .facts .link) mode speed ≡ true → Fit mode a speed g
   fit-here mode speed h k = record { known = h; attempts = few; speed = k; registers = good }
 
   -- the sign-on
-  calls : (x : Message) → goodMessage editionTables x ≡ true → allowedIn x 0 ≡ true → outcomeOf (idle 0 a (resting g) g) x ≡ saying 1 (resting g) identification (idle 1 a (resting g) g)
-      → Right x (idle 0 a (resting g) g) (idle 1 a (resting g) g) identifies
+  calls : (x : Message) → goodMessage (tablesIn g) x ≡ true → allowedIn x 0 ≡ true
+      → outcomeOf (idle 0 a (resting g) g) x ≡ saying 1 (resting g) (identification (g .facts .edition)) (idle 1 a (resting g) g) → Right x (idle 0 a (resting g) g) (idle 1 a (resting g) g) (identifies (g .facts .edition))
   calls x h k e =
       record {
         good = h;
         hears = idle-listens 0 a (resting g) g x (fit-here 0 (resting g) (lit≤ tt) (rest-good (g .facts .link) 0)) k;
-        reply = identification;
+        reply = identification (g .facts .edition);
         said = ap (λ (o : Outcome). o .reply) e;
-        some = λ z. omega arith;
-        no-nak = long-is-no-nak identification (λ z. omega arith);
-        right = identified;
+        some = λ z. omega (arith, identification-long (g .facts .edition));
+        no-nak = long-is-no-nak (identification (g .facts .edition)) (λ z. omega (arith, identification-long (g .facts .edition)));
+        right = identified (g .facts .edition);
         after = ap (λ (o : Outcome). o .next) e;
       }
 
   pub right-call : Ours s g → Right (messageAt s work 1) (idle 0 a (resting g) g) (idle 1 a (resting g) g) (rightAt s work 1)
   unfolding messageAt rightAt calling
   right-call (any-meter optical h) =
-      renamed call (messageAt s work 1) _ _ (rightAt s work 1) identifies (rw h) (λ r. refl)
+      renamed call (messageAt s work 1) _ _ (rightAt s work 1) (identifies (g .facts .edition)) (rw h) (λ r. ap (λ (e : ℕ). identifies e r) same)
       (calls call (unfold goodMessage in refl) (unfold allowedIn in refl) (unfold outcomeOf identifiedOn in (rw optical)))
   right-call (this-meter optical h k e) =
-      renamed (callTo (s .serial)) (messageAt s work 1) _ _ (rightAt s work 1) identifies (rw h) (λ r. refl)
+      renamed (callTo (s .serial)) (messageAt s work 1) _ _ (rightAt s work 1) (identifies (g .facts .edition)) (rw h) (λ r. ap (λ (e : ℕ). identifies e r) same)
       (calls (callTo (s .serial)) (unfold goodMessage in k) (unfold allowedIn in refl) (unfold outcomeOf names identifiedOn in (rw (optical, e))))
 
   -- the confirmation, at 9600 baud, for programming
@@ -114,7 +124,7 @@ module _ (s : Session) (work : List ℕ) (a : ℕ) (g : Registers) (few : a ≤ 
       }
 
   -- the password, or `()`
-  entered : (c : Message) (next : Meter) → goodMessage editionTables c ≡ true → allowedIn c 2 ≡ true → outcomeOf (idle 2 a 5 g) c ≡ ack 5 next → messageAt s work 3 ≡ c
+  entered : (c : Message) (next : Meter) → goodMessage (tablesIn g) c ≡ true → allowedIn c 2 ≡ true → outcomeOf (idle 2 a 5 g) c ≡ ack 5 next → messageAt s work 3 ≡ c
       → Right (messageAt s work 3) (idle 2 a 5 g) next (rightAt s work 3)
   unfolding rightAt
   entered c next h k e is =
@@ -140,6 +150,11 @@ module _ (s : Session) (work : List ℕ) (a : ℕ) (g : Registers) (few : a ≤ 
       leaves i h k l =
           acknowledged leave (idle i a 5 g) (idle 0 a (resting g) g) 5 (unfold goodMessage in refl) (idle-listens i a 5 g leave (fit-here i 5 h k) l) (unfold outcomeOf in refl)
 
+-- what a meter of the session's edition takes, the session builds
+pub for-edition : (s : Session) (m : Meter) (x : Message) → s .edition ≡ editionOf m → goodMessage (tablesIn (m .registers)) x ≡ true
+    → goodMessage (tablesOf (s .edition)) x ≡ true
+for-edition s m x same h = ap (λ (e : ℕ). goodMessage (tablesOf e) x) same ∙ h
+
 -- ---- some messages, one after the other
 
 abbrev pub RightHere : Session → List ℕ → ℕ → Meter → Meter → Type 0
@@ -147,15 +162,18 @@ RightHere s work n m next = Right (messageAt s work n) m next (rightAt s work n)
 
 -- all but the message after the last are answered right, and that one can be built
 module _ (s : Session) (work : List ℕ) (sound : Sound s) (at : ℕ → Meter) (last : ℕ) (within : last < s .count + 4)
-    (rights : (k : ℕ) → k < last → RightHere s work (k + 1) (at k) (at (suc k))) (built : goodMessage editionTables (messageAt s work (last + 1)) ≡ true)
+    (same : (k : ℕ) → s .edition ≡ editionOf (at k))
+    (rights : (k : ℕ) → k < last → RightHere s work (k + 1) (at k) (at (suc k))) (built : goodMessage (tablesOf (s .edition)) (messageAt s work (last + 1)) ≡ true)
     (rooms : ℕ → ℕ → ℕ) (large : (k i : ℕ) → replyRoom ≤ rooms k i) (buffers : ℕ → ℕ) (long : (k : ℕ) → 64 ≤ buffers k) where
   abbrev pub talk : ℕ → Talk
   talk = converse rooms buffers work (record { turn = asking s work 1; meter = at 0 })
 
-  builds : (k : ℕ) → suc k ≤ last → goodMessage editionTables (messageAt s work (k + 1 + 1)) ≡ true
+  builds : (k : ℕ) → suc k ≤ last → goodMessage (tablesOf (s .edition)) (messageAt s work (k + 1 + 1)) ≡ true
   builds k h =
-      ⊎-elim (λ l. subst (λ (i : ℕ). goodMessage editionTables (messageAt s work i) ≡ true) {x = last + 1} {y = k + 1 + 1} (omega arith) built)
-      (λ l. subst (λ (i : ℕ). goodMessage editionTables (messageAt s work i) ≡ true) {x = suc k + 1} {y = k + 1 + 1} (omega arith) (rights (suc k) l .good))
+      ⊎-elim (λ l. subst (λ (i : ℕ). goodMessage (tablesOf (s .edition)) (messageAt s work i) ≡ true) {x = last + 1} {y = k + 1 + 1} (omega arith) built)
+      (λ l.
+      subst (λ (i : ℕ). goodMessage (tablesOf (s .edition)) (messageAt s work i) ≡ true) {x = suc k + 1} {y = k + 1 + 1} (omega arith)
+      (for-edition s (at (suc k)) (messageAt s work (suc k + 1)) (same (suc k)) (rights (suc k) l .good)))
       (le-or-lt last (suc k))
 
   -- it goes on at each
@@ -198,6 +216,7 @@ stage-optical count a mode b g h (suc (suc (suc i))) = either (leb i count)
 -- what a session that goes well stands on
 pub record Goes (s : Session) (work : List ℕ) (a mode b : ℕ) (g : ℕ → Registers) : Type 0 where
   pub sound : Sound s
+  pub edition : (i : ℕ) → s .edition ≡ g i .facts .edition
   pub few : a ≤ 3
   pub fewer : b ≤ 3
   pub good : (i : ℕ) → i ≤ s .count → registersGood (g i) ≡ true
@@ -218,6 +237,17 @@ module _ (s : Session) (work : List ℕ) (a mode b : ℕ) (g : ℕ → Registers
   unfolding stage
   at-end i h = rw (lt-leb i (s .count) h)
 
+  pub same-at : (k : ℕ) → s .edition ≡ editionOf (at k)
+  unfolding stage
+  same-at zero = goes .edition 0
+  same-at (suc zero) = goes .edition 0
+  same-at (suc (suc zero)) = goes .edition 0
+  same-at (suc (suc (suc i))) = go (leb i (s .count))
+    where
+      go : (p : Bool) → s .edition ≡ editionOf (cond p (idle mode b 5 (g i)) (idle 0 b (resting (g (s .count))) (g (s .count))))
+      go true = goes .edition i
+      go false = goes .edition (s .count)
+
   right-working : (i : ℕ) → i < s .count → RightHere s work (i + 4) (at (suc (suc (suc i)))) (at (suc (suc (suc (suc i)))))
   right-working i h =
       rw (at-working i (omega arith), at-working (suc i) h)
@@ -226,13 +256,13 @@ module _ (s : Session) (work : List ℕ) (a mode b : ℕ) (g : ℕ → Registers
   right-last : (i : ℕ) → i ≡ s .count → RightHere s work (i + 4) (at (suc (suc (suc i)))) (at (suc (suc (suc (suc i)))))
   right-last i e =
       rw (at-working i (omega (arith, e)), at-end (suc i) (omega (arith, e)), e)
-      (right-leaving s work b (g (s .count)) (goes .fewer) (goes .good (s .count) (omega arith)) mode (s .count + 4) (working s a (g 0) mode b (goes .enters)) (omega arith))
+      (right-leaving s work b (g (s .count)) (goes .edition (s .count)) (goes .fewer) (goes .good (s .count) (omega arith)) mode (s .count + 4) (working s a (g 0) mode b (goes .enters)) (omega arith))
 
   pub right-at : (k : ℕ) → k < s .count + 4 → RightHere s work (k + 1) (at k) (at (suc k))
-  right-at zero h = unfold stage in (right-call s work a (g 0) (goes .few) (goes .good 0 (omega arith)) (goes .ours))
-  right-at (suc zero) h = unfold stage in (right-confirm s work a (g 0) (goes .few) (goes .good 0 (omega arith)))
+  right-at zero h = unfold stage in (right-call s work a (g 0) (goes .edition 0) (goes .few) (goes .good 0 (omega arith)) (goes .ours))
+  right-at (suc zero) h = unfold stage in (right-confirm s work a (g 0) (goes .edition 0) (goes .few) (goes .good 0 (omega arith)))
   right-at (suc (suc zero)) h =
-      rw (at-working 0 (omega arith)) (unfold stage in (right-enter s work a (g 0) (goes .few) (goes .good 0 (omega arith)) mode b (goes .enters)))
+      rw (at-working 0 (omega arith)) (unfold stage in (right-enter s work a (g 0) (goes .edition 0) (goes .few) (goes .good 0 (omega arith)) mode b (goes .enters)))
   right-at (suc (suc (suc i))) h =
       subst (λ (n : ℕ). RightHere s work n (at (suc (suc (suc i)))) (at (suc (suc (suc (suc i)))))) {x = i + 4} {y = suc (suc (suc i)) + 1} (omega arith)
       (⊎-elim (λ l. right-last i (omega arith)) (λ l. right-working i l) (le-or-lt (s .count) i))
@@ -244,9 +274,12 @@ module _ (s : Session) (work : List ℕ) (a mode b : ℕ) (g : ℕ → Registers
     rights : (k : ℕ) → k < s .count + 3 → RightHere s work (k + 1) (at k) (at (suc k))
     rights k h = right-at k (omega arith)
 
+    last-built : goodMessage (tablesOf (s .edition)) (messageAt s work (s .count + 3 + 1)) ≡ true
+    last-built = for-edition s (at (s .count + 3)) (messageAt s work (s .count + 3 + 1)) (same-at (s .count + 3)) (right-at (s .count + 3) (omega arith) .good)
+
     pub courses : (k : ℕ) → k < s .count + 4 → course k ≡ record { turn = asking s work (k + 1); meter = at k }
     courses k h =
-        talks s work (goes .sound) at (s .count + 3) (omega arith) rights (right-at (s .count + 3) (omega arith) .good) rooms large buffers long k (omega arith)
+        talks s work (goes .sound) at (s .count + 3) (omega arith) same-at rights last-built rooms large buffers long k (omega arith)
 
     -- done after the last, and the meter listens again
     pub course-ends : course (s .count + 4) ≡ record { turn = stopped s (s .count + 4) 1; meter = idle 0 b (resting (g (s .count))) (g (s .count)) }
@@ -255,7 +288,7 @@ module _ (s : Session) (work : List ℕ) (a mode b : ℕ) (g : ℕ → Registers
         let n : k + 1 ≡ s .count + 4 = omega arith in
         let last = right-at k (omega arith) in
         ap course {x = s .count + 4} {y = suc k} (omega arith)
-        ∙ talk-last s work (goes .sound) at k (omega arith) rights (last .good) rooms large buffers long (answeredRight (standing s (k + 1) 0) work) (at (suc k))
+        ∙ talk-last s work (goes .sound) at k (omega arith) same-at rights last-built rooms large buffers long (answeredRight (standing s (k + 1) 0) work) (at (suc k))
         (exchange-right s work (goes .sound) (rooms k) (large k) (buffers k) (long k) (k + 1) (omega arith) (omega arith) (at k) (at (suc k)) last)
         ∙ ap₂ (λ (u : Turn) (m : Meter). record { turn = u; meter = m }) (is-done s work (goes .sound) (k + 1) n ∙ ap (λ (i : ℕ). stopped s i 1) n)
         (ap at {x = suc k} {y = suc (suc (suc (suc (s .count))))} (omega arith) ∙ at-end (suc (s .count)) (omega arith))

@@ -9,20 +9,20 @@ use borrow.Author.Tests.{eqb-true, leb-true, not-true}
 use lib.Dec.{eqb, leb}
 use lib.ListN.{length, take, drop, set, take-append-drop, length-append, length-map, drop-of-length-le}
 use lib.Seq.{set-split, drop-append-le, length-take-le}
+use Rattle.state.proofs.Parts.{edition-good}
 use Rattle.line.specs.Characters.{damagedAt, sent}
 use Rattle.line.specs.Runs.{every}
 use Rattle.line.proofs.Runs.{and-left, and-right, and-both, every-weaker, every-drop}
 use Rattle.line.proofs.Parity.{sent-comes-back, sent-undamaged}
 use Rattle.text.specs.Classes.{sameText}
 use Rattle.text.proofs.Beginnings.{le-or-lt}
-use Rattle.values.specs.Edition.{editionTables}
 use Rattle.values.specs.Registers.{goodTable}
 use Rattle.frames.specs.Frames.{onWire}
-use Rattle.state.specs.Sizes.{replyRoom, tables, heldPlaces}
+use Rattle.state.specs.Sizes.{replyRoom, heldPlaces}
 use Rattle.state.specs.declared.Registers.{Registers}
 use Rattle.state.specs.declared.Meter.{Meter}
 use Rattle.state.specs.Link.{linkOf, isWired}
-use Rattle.state.specs.WellFormed.{wellFormed, marked}
+use Rattle.state.specs.WellFormed.{wellFormed, marked, tablesIn}
 use Rattle.replies.specs.Fixed.{refused}
 use Rattle.receiving.specs.declared.Hearing.{Hearing}
 use Rattle.receiving.specs.Hearing.{hearing, listening, confirming, framing}
@@ -72,10 +72,10 @@ module _ (m : Meter) (c : ℕ) (d : Bool) where
       choice.either Stays (eqb (m .attempts) 3) (λ e. absurd (omega arith))
       (choice.either Stays (sameText (passwordGiven m) (m .registers .facts .password)) (λ e. absurd (omega arith)) (λ e. absurd (omega arith)))
 
-  frame-stays : (mark : Bool) → Stays (acted m (verdict (m .mode) (heldText (m .receiver)) mark c))
+  frame-stays : (mark : Bool) → Stays (acted m (verdict (tablesIn (m .registers)) (m .mode) (heldText (m .receiver)) mark c))
   unfolding acted
   frame-stays mark =
-      verdict-all (λ (v : Verdict). Stays (acted m v)) (m .mode) (heldText (m .receiver)) mark c
+      verdict-all (λ (v : Verdict). Stays (acted m v)) (tablesIn (m .registers)) (m .mode) (heldText (m .receiver)) mark c
       (record {
         refuse = λ n k e. absurd (never-zero mark n k e);
         leave = λ e. absurd (omega arith);
@@ -86,7 +86,7 @@ module _ (m : Meter) (c : ℕ) (d : Bool) where
             record {
               clock = λ x i r e. absurd (omega arith);
               account = λ r e. absurd (omega arith);
-              table = λ t i g r. choice.either Stays (goodTable tables (t .0)) (λ e. absurd (omega arith)) (λ e. absurd (omega arith));
+              table = λ t i g r. choice.either Stays (goodTable (tablesIn (m .registers)) (t .0)) (λ e. absurd (omega arith)) (λ e. absurd (omega arith));
               wrong = λ e. absurd (omega arith);
             };
       })
@@ -109,7 +109,7 @@ module _ (m : Meter) (c : ℕ) (d : Bool) where
 
 byte-stays : (m : Meter) (b : ℕ) → wellFormed m ≡ true → Stays m (symbol b) (damagedAt b) (character m replyRoom b)
 unfolding character taken
-byte-stays m b f = rw f (heard-stays m (symbol b) (damagedAt b))
+byte-stays m b f = rw (edition-good m f, f) (heard-stays m (symbol b) (damagedAt b))
 
 -- ---- the bytes before the damaged one
 
@@ -258,7 +258,7 @@ pub record Unheeded (m : Meter) (rooms : ℕ → ℕ) (bytes : List ℕ) : Type 
   pub attempts : left m rooms bytes .attempts ≡ m .attempts
   pub reply : (replyTo m rooms bytes ≡ []) ⊎ (replyTo m rooms bytes ≡ refused)
 
-module _ (m : Meter) (x : Message) (good : goodMessage editionTables x ≡ true) (l : Listens m x) (optical : isWired (linkOf m) ≡ false) (s : Shape (m .mode) (textOf x))
+module _ (m : Meter) (x : Message) (good : goodMessage (tablesIn (m .registers)) x ≡ true) (l : Listens m x) (optical : isWired (linkOf m) ≡ false) (s : Shape (m .mode) (textOf x))
     (j b : ℕ) (there : j < length (textOf x)) (d : damagedAt b ≡ true) where
   abbrev wire : List ℕ
   wire = onWire (textOf x)

@@ -8,6 +8,8 @@ use native.Mathlib.Omega.{arith}
 use borrow.Author.Tests.{le-ltb, ne-eqb}
 use lib.Dec.{eqb, leb}
 use lib.ListN.{length, getD, set}
+use Rattle.state.specs.WellFormed.{tablesIn}
+use Rattle.values.specs.Edition.{tablesOf}
 use Rattle.line.specs.Characters.{damagedAt, undamagedAll}
 use Rattle.line.specs.Runs.{every}
 use Rattle.text.specs.Classes.{sameText}
@@ -15,8 +17,7 @@ use Rattle.frames.specs.Frames.{onWire}
 use Rattle.state.specs.declared.Meter.{Meter}
 use Rattle.replies.specs.Fixed.{identification, passwordAsk, accepted, refused}
 use Rattle.commands.specs.Spoken.{goodFields}
-use Rattle.commands.specs.Messages.{textOf}
-use Rattle.values.specs.Edition.{editionTables}
+use Rattle.commands.specs.Messages.{textOf, goodMessage}
 use Rattle.judging.specs.Right.{identifies, asksPassword, accepts, refuses, answers}
 use Rattle.readback.proofs.Sending.{sent-undamaged-all}
 use Rattle.session.specs.declared.Session.{Session}
@@ -58,18 +59,18 @@ module _ (reply : List ℕ) (hurt : undamagedAll reply ≡ false) where
   unfolding accepts
   no-ack = not-sent accepted
 
-  no-answer : (letter n : ℕ) → rightRead letter n reply ≡ false
+  no-answer : (tables letter n : ℕ) → rightRead tables letter n reply ≡ false
   unfolding rightRead answers
-  no-answer letter n = rw hurt (and-false (goodFields editionTables (readOf letter n)))
+  no-answer tables letter n = rw hurt (and-false (goodFields tables (readOf letter n)))
 
   no-right-work : (s : Session) (work : List ℕ) (i : ℕ) → rightWork s work i reply ≡ false
   unfolding rightWork
-  no-right-work s work i = either-false (eqb (s .work) 1) (accepts reply) _ no-ack (no-answer (getD work (i * 2) 0) (getD work (i * 2 + 1) 0))
+  no-right-work s work i = either-false (eqb (s .work) 1) (accepts reply) _ no-ack (no-answer (tablesOf (s .edition)) (getD work (i * 2) 0) (getD work (i * 2 + 1) 0))
 
   no-right : (s : Session) (work : List ℕ) (n : ℕ) → rightAt s work n reply ≡ false
   unfolding rightAt identifies asksPassword
   no-right s work n =
-      either-false (eqb n 1) _ _ (not-sent identification)
+      either-false (eqb n 1) _ _ (not-sent (identification (s .edition)))
       (either-false (eqb n 2) _ _ (not-sent passwordAsk)
       (either-false (eqb n 3) _ _ no-ack (either-false (leb n (s .count + 3)) _ _ (no-right-work s work (n - 4)) no-ack)))
 
@@ -135,8 +136,9 @@ module _ (t : Told) (work : List ℕ) (room : ℕ) (o : Opening) (opens : Opens 
       let x = messageAt s work (k + 1) in
       let text : here .turn .text ≡ textOf x = ap (λ (u : Turn). u .text) (st .going k h) in
       let listens = st .heard k h in
+      let good-there : goodMessage (tablesIn (here .meter .registers)) x ≡ true = ap (λ (e : ℕ). goodMessage (tablesOf e) x) (sym (st .edition k h)) ∙ st .built k h in
       let un =
-      unheeded (here .meter) x (st .built k h) listens (st .optical k h) (shaped (here .meter .mode) x (st .built k h) (listens .allowed)) j b (subst (λ (l : List ℕ). j < length l) text there) d
+      unheeded (here .meter) x good-there listens (st .optical k h) (shaped (tablesIn (here .meter .registers)) (here .meter .mode) x good-there (listens .allowed)) j b (subst (λ (l : List ℕ). j < length l) text there) d
       (rooms k) (roomy .replies k)
       in
       let bytes : set (onWire (here .turn .text)) j b ≡ set (onWire (textOf x)) j b = ap (λ (l : List ℕ). set (onWire l) j b) text in

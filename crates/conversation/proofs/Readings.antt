@@ -6,11 +6,11 @@ use Prim.Native.Nat.{ℕ, suc, _+_, _*_, _/_, _≤_, _<_}
 use native.Mathlib.Omega.{arith}
 use lib.Dec.{eqb}
 use lib.ListN.{length, getD}
-use Rattle.values.specs.Edition.{editionTables}
+use Rattle.values.specs.Edition.{tablesOf}
 use Rattle.frames.specs.Frames.{blockOf, onWire}
 use Rattle.state.specs.declared.Registers.{Registers}
 use Rattle.state.specs.declared.Meter.{Meter}
-use Rattle.state.specs.WellFormed.{registersGood}
+use Rattle.state.specs.WellFormed.{registersGood, tablesIn}
 use Rattle.state.specs.Link.{isWired}
 use Rattle.state.specs.Setting.{withAttempts}
 use Rattle.state.proofs.Parts.{formed}
@@ -29,7 +29,7 @@ use Rattle.dialogue.proofs.Dialogue.{idle-listens}
 use Rattle.readback.proofs.Blocks.{block-long}
 use Rattle.recital.proofs.Recital.{answer-block-reads-back}
 use Rattle.conversation.specs.Conversation.{Talk, replyTo}
-use Rattle.conversation.specs.Ends.{Waits, Calls, Enters, Roomy, saidAfter, Stops, ReadBack, ReadsDone}
+use Rattle.conversation.specs.Ends.{Waits, Calls, Enters, Roomy, saidAfter, Stops, ReadBack, ReadsDone, ForEdition}
 use Rattle.conversation.proofs.Right.{block-is-no-nak}
 use Rattle.conversation.proofs.Telling.{Answered, read-answered, read-right}
 use Rattle.conversation.proofs.Exchange.{Right, message-work, reply-is}
@@ -39,7 +39,7 @@ use Rattle.conversation.proofs.Done.{waits-is, ours, Entered, entered, 
 
 -- ---- one read
 
-module _ (work : List ℕ) (i mode b : ℕ) (g : Registers) (fit : Fit mode b 5 g) (k : (eqb mode 3 || eqb mode 4) ≡ true) (built : goodFields editionTables (readAt work i) ≡ true) where
+module _ (work : List ℕ) (i mode b : ℕ) (g : Registers) (fit : Fit mode b 5 g) (k : (eqb mode 3 || eqb mode 4) ≡ true) (built : goodFields (tablesIn g) (readAt work i) ≡ true) where
   abbrev letter : ℕ
   letter = getD work (i * 2) 0
 
@@ -50,7 +50,7 @@ module _ (work : List ℕ) (i mode b : ℕ) (g : Registers) (fit : Fit mode b 5 
   unfolding readAt
   read-at = read-answered g (fit .registers) number letter built
 
-  pub right-read : Right (command (readAt work i)) (idle mode b 5 g) (idle mode b 5 g) (rightRead letter number)
+  pub right-read : Right (command (readAt work i)) (idle mode b 5 g) (idle mode b 5 g) (rightRead (tablesIn g) letter number)
   unfolding goodMessage outcomeOf
   right-read =
       let a = read-at in
@@ -63,13 +63,13 @@ module _ (work : List ℕ) (i mode b : ℕ) (g : Registers) (fit : Fit mode b 5 
         said = ap (λ (x : Outcome). x .reply) (a .obeys m);
         some = λ z. omega (arith, block-long content);
         no-nak = block-is-no-nak content;
-        right = read-right g (fit .registers) letter number (unfold readAt in built) (a .asks) (a .tells-it);
+        right = read-right g (fit .registers) letter number (unfold readAt in built) (a .asks) (a .can) (a .tells-it);
         after = ap (λ (x : Outcome). x .next) (a .obeys m);
       }
 
 -- ---- all reads
 
-module _ (t : Told) (work : List ℕ) (o : Opening) (r : ReadsBegan t work o) (kind : t .kind ≡ 0) (a : ℕ) (g : Registers) (few : a ≤ 3) (good : registersGood g ≡ true) (optical : isWired (g .facts .link) ≡ false)
+module _ (t : Told) (work : List ℕ) (o : Opening) (r : ReadsBegan t work o) (kind : t .kind ≡ 0) (a : ℕ) (g : Registers) (same : t .edition ≡ g .facts .edition) (few : a ≤ 3) (good : registersGood g ≡ true) (optical : isWired (g .facts .link) ≡ false)
     (calls : Calls t (idle 0 a (resting g) g)) (enters : Enters t (idle 0 a (resting g) g)) where
   abbrev count : ℕ
   count = length work / 2
@@ -95,18 +95,27 @@ module _ (t : Told) (work : List ℕ) (o : Opening) (r : ReadsBegan t work o) (k
   unfolding workAt sessionOf
   is-read i = rw kind
 
-  judged-so : (i : ℕ) (reply : List ℕ) → rightWork s work i reply ≡ rightRead (getD work (i * 2) 0) (getD work (i * 2 + 1) 0) reply
+  judged-so : (i : ℕ) (reply : List ℕ) → rightWork s work i reply ≡ rightRead (tablesIn g) (getD work (i * 2) 0) (getD work (i * 2 + 1) 0) reply
   unfolding rightWork sessionOf
-  judged-so i reply = rw kind
+  judged-so i reply = rw (kind, same)
 
   counted : s .count ≡ count
   unfolding sessionOf
   counted = refl
 
+  same-edition : s .edition ≡ g .facts .edition
+  unfolding sessionOf
+  same-edition = same
+
+  -- the reads are such as this meter's edition has
+  each-built : (i : ℕ) → i < count → goodFields (tablesIn g) (readAt work i) ≡ true
+  each-built i h = ap (λ (e : ℕ). goodFields (tablesOf e) (readAt work i)) (sym same) ∙ r .each i h
+
   goes : Goes s work a (e .mode) (e .attempts) (λ i. g)
   goes =
       record {
         sound = sound t count o (r .began);
+        edition = λ i. same-edition;
         few = few;
         fewer = fit-work .attempts;
         good = λ i h. good;
@@ -114,9 +123,9 @@ module _ (t : Told) (work : List ℕ) (o : Opening) (r : ReadsBegan t work o) (k
         ours = ours t count o (r .began) m optical calls;
         enters = e .as-said;
         works = λ i h.
-            renamed (command (readAt work i)) (command (workAt s work i)) _ _ (rightWork s work i) (rightRead (getD work (i * 2) 0) (getD work (i * 2 + 1) 0))
+            renamed (command (readAt work i)) (command (workAt s work i)) _ _ (rightWork s work i) (rightRead (tablesIn g) (getD work (i * 2) 0) (getD work (i * 2 + 1) 0))
             (ap command (is-read i)) (judged-so i)
-            (right-read work i (e .mode) (e .attempts) g fit-work works-in (r .each i (omega (arith, counted))));
+            (right-read work i (e .mode) (e .attempts) g fit-work works-in (each-built i (omega (arith, counted))));
       }
 
   module _ (rooms : ℕ → ℕ → ℕ) (buffers : ℕ → ℕ) (roomy : Roomy rooms buffers) where
@@ -139,7 +148,7 @@ module _ (t : Told) (work : List ℕ) (o : Opening) (r : ReadsBegan t work o) (k
     read-back : (i : ℕ) → i < count → ReadBack t work o m rooms buffers i
     unfolding outcomeOf
     read-back i h =
-        let answer = read-at work i (e .mode) (e .attempts) g fit-work works-in (r .each i h) in
+        let answer = read-at work i (e .mode) (e .attempts) g fit-work works-in (each-built i h) in
         record {
           asks = answer .asks;
           decided = answer .decided;
@@ -158,10 +167,10 @@ module _ (t : Told) (work : List ℕ) (o : Opening) (r : ReadsBegan t work o) (k
 
 -- any started session of reads, with any meter that waits for it
 pub reads-done : (t : Told) (work : List ℕ) (room : ℕ) (o : Opening) → Opens t work room o → o .number ≡ 1 → t .kind ≡ 0
-    → (m : Meter) → Waits m → Calls t m → Enters t m → (rooms : ℕ → ℕ → ℕ) (buffers : ℕ → ℕ) → Roomy rooms buffers → ReadsDone t work o m rooms buffers
-reads-done t work room o opens one kind m w calls enters rooms buffers roomy =
+    → (m : Meter) → Waits m → ForEdition t m → Calls t m → Enters t m → (rooms : ℕ → ℕ → ℕ) (buffers : ℕ → ℕ) → Roomy rooms buffers → ReadsDone t work o m rooms buffers
+reads-done t work room o opens one kind m w same calls enters rooms buffers roomy =
     let f = formed m (w .formed) in
     let e = waits-is m w in
     subst (λ (x : Meter). ReadsDone t work o x rooms buffers) (sym e)
-    (reads-so t work o (reads-began t work room o opens one kind) kind (m .attempts) (m .registers) (f .attempts) (f .registers) (w .optical)
+    (reads-so t work o (reads-began t work room o opens one kind) kind (m .attempts) (m .registers) same (f .attempts) (f .registers) (w .optical)
     (subst (Calls t) e calls) (subst (Enters t) e enters) rooms buffers roomy)

@@ -23,9 +23,9 @@ use Rattle.readback.proofs.Blocks.{block-long, part-of-block, part-is-content}
 
 -- ---- the fixed sequences
 
-pub identified : identifies (onWire identification) ≡ true
+pub identified : (edition : ℕ) → identifies edition (onWire (identification edition)) ≡ true
 unfolding identifies
-identified = same-self (onWire identification)
+identified edition = same-self (onWire (identification edition))
 
 pub password-asked : asksPassword (onWire passwordAsk) ≡ true
 unfolding asksPassword

@@ -13,7 +13,6 @@ use Rattle.line.specs.Runs.{every}
 use Rattle.line.proofs.Runs.{and-left, and-right, and-both, every-append, every-take, every-drop, every-weaker}
 use Rattle.text.specs.Classes.{between, isDigit, isPrintable, matching, sameText}
 use Rattle.text.proofs.Decimal.{digit-high}
-use Rattle.values.specs.Edition.{editionTables}
 use Rattle.values.specs.Registers.{goodDigits, goodSerial}
 use Rattle.values.specs.Texts.{parted, serialText, wiredText}
 use Rattle.frames.specs.Frames.{closed, frameOf, bareFrame}
@@ -135,54 +134,54 @@ high : (mode : ℕ) → (eqb mode 3 || eqb mode 4) ≡ true → 3 ≤ mode
 high mode h = ⊎-elim (λ e. omega (arith, eqb-true mode 3 e)) (four mode) (or-cases (eqb mode 3) (eqb mode 4) h)
 
 -- an entry opens nothing more, and every other command has mode 3 or 4
-entry-or-high : (c : Command) (mode : ℕ) → goodFields editionTables c ≡ true → allowedAt c mode ≡ true → (every mild (bodyOf c) ≡ true) ⊎ (3 ≤ mode)
+entry-or-high : (tables : ℕ) (c : Command) (mode : ℕ) → goodFields tables c ≡ true → allowedAt c mode ≡ true → (every mild (bodyOf c) ≡ true) ⊎ (3 ≤ mode)
 unfolding allowedAt lettersOf sameText matching goodFields dataOf enterData passwordData bracketed every mild
-entry-or-high enter mode h k = inl refl
-entry-or-high (password p) mode h k = inl (every-append mild p (41 ∷ []) (digits-mild 8 p h) refl)
-entry-or-high readClock mode h k = inr (high mode k)
-entry-or-high readSerial mode h k = inr (high mode k)
-entry-or-high readAccount mode h k = inr (high mode k)
-entry-or-high readTotal mode h k = inr (high mode k)
-entry-or-high (readZone n) mode h k = inr (high mode k)
-entry-or-high (readTable n) mode h k = inr (high mode k)
-entry-or-high (writeClock c) mode h k = inr (four mode k)
-entry-or-high (writeAccount a) mode h k = inr (four mode k)
-entry-or-high (writeTable n row) mode h k = inr (four mode k)
+entry-or-high tables enter mode h k = inl refl
+entry-or-high tables (password p) mode h k = inl (every-append mild p (41 ∷ []) (digits-mild 8 p h) refl)
+entry-or-high tables readClock mode h k = inr (high mode k)
+entry-or-high tables readSerial mode h k = inr (high mode k)
+entry-or-high tables readAccount mode h k = inr (high mode k)
+entry-or-high tables readTotal mode h k = inr (high mode k)
+entry-or-high tables (readZone n) mode h k = inr (high mode k)
+entry-or-high tables (readTable n) mode h k = inr (high mode k)
+entry-or-high tables (writeClock c) mode h k = inr (four mode k)
+entry-or-high tables (writeAccount a) mode h k = inr (four mode k)
+entry-or-high tables (writeTable n row) mode h k = inr (four mode k)
 
-body-calm : (mode : ℕ) (c : Command) → goodFields editionTables c ≡ true → allowedAt c mode ≡ true → every (calm mode) (bodyOf c) ≡ true
-body-calm mode c h k = ⊎-elim (all-mild mode (bodyOf c)) shown (entry-or-high c mode h k)
+body-calm : (tables mode : ℕ) (c : Command) → goodFields tables c ≡ true → allowedAt c mode ≡ true → every (calm mode) (bodyOf c) ≡ true
+body-calm tables mode c h k = ⊎-elim (all-mild mode (bodyOf c)) shown (entry-or-high tables c mode h k)
   where
     shown : 3 ≤ mode → every (calm mode) (bodyOf c) ≡ true
     shown l =
         let calms : Within isPrintable (calm mode) = λ x. printable-calm mode x l in
         every-append (calm mode) (lettersOf c) (2 ∷ dataOf c) (every-weaker isPrintable (calm mode) calms (lettersOf c) (letters-printable c))
-        (and-then-all (calm mode) 2 (dataOf c) (mild-calm mode 2 stx-mild) (every-weaker isPrintable (calm mode) calms (dataOf c) (command-printable editionTables c h)))
+        (and-then-all (calm mode) 2 (dataOf c) (mild-calm mode 2 stx-mild) (every-weaker isPrintable (calm mode) calms (dataOf c) (command-printable tables c h)))
 
-shape-command : (mode : ℕ) (c : Command) → goodFields editionTables c ≡ true → allowedAt c mode ≡ true → Shape mode (spoken c)
+shape-command : (tables mode : ℕ) (c : Command) → goodFields tables c ≡ true → allowedAt c mode ≡ true → Shape mode (spoken c)
 unfolding spoken frameOf closed
-shape-command mode c h k =
+shape-command tables mode c h k =
     record {
       first = 1;
       inside = bodyOf c ++ (3 ∷ []);
       last = bccOf (bodyOf c ++ (3 ∷ []));
       is = refl;
-      opens-none = every-append (calm mode) (bodyOf c) (3 ∷ []) (body-calm mode c h k) (all-mild mode (3 ∷ []) (unfold every mild in refl));
+      opens-none = every-append (calm mode) (bodyOf c) (3 ∷ []) (body-calm tables mode c h k) (all-mild mode (3 ∷ []) (unfold every mild in refl));
     }
 
 -- ---- every message
 
-pub shaped : (mode : ℕ) (x : Message) → goodMessage editionTables x ≡ true → allowedIn x mode ≡ true → Shape mode (textOf x)
+pub shaped : (tables mode : ℕ) (x : Message) → goodMessage tables x ≡ true → allowedIn x mode ≡ true → Shape mode (textOf x)
 unfolding goodMessage allowedIn textOf
-shaped mode call h k =
+shaped tables mode call h k =
     unfold signOn in
     (record { first = 47; inside = 63 ∷ 33 ∷ 13 ∷ []; last = 10; is = refl; opens-none = all-mild mode (63 ∷ 33 ∷ 13 ∷ []) (unfold every mild in refl) })
-shaped mode close h k =
+shaped tables mode close h k =
     unfold closingSignOn in
     (record { first = 47; inside = 67 ∷ 33 ∷ 13 ∷ []; last = 10; is = refl; opens-none = all-mild mode (67 ∷ 33 ∷ 13 ∷ []) (unfold every mild in refl) })
-shaped mode (callTo s) h k = shape-to mode s h
-shaped mode (callWired s) h k = shape-wired mode s h
-shaped mode (confirm v y) h k = shape-confirm mode v y (and-left (goodSpeed v) (goodChoice y) h) (and-right (goodSpeed v) (goodChoice y) h)
-shaped mode (command c) h k = shape-command mode c h k
-shaped mode leave h k =
+shaped tables mode (callTo s) h k = shape-to mode s h
+shaped tables mode (callWired s) h k = shape-wired mode s h
+shaped tables mode (confirm v y) h k = shape-confirm mode v y (and-left (goodSpeed v) (goodChoice y) h) (and-right (goodSpeed v) (goodChoice y) h)
+shaped tables mode (command c) h k = shape-command tables mode c h k
+shaped tables mode leave h k =
     unfold bareFrame closed in
     (record { first = 1; inside = 66 ∷ 48 ∷ 3 ∷ []; last = bccOf (66 ∷ 48 ∷ 3 ∷ []); is = refl; opens-none = all-mild mode (66 ∷ 48 ∷ 3 ∷ []) (unfold every mild in refl) })

@@ -12,6 +12,7 @@ use Rattle.text.proofs.Beginnings.{le-or-lt}
 use Rattle.state.specs.Sizes.{replyRoom, heldPlaces}
 use Rattle.state.specs.declared.Meter.{Meter}
 use Rattle.state.specs.WellFormed.{wellFormed, marked}
+use Rattle.state.proofs.Parts.{edition-good}
 use Rattle.replies.specs.Fixed.{refused}
 use Rattle.receiving.specs.declared.Hearing.{Hearing}
 use Rattle.receiving.specs.declared.Hearing.the-variants.{Drop, Hold, Restart, Empty, Line, Confirm, Frame, TooLong}
@@ -176,7 +177,7 @@ module _ (m : Meter) (f : wellFormed m ≡ true) (optical : isWired (linkOf m) �
 
   byte-quiet : ((marked (m .receiver) || damagedAt b) ≡ true) ⊎ ((m .receiver .count ≡ 0) × (m .mode ≡ 1 → ⊥)) → Quiet m (symbol b) (character m replyRoom b)
   unfolding character taken
-  byte-quiet h = rw f (heard-quiet m (symbol b) (damagedAt b) optical damaged-zero h)
+  byte-quiet h = rw (edition-good m f, f) (heard-quiet m (symbol b) (damagedAt b) optical damaged-zero h)
 
   -- a damaged one, whatever is held
   pub damaged-quiet : damagedAt b ≡ true → Quiet m (symbol b) (character m replyRoom b)

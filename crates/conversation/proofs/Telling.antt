@@ -20,7 +20,6 @@ use Rattle.clock.specs.Dates.{realDate, realTime}
 use Rattle.clock.specs.Seconds.{realClock}
 use Rattle.values.specs.declared.Energy.{Energy}
 use Rattle.values.specs.declared.Energy.the-variants.{Total}
-use Rattle.values.specs.Edition.{editionTables}
 use Rattle.values.specs.Registers.{goodSerial, goodAccount, goodRow, goodTable, energyNo, zoneEnergy}
 use Rattle.values.specs.Reading.{dateRead, timeRead, counterRead}
 use Rattle.values.specs.Serials.{serialRead}
@@ -28,21 +27,20 @@ use Rattle.values.specs.Texts.{tableText, dateText, timeText}
 use Rattle.values.proofs.RoundTrip.{date-reads-back, time-reads-back, counter-reads-back}
 use Rattle.values.proofs.Serials.{serial-reads-back}
 use Rattle.frames.specs.Frames.{blockOf, onWire}
-use Rattle.state.specs.Sizes.{tables, counterEnd}
+use Rattle.state.specs.Sizes.{counterEnd}
 use Rattle.state.specs.declared.Registers.{Registers}
 use Rattle.state.specs.declared.Meter.{Meter}
 use Rattle.state.specs.Setting.{counterOf}
-use Rattle.state.specs.WellFormed.{registersGood}
+use Rattle.state.specs.WellFormed.{registersGood, tablesIn}
 use Rattle.state.proofs.Parts.{formed-registers, formed-facts, counter-small, total-small}
 use Rattle.datasets.specs.Sets.{dataSet, linesOf, timeSet, dateSet, serialSet, accountSet, energySet, tableSet}
 use Rattle.replies.specs.declared.Ask.{Ask}
 use Rattle.replies.specs.declared.Ask.the-variants as ask
 use Rattle.replies.specs.Shown.{rowOf}
 use Rattle.replies.specs.Shown as shown
-use Rattle.replies.specs.Answers.{askedSets, askedData}
+use Rattle.replies.specs.Answers.{askedSets, askedData, answerable}
 use Rattle.replies.proofs.Good.{asked-shown}
 use Rattle.deciding.specs.declared.Verdict.the-variants.{Read}
-use Rattle.promises.specs.Writes.{answerable}
 use Rattle.commands.specs.Spoken.{Command, readClock, readSerial, readAccount, readTotal, readZone, readTable, goodFields, lettersOf}
 use Rattle.judging.specs.Right.{tellsTime, tellsDate, tellsClock, tellsSerial, tellsAccount, tellsEnergy, tellsRow, tells, answers, energyOpening, tableOpening}
 use Rattle.judging.specs.Lines.{isLine, valueIn}
@@ -111,7 +109,7 @@ pub record Answered (g : Registers) (c : Command) (judged : List ℕ → Bool) :
   pub decided : decidedAs c ≡ Read asks
   pub allowed : (mode : ℕ) → (eqb mode 3 || eqb mode 4) ≡ true → allowedAt c mode ≡ true
   pub obeys : (m : Meter) → obeyed m c ≡ telling m asks
-  pub can : answerable asks ≡ true
+  pub can : answerable (tablesIn g) asks ≡ true
   pub tells-it : judged (askedData g asks) ≡ true
 
 -- the chain of a read's letters, over the tests that it makes
@@ -122,7 +120,7 @@ abbrev tellsBy : Bool → Bool → Bool → Bool → Bool → ℕ → List ℕ �
 tellsBy t l k e z n s = cond t (tellsClock s) (cond l (tellsSerial s) (cond k (tellsAccount s) (cond e (tellsEnergy n s) (cond z (tellsRow n s) false))))
 
 module _ (g : Registers) (good : registersGood g ≡ true) (n : ℕ) where
-  by : (t l k e o z : Bool) → eqb n 0 ≡ o → goodFields editionTables (readBy t l k e o z n) ≡ true → Answered g (readBy t l k e o z n) (tellsBy t l k e z n)
+  by : (t l k e o z : Bool) → eqb n 0 ≡ o → goodFields (tablesIn g) (readBy t l k e o z n) ≡ true → Answered g (readBy t l k e o z n) (tellsBy t l k e z n)
   unfolding goodFields decidedAs allowedAt lettersOf sameText matching obeyed answerable askedData askedSets energyNo shown.energy
   by true l k e o z zero-is h =
       record { asks = ask.Clock; decided = refl; allowed = λ mode a. a; obeys = λ m. refl; can = refl; tells-it = clock-told (g .clock) (formed-registers g good .clock) }
@@ -167,10 +165,10 @@ module _ (g : Registers) (good : registersGood g ≡ true) (n : ℕ) where
       }
   by false false false false o false zero-is h = absurd (none h)
     where
-      none : goodTable editionTables 0 ≡ true → ⊥
-      none e = omega (arith, leb-true 1 0 (unfold goodTable between in (and-left (leb 1 0) (leb 0 24) e)))
+      none : goodTable (tablesIn g) 0 ≡ true → ⊥
+      none e = omega (arith, leb-true 1 0 (unfold goodTable between in (and-left (leb 1 0) (leb 0 (tablesIn g)) e)))
 
-  pub read-answered : (letter : ℕ) → goodFields editionTables (readOf letter n) ≡ true → Answered g (readOf letter n) (tells letter n)
+  pub read-answered : (letter : ℕ) → goodFields (tablesIn g) (readOf letter n) ≡ true → Answered g (readOf letter n) (tells letter n)
   unfolding readOf tells
   read-answered letter h = by (eqb letter 84) (eqb letter 76) (eqb letter 75) (eqb letter 69) (eqb n 0) (eqb letter 90) refl h
 
@@ -184,11 +182,11 @@ shown-character : Within (between 10 126) isCharacter
 unfolding between isCharacter
 shown-character = within (between 10 126) isCharacter refl (λ c h. omega (arith, leb-true c 126 (and-right (leb 10 c) (leb c 126) h)))
 
-module _ (g : Registers) (good : registersGood g ≡ true) (letter n : ℕ) (built : goodFields editionTables (readOf letter n) ≡ true) where
-  pub read-right : (a : Ask) → tells letter n (askedData g a) ≡ true → rightRead letter n (onWire (blockOf (askedData g a))) ≡ true
+module _ (g : Registers) (good : registersGood g ≡ true) (letter n : ℕ) (built : goodFields (tablesIn g) (readOf letter n) ≡ true) where
+  pub read-right : (a : Ask) → answerable (tablesIn g) a ≡ true → tells letter n (askedData g a) ≡ true → rightRead (tablesIn g) letter n (onWire (blockOf (askedData g a))) ≡ true
   unfolding rightRead
-  read-right a h =
-      let s = asked-shown g a good in
-      and-both (goodFields editionTables (readOf letter n)) (answers letter n (onWire (blockOf (askedData g a)))) built
+  read-right a can h =
+      let s = asked-shown g a good can in
+      and-both (goodFields (tablesIn g) (readOf letter n)) (answers letter n (onWire (blockOf (askedData g a)))) built
       (block-answers (askedData g a) (every-weaker (between 10 126) isContent shown-content (askedData g a) s)
       (every-weaker (between 10 126) isCharacter shown-character (askedData g a) s) letter n h)

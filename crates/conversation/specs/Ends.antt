@@ -6,13 +6,13 @@ use mathlib.Core.List.{List, List·Memᴰ}
 use Prim.Native.Nat.{ℕ, _+_, _/_, _≤_, _<_}
 use lib.Dec.{eqb}
 use lib.ListN.{length, take, set, replicate}
+use Rattle.values.specs.Edition.{tablesOf}
 use Rattle.line.specs.Quoted.{char}
-use Rattle.values.specs.Edition.{editionTables}
 use Rattle.values.specs.Registers.{goodTable}
 use Rattle.frames.specs.Frames.{blockOf, onWire}
-use Rattle.state.specs.Sizes.{replyRoom, tables}
+use Rattle.state.specs.Sizes.{replyRoom}
 use Rattle.state.specs.declared.Meter.{Meter}
-use Rattle.state.specs.WellFormed.{wellFormed}
+use Rattle.state.specs.WellFormed.{wellFormed, tablesIn, editionOf}
 use Rattle.state.specs.Link.{linkOf, isWired}
 use Rattle.state.specs.Setting.{withAttempts, withTables}
 use Rattle.replies.specs.declared.Ask.{Ask}
@@ -35,6 +35,10 @@ pub record Waits (m : Meter) : Type 0 where
   pub optical : isWired (linkOf m) ≡ false
   pub listening : m .mode ≡ 0
   pub empty : m .receiver .count ≡ 0
+
+-- [3]: the session is for a meter of its edition
+abbrev pub ForEdition : Told → Meter → Type 0
+ForEdition t m = t .edition ≡ editionOf m
 
 -- the head calls any meter, or this one by its serial, or by the zeros that every meter answers
 pub data Calls (t : Told) (m : Meter) : Type 0 where
@@ -61,7 +65,8 @@ pub record Roomy (rooms : ℕ → ℕ → ℕ) (buffers : ℕ → ℕ) : Type 0 
 pub record StopsAfter (s : Session) (work : List ℕ) (talk : ℕ → Talk) (n fact : ℕ) (after : Meter) : Type 0 where
   pub within : n ≤ s .count + 4
   pub going : (k : ℕ) → k < n → talk k .turn ≡ asking s work (k + 1)
-  pub built : (k : ℕ) → k < n → goodMessage editionTables (messageAt s work (k + 1)) ≡ true
+  pub built : (k : ℕ) → k < n → goodMessage (tablesOf (s .edition)) (messageAt s work (k + 1)) ≡ true
+  pub edition : (k : ℕ) → k < n → s .edition ≡ editionOf (talk k .meter)
   pub heard : (k : ℕ) → k < n → Listens (talk k .meter) (messageAt s work (k + 1))
   pub optical : (k : ℕ) → k < n → isWired (linkOf (talk k .meter)) ≡ false
   pub stops : talk n .turn ≡ stopped s n fact
@@ -96,12 +101,12 @@ module _ (t : Told) (work : List ℕ) (o : Opening) (m : Meter) (rooms : ℕ →
   -- done after as many exchanges as there are lines and four more; the tables hold the rows of the lines sent so far, and at the end
   -- all that were posted, the attempts are 0, all else is as it was
   pub record PostDone : Type 0 where
-    pub is-post : IsPost tables work
+    pub is-post : IsPost (tablesOf (t .edition)) work
     pub done : Stops (length (is-post .entries) + 4) 1 (withAttempts (deliveredTo m (is-post .entries)) 0)
     pub so-far : (i : ℕ) → i ≤ length (is-post .entries)
         → talkOf (i + 3) .meter .registers ≡ withTables (m .registers) (rowsAfter (m .registers .tables) (take i (is-post .entries)))
     pub named : (e : Entry) → List·Memᴰ e (is-post .entries) → rowOf (talkOf (length (is-post .entries) + 4) .meter .registers .tables) (e .number) ≡ e .row
-    pub others : (n : ℕ) → goodTable tables n ≡ true → ((e : Entry) → List·Memᴰ e (is-post .entries) → e .number ≡ n → ⊥)
+    pub others : (n : ℕ) → goodTable (tablesIn (m .registers)) n ≡ true → ((e : Entry) → List·Memᴰ e (is-post .entries) → e .number ≡ n → ⊥)
         → rowOf (talkOf (length (is-post .entries) + 4) .meter .registers .tables) n ≡ rowOf (m .registers .tables) n
 
   -- in the exchange after so many, one byte of the message comes damaged

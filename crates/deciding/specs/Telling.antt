@@ -5,7 +5,6 @@ use Prim.Native.Nat.{ℕ, _-_}
 use lib.Dec.{eqb, leb}
 use lib.ListN.{length, getD, take, drop}
 use Rattle.line.specs.Quoted.{char}
-use Rattle.values.specs.Edition.{editionTables}
 use Rattle.values.specs.Registers.{goodAccount, goodRow}
 use Rattle.values.specs.Reading.{clockRead, tableRead}
 use Rattle.values.specs.declared.reading.ClockRead.{ClockRead}
@@ -32,12 +31,12 @@ accountTold x = cond (goodAccount x) WriteAccount (Refuse 9)
 abbrev pub tableMeant : TableRead → Verdict
 tableMeant t = cond (t .ok) (WriteTable (t .table)) (Refuse 9)
 
-unfoldable pub tableTold : List ℕ → Verdict
-tableTold x = cond (eqb (getD x 2 0) (char ";") && goodRow (drop 3 x)) (tableMeant (tableRead editionTables (take 2 x))) (Refuse 9)
+unfoldable pub tableTold : ℕ → List ℕ → Verdict
+tableTold tables x = cond (eqb (getD x 2 0) (char ";") && goodRow (drop 3 x)) (tableMeant (tableRead tables (take 2 x))) (Refuse 9)
 
-unfoldable pub told : List ℕ → Verdict
-told d =
+unfoldable pub told : ℕ → List ℕ → Verdict
+told tables d =
     cond (enclosed (char "T") d) (clockTold (inner d))
     (cond (enclosed (char "K") d) (accountTold (inner d))
-    (cond (enclosed (char "Z") d) (tableTold (inner d))
+    (cond (enclosed (char "Z") d) (tableTold tables (inner d))
     (Refuse 9)))

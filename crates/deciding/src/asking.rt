@@ -7,11 +7,11 @@ use values::Energy;
 use values::ZoneNo;
 
 // Z(xx)
-fn table(d: &[u8]) -> Verdict
-    ensures { λ r. ⌜ r ≡ tableAsked (now (d .entry)) ⌝ }
+fn table(d: &[u8], tables: u8) -> Verdict
+    ensures { λ r. ⌜ r ≡ tableAsked tables (now (d .entry)) ⌝ }
 {
     if text::has_form(b"Z(##)", d) {
-        let t = values::reading::read_table(text::first(text::rest(d, 2), 2), values::TABLES);
+        let t = values::reading::read_table(text::first(text::rest(d, 2), 2), tables);
         if t.ok {
             let named = t.table;
             return Verdict::Read(Ask::Table(named));
@@ -22,8 +22,8 @@ fn table(d: &[u8]) -> Verdict
 }
 
 // E0() to E4()
-fn energy(d: &[u8]) -> Verdict
-    ensures { λ r. ⌜ r ≡ energyAsked (now (d .entry)) ⌝ }
+fn energy(d: &[u8], tables: u8) -> Verdict
+    ensures { λ r. ⌜ r ≡ energyAsked tables (now (d .entry)) ⌝ }
 {
     if text::same(d, b"E0()") {
         return Verdict::Read(Ask::Energy(Energy::Total));
@@ -40,11 +40,11 @@ fn energy(d: &[u8]) -> Verdict
     if text::same(d, b"E4()") {
         return Verdict::Read(Ask::Energy(Energy::Zone(ZoneNo(4))));
     }
-    table(d)
+    table(d, tables)
 }
 
-pub fn asks(d: &[u8]) -> Verdict
-    ensures { λ r. ⌜ r ≡ asked (now (d .entry)) ⌝ }
+pub fn asks(d: &[u8], tables: u8) -> Verdict
+    ensures { λ r. ⌜ r ≡ asked tables (now (d .entry)) ⌝ }
 {
     if text::same(d, b"T()") {
         return Verdict::Read(Ask::Clock);
@@ -55,5 +55,5 @@ pub fn asks(d: &[u8]) -> Verdict
     if text::same(d, b"K()") {
         return Verdict::Read(Ask::Account);
     }
-    energy(d)
+    energy(d, tables)
 }

@@ -58,8 +58,8 @@ fn bare(mode: u8, a: u8, b: u8) -> Verdict
 }
 
 // A frame with STX: P1, R1 and W1 are known, each allowed in its modes.
-fn framed(mode: u8, a: u8, b: u8, d: &[u8]) -> Verdict
-    ensures { λ r. ⌜ r ≡ framedVerdict mode a b (now (d .entry)) ⌝ }
+fn framed(tables: u8, mode: u8, a: u8, b: u8, d: &[u8]) -> Verdict
+    ensures { λ r. ⌜ r ≡ framedVerdict tables mode a b (now (d .entry)) ⌝ }
 {
     if (a == b'P') & (b == b'1') {
         if mode == 2 {
@@ -69,40 +69,46 @@ fn framed(mode: u8, a: u8, b: u8, d: &[u8]) -> Verdict
     }
     if (a == b'R') & (b == b'1') {
         if (mode == 3) | (mode == 4) {
-            return asking::asks(d);
+            return asking::asks(d, tables);
         }
         return Verdict::Refuse(8);
     }
     if (a == b'W') & (b == b'1') {
         if mode == 4 {
-            return telling::tells(d);
+            return telling::tells(d, tables);
         }
         return Verdict::Refuse(8);
     }
     Verdict::Refuse(7)
 }
 
-fn by_shape(mode: u8, h: &[u8]) -> Verdict
-    ensures { λ r. ⌜ r ≡ shapeVerdict mode (now (h .entry)) ⌝ }
+fn by_shape(tables: u8, mode: u8, h: &[u8]) -> Verdict
+    ensures { λ r. ⌜ r ≡ shapeVerdict tables mode (now (h .entry)) ⌝ }
 {
     if shape::is_bare(h) {
         return bare(mode, text::at(h, 1), text::at(h, 2));
     }
     if shape::is_framed(h) {
-        return framed(mode, text::at(h, 1), text::at(h, 2), shape::content_of(h));
+        return framed(
+            tables,
+            mode,
+            text::at(h, 1),
+            text::at(h, 2),
+            shape::content_of(h),
+        );
     }
     Verdict::Refuse(6)
 }
 
-// What a whole frame comes to: its held characters through ETX, whether any was damaged, and its BCC.
-pub fn decide(mode: u8, h: &[u8], mark: bool, sum: u8) -> Verdict
-    ensures { λ r. ⌜ r ≡ verdict mode (now (h .entry)) mark sum ⌝ }
+// What a whole frame comes to, of a meter with so many tables: its held characters through ETX, whether any was damaged, and its BCC.
+pub fn decide(tables: u8, mode: u8, h: &[u8], mark: bool, sum: u8) -> Verdict
+    ensures { λ r. ⌜ r ≡ verdict tables mode (now (h .entry)) mark sum ⌝ }
 {
     if mark {
         return Verdict::Refuse(3);
     }
     if sum == line::bcc(text::rest(h, 1)) {
-        return by_shape(mode, h);
+        return by_shape(tables, mode, h);
     }
     Verdict::Refuse(4)
 }

@@ -44,12 +44,12 @@ fn account(x: &[u8]) -> Verdict
 }
 
 // xx;row
-fn table(x: &[u8]) -> Verdict
-    ensures { λ r. ⌜ r ≡ tableTold (now (x .entry)) ⌝ }
+fn table(x: &[u8], tables: u8) -> Verdict
+    ensures { λ r. ⌜ r ≡ tableTold tables (now (x .entry)) ⌝ }
 {
     let good = (text::at(x, 2) == b';') & values::is_row(text::rest(x, 3));
     if good {
-        let t = values::reading::read_table(text::first(x, 2), values::TABLES);
+        let t = values::reading::read_table(text::first(x, 2), tables);
         if t.ok {
             let named = t.table;
             return Verdict::WriteTable(named);
@@ -59,8 +59,8 @@ fn table(x: &[u8]) -> Verdict
     Verdict::Refuse(9)
 }
 
-pub fn tells(d: &[u8]) -> Verdict
-    ensures { λ r. ⌜ r ≡ told (now (d .entry)) ⌝ }
+pub fn tells(d: &[u8], tables: u8) -> Verdict
+    ensures { λ r. ⌜ r ≡ told tables (now (d .entry)) ⌝ }
 {
     if is_enclosed(b'T', d) {
         return clock(inside(d));
@@ -69,7 +69,7 @@ pub fn tells(d: &[u8]) -> Verdict
         return account(inside(d));
     }
     if is_enclosed(b'Z', d) {
-        return table(inside(d));
+        return table(inside(d), tables);
     }
     Verdict::Refuse(9)
 }

@@ -1,5 +1,5 @@
-// A post from standard input, delivered to a blank meter in programming mode: `1`, a space and the acknowledgements, or for any other text `20`, a space
-// and the place; then the meter's 24 rows, a line each.
+// A post from standard input, delivered to a new meter of the edition that it is started with, in programming mode: `1`, a space and the acknowledgements, or for any other text `20`, a space
+// and the place; then the meter's rows, a line each.
 fn main() {
     let mut text = io::buffer();
     let input = streams::read_all(&mut text);
@@ -8,8 +8,8 @@ fn main() {
         return;
     }
     let n = input.length;
-    let mut out = [0u8; 642];
-    let said = reporting::report(&text[..n], &mut out);
+    let mut out = [0u8; 667];
+    let said = reporting::report(streams::edition_told(), &text[..n], &mut out);
     let length = said.length;
     streams::write_once(&out[..length], said.number == 1);
 }

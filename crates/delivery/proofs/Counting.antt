@@ -9,7 +9,9 @@ use native.Mathlib.Omega.{arith}
 use lib.Dec.{eqb}
 use lib.ListN.{length, getD, take, drop, replicate, drop-of-length-le}
 use Rattle.line.proofs.Runs.{left-next}
-use Rattle.state.specs.Sizes.{replyRoom, tables}
+use Rattle.state.specs.Sizes.{replyRoom}
+use Rattle.state.specs.WellFormed.{tablesIn, editionOf}
+use Rattle.values.proofs.Editions.{tables-most}
 use Rattle.state.specs.declared.Meter.{Meter}
 use Rattle.meter.specs.Character.{character}
 use Rattle.post.specs.Grammar.{Entry, IsPost}
@@ -93,20 +95,20 @@ count-once speed (e ∷ es) =
     count-append (replicate 35 (nothing speed) ++ (acknowledgement speed ∷ [])) (acknowledgedOnce speed es) ∙ ap₂ _+_ (frame-count speed) (count-once speed es) ∙ omega arith
 
 -- what the export's answer comes to
-module _ (m : Meter) (text out : List ℕ) (number size place : ℕ) (after : List ℕ) (room : 864 ≤ length out) where
-  pub not-delivered : (number ≡ 1 → ⊥) → ExportedAs tables text out number size place after → DeliveredAs m text 20 place 0 m
+module _ (m : Meter) (text out : List ℕ) (number size place : ℕ) (after : List ℕ) (room : 900 ≤ length out) where
+  pub not-delivered : (number ≡ 1 → ⊥) → ExportedAs (tablesIn (m .registers)) text out number size place after → DeliveredAs m text 20 place 0 m
   unfolding DeliveredAs ExportedAs
   not-delivered other (inl x) = absurd (other (x .done))
   not-delivered other (inr (inl x)) =
-      absurd (⊎-elim other (λ e. omega (arith, x .refused)) (room-enough 24 text out number size place after room (inr (inl x))))
+      absurd (⊎-elim other (λ e. omega (arith, x .refused)) (room-enough (tablesIn (m .registers)) text out number size place after (omega (arith, room, tables-most (editionOf m))) (inr (inl x))))
   not-delivered other (inr (inr x)) = inr (record { refused = refl; no-post = x .no-post; longest = x .longest; none = refl; kept = refl })
 
   pub was-delivered : (done : ℕ) (next : Meter) → number ≡ 1 → done ≡ acknowledgements (answered m full (take size after)) → next ≡ left m full (take size after)
-      → ExportedAs tables text out number size place after → DeliveredAs m text 1 0 done next
+      → ExportedAs (tablesIn (m .registers)) text out number size place after → DeliveredAs m text 1 0 done next
   unfolding DeliveredAs ExportedAs
   was-delivered done next one c e (inl x) =
       let p = x .is-post in
-      let f = exported-frames text out number size place after x in
+      let f = exported-frames (tablesIn (m .registers)) text out number size place after x in
       let count : done ≡ acknowledgements (answered m full (framesOf (p .entries))) = c ∙ ap (λ (b : List ℕ). acknowledgements (answered m full b)) f in
       let fed : next ≡ left m full (framesOf (p .entries)) = e ∙ ap (left m full) f in
       inl
@@ -116,7 +118,7 @@ module _ (m : Meter) (text out : List ℕ) (number size place : ℕ) (after : Li
         no-place = refl;
         counted = count;
         fed = fed;
-        each = λ r. count ∙ ap acknowledgements (entries-fed m r (p .entries) (good-rising tables (p .entries) (p .good)) .said-is) ∙ count-once (m .speed) (p .entries);
+        each = λ r. count ∙ ap acknowledgements (entries-fed m r (p .entries) (good-rising (tablesIn (m .registers)) (p .entries) (p .good)) .said-is) ∙ count-once (m .speed) (p .entries);
         delivered =
             λ r.
             subst (λ (y : Meter). Delivered m (p .entries) (answered m full (framesOf (p .entries))) y) (sym fed)
@@ -132,7 +134,7 @@ unfolding DeliveredAs
 one-delivery m text n p k x i q j y (inl a) (inl b) =
     let u = a .is-post in
     let v = b .is-post in
-    let same = one-reading 24 (u .entries) (v .entries) (omega arith) (u .good) (v .good) (u .spelt ∙ sym (v .spelt)) in (
+    let same = one-reading (tablesIn (m .registers)) (u .entries) (v .entries) (omega (arith, tables-most (editionOf m))) (u .good) (v .good) (u .spelt ∙ sym (v .spelt)) in (
       a .done ∙ sym (b .done),
       a .no-place ∙ sym (b .no-place),
       a .counted ∙ ap (λ (es : List Entry). acknowledgements (answered m full (framesOf es))) same ∙ sym (b .counted),
@@ -141,4 +143,4 @@ one-delivery m text n p k x i q j y (inl a) (inl b) =
 one-delivery m text n p k x i q j y (inl a) (inr b) = absurd (b .no-post (a .is-post))
 one-delivery m text n p k x i q j y (inr a) (inl b) = absurd (a .no-post (b .is-post))
 one-delivery m text n p k x i q j y (inr a) (inr b) =
-    (a .refused ∙ sym (b .refused), one-longest (IsPost tables) text p q (a .longest) (b .longest), a .none ∙ sym (b .none), a .kept ∙ sym (b .kept))
+    (a .refused ∙ sym (b .refused), one-longest (IsPost (tablesIn (m .registers))) text p q (a .longest) (b .longest), a .none ∙ sym (b .none), a .kept ∙ sym (b .kept))

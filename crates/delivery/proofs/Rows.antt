@@ -1,4 +1,4 @@
--- Rows put into the tables: each named table holds its row, every other is as before, and good tables stay good.
+-- Rows put into the tables: each named table holds its row, and every other is as before.
 -- A row is put at its own place, apart from every other table's. Assumes nothing.
 use mathlib.Core.Path.{_≡_, refl, ap, _∙_}
 use mathlib.Core.Bool.{Bool, true}
@@ -14,7 +14,7 @@ use Rattle.line.proofs.Runs.{and-left, and-right, and-both}
 use Rattle.text.specs.Classes.{between}
 use Rattle.text.specs.Writing.{stored}
 use Rattle.text.proofs.Writing.{length-stored, stored-is, every-stored}
-use Rattle.state.specs.Sizes.{tables, rowLength}
+use Rattle.state.specs.Sizes.{rowLength, tablePlaces}
 use Rattle.state.specs.WellFormed.{tablesGood}
 use Rattle.replies.specs.Shown.{rowOf}
 use Rattle.post.specs.Grammar.{Entry, rising}
@@ -23,18 +23,8 @@ use Rattle.text.proofs.Beginnings.{le-or-lt}
 use Rattle.post.proofs.Reading.{rising-number, rising-rest, rising-table, rising-row}
 use Rattle.delivery.specs.Acknowledged.{rowsAfter}
 
--- good zones put in keep the tables good
-pub tables-stay-good : (tables : ℕ) (s : List ℕ) (at : ℕ) (row : List ℕ) → every (between 49 52) row ≡ true → tablesGood tables s ≡ true
-    → tablesGood tables (stored s at row) ≡ true
-unfolding tablesGood
-tables-stay-good tables s at row good h =
-    let l = and-left (eqb (length s) (tables * rowLength)) (every (between 49 52) s) h in
-    let z = and-right (eqb (length s) (tables * rowLength)) (every (between 49 52) s) h in
-    and-both (eqb (length (stored s at row)) (tables * rowLength)) (every (between 49 52) (stored s at row))
-    (ap (λ (n : ℕ). eqb n (tables * rowLength)) (length-stored s at row) ∙ l) (every-stored (between 49 52) s at row z good)
-
 -- what is put in before a place, and what is put in behind a part, leaves it
-stored-before : (s : List ℕ) (at : ℕ) (xs : List ℕ) (b : ℕ) → at + length xs ≤ b → drop b (stored s at xs) ≡ drop b s
+pub stored-before : (s : List ℕ) (at : ℕ) (xs : List ℕ) (b : ℕ) → at + length xs ≤ b → drop b (stored s at xs) ≡ drop b s
 unfolding stored
 stored-before s at [] b h = refl
 stored-before s at (x ∷ xs) b h = stored-before (set s at x) (at + 1) xs b (omega arith) ∙ drop-set-lt b s at x (omega arith)
@@ -68,33 +58,33 @@ row-apart s n k row long low-n low-k other =
     split (inl h) = ⊎-elim (λ g. absurd (other (omega arith))) (λ g. inr g) (le-or-lt n k)
     split (inr h) = inl h
 
-above-all : (above : ℕ) (es : List Entry) → rising tables above es ≡ true → (e : Entry) → List·Memᴰ e es → above < e .number
-above-all above [] g e i = absurd (List·Memᴰ·not-nil i)
-above-all above (x ∷ es) g e i =
-    let low = rising-number 24 above x es g in
-    ⊎-elim (λ q. omega (arith, ap (λ (y : Entry). y .number) q)) (λ t. omega (arith, above-all (x .number) es (rising-rest 24 above x es g) e t)) (List·Memᴰ·cases-cons i)
+above-all : (tables above : ℕ) (es : List Entry) → rising tables above es ≡ true → (e : Entry) → List·Memᴰ e es → above < e .number
+above-all tables above [] g e i = absurd (List·Memᴰ·not-nil i)
+above-all tables above (x ∷ es) g e i =
+    let low = rising-number tables above x es g in
+    ⊎-elim (λ q. omega (arith, ap (λ (y : Entry). y .number) q)) (λ t. omega (arith, above-all tables (x .number) es (rising-rest tables above x es g) e t)) (List·Memᴰ·cases-cons i)
 
 -- a table that is not named is as before
-pub others-kept : (s : List ℕ) (above : ℕ) (es : List Entry) → rising tables above es ≡ true → (n : ℕ) → 1 ≤ n → ((e : Entry) → List·Memᴰ e es → e .number ≡ n → ⊥)
+pub others-kept : (tables : ℕ) (s : List ℕ) (above : ℕ) (es : List Entry) → rising tables above es ≡ true → (n : ℕ) → 1 ≤ n → ((e : Entry) → List·Memᴰ e es → e .number ≡ n → ⊥)
     → rowOf (rowsAfter s es) n ≡ rowOf s n
 unfolding rowsAfter
-others-kept s above [] g n low other = refl
-others-kept s above (e ∷ es) g n low other =
-    others-kept (stored s ((e .number - 1) * 24) (e .row)) (e .number) es (rising-rest 24 above e es g) n low (λ x i. other x (List·Memᴰ·tail i))
-    ∙ row-apart s n (e .number) (e .row) (row-length (e .row) (rising-row 24 above e es g)) low (omega (arith, rising-number 24 above e es g))
+others-kept tables s above [] g n low other = refl
+others-kept tables s above (e ∷ es) g n low other =
+    others-kept tables (stored s ((e .number - 1) * 24) (e .row)) (e .number) es (rising-rest tables above e es g) n low (λ x i. other x (List·Memᴰ·tail i))
+    ∙ row-apart s n (e .number) (e .row) (row-length (e .row) (rising-row tables above e es g)) low (omega (arith, rising-number tables above e es g))
     (other e (List·Memᴰ·head refl))
 
 -- a named table holds its row
-pub named-held : (s : List ℕ) (above : ℕ) (es : List Entry) → rising tables above es ≡ true → length s ≡ tables * rowLength → (e : Entry) → List·Memᴰ e es
+pub named-held : (tables : ℕ) (s : List ℕ) (above : ℕ) (es : List Entry) → tables ≤ tablePlaces → rising tables above es ≡ true → length s ≡ tablePlaces * rowLength → (e : Entry) → List·Memᴰ e es
     → rowOf (rowsAfter s es) (e .number) ≡ e .row
 unfolding rowsAfter
-named-held s above [] g long e i = absurd (List·Memᴰ·not-nil i)
-named-held s above (x ∷ es) g long e i =
-    let rest = rising-rest 24 above x es g in
+named-held tables s above [] few g long e i = absurd (List·Memᴰ·not-nil i)
+named-held tables s above (x ∷ es) few g long e i =
+    let rest = rising-rest tables above x es g in
     let t = stored s ((x .number - 1) * 24) (x .row) in
-    let low = rising-number 24 above x es g in
-    let high = rising-table 24 above x es g in
+    let low = rising-number tables above x es g in
+    let high = rising-table tables above x es g in
     let here : rowOf (rowsAfter t es) (x .number) ≡ x .row =
-    others-kept t (x .number) es rest (x .number) (omega arith) (λ y j q. omega (arith, above-all (x .number) es rest y j))
-    ∙ row-here s (x .number) (x .row) (row-length (x .row) (rising-row 24 above x es g)) (omega arith) in
-    ⊎-elim (λ q. rw q here) (λ j. named-held t (x .number) es rest (length-stored s ((x .number - 1) * 24) (x .row) ∙ long) e j) (List·Memᴰ·cases-cons i)
+    others-kept tables t (x .number) es rest (x .number) (omega arith) (λ y j q. omega (arith, above-all tables (x .number) es rest y j))
+    ∙ row-here s (x .number) (x .row) (row-length (x .row) (rising-row tables above x es g)) (omega arith) in
+    ⊎-elim (λ q. rw q here) (λ j. named-held tables t (x .number) es few rest (length-stored s ((x .number - 1) * 24) (x .row) ∙ long) e j) (List·Memᴰ·cases-cons i)

@@ -7,7 +7,7 @@ use lib.ListN.{replicate}
 use Rattle.state.specs.declared.Meter.{Meter}
 use Rattle.post.specs.Grammar.{Entry}
 use Rattle.state.specs.Setting.{withRegisters, withTables, withRow}
-use Rattle.replies.specs.Fixed.{accepted}
+use Rattle.replies.specs.Fixed.{accepted, refused}
 use Rattle.dialogue.specs.Feeding.{Said}
 
 -- how many are answered 1
@@ -25,6 +25,10 @@ nothing speed = record { number = 0; speed = speed; reply = []; place = 0 }
 -- answer 1 and ACK, at the session's speed
 abbrev pub acknowledgement : ℕ → Said
 acknowledgement speed = record { number = 1; speed = speed; reply = accepted; place = 0 }
+
+-- [3]: answer 9 and NAK
+abbrev pub refusal : ℕ → Said
+refusal speed = record { number = 9; speed = speed; reply = refused; place = 0 }
 
 -- a frame of 36 bytes: nothing at each but the last, which is acknowledged
 unfoldable pub acknowledgedOnce : ℕ → List Entry → List Said

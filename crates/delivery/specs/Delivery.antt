@@ -7,9 +7,8 @@ use Prim.Native.Nat.{ℕ}
 use lib.ListN.{length}
 use Rattle.text.specs.Beginnings.{Longest}
 use Rattle.values.specs.Registers.{goodTable}
-use Rattle.state.specs.Sizes.{tables}
 use Rattle.state.specs.declared.Meter.{Meter}
-use Rattle.state.specs.WellFormed.{wellFormed}
+use Rattle.state.specs.WellFormed.{wellFormed, tablesIn}
 use Rattle.state.specs.Setting.{withRegisters, withTables}
 use Rattle.replies.specs.Shown.{rowOf}
 use Rattle.post.specs.Grammar.{Entry, IsPost}
@@ -27,14 +26,14 @@ pub record Ready (m : Meter) : Type 0 where
 pub record Delivered (m : Meter) (es : List Entry) (said : List Said) (after : Meter) : Type 0 where
   pub acknowledged : said ≡ acknowledgedOnce (m .speed) es
   pub named : (e : Entry) → List·Memᴰ e es → rowOf (after .registers .tables) (e .number) ≡ e .row
-  pub others : (n : ℕ) → goodTable tables n ≡ true → ((e : Entry) → List·Memᴰ e es → e .number ≡ n → ⊥)
+  pub others : (n : ℕ) → goodTable (tablesIn (m .registers)) n ≡ true → ((e : Entry) → List·Memᴰ e es → e .number ≡ n → ⊥)
       → rowOf (after .registers .tables) n ≡ rowOf (m .registers .tables) n
   pub kept : after ≡ withRegisters m (withTables (m .registers) (after .registers .tables))
 
--- number 1: a post, whose frames were fed; to a meter that is ready it is delivered, with one acknowledgement a line
+-- number 1: a post for the meter's edition, whose frames were fed; to a meter that is ready it is delivered, with one acknowledgement a line
 pub record Posted (m : Meter) (text : List ℕ) (number place acknowledged : ℕ) (next : Meter) : Type 0 where
   pub done : number ≡ 1
-  pub is-post : IsPost tables text
+  pub is-post : IsPost (tablesIn (m .registers)) text
   pub no-place : place ≡ 0
   pub counted : acknowledged ≡ acknowledgements (answered m full (framesOf (is-post .entries)))
   pub fed : next ≡ left m full (framesOf (is-post .entries))
@@ -44,8 +43,8 @@ pub record Posted (m : Meter) (text : List ℕ) (number place acknowledged : ℕ
 -- number 20: no post; the meter is as it was
 pub record Unposted (m : Meter) (text : List ℕ) (number place acknowledged : ℕ) (next : Meter) : Type 0 where
   pub refused : number ≡ 20
-  pub no-post : IsPost tables text → ⊥
-  pub longest : Longest (IsPost tables) text place
+  pub no-post : IsPost (tablesIn (m .registers)) text → ⊥
+  pub longest : Longest (IsPost (tablesIn (m .registers))) text place
   pub none : acknowledged ≡ 0
   pub kept : next ≡ m
 

@@ -1,2 +1,3 @@
 pub mod Acknowledged
+pub mod Other
 pub mod Delivery

@@ -74,12 +74,15 @@ pub fn feed(m: Meter, bytes: &[u8]) -> Fed
     fed
 }
 
-// A text, exported and fed to a meter.
+// A text, exported for the meter's edition and fed to it.
 pub fn deliver(m: Meter, text: &[u8]) -> Delivered
     ensures { λ r. ⌜ DeliveredAs m (now (text .entry)) (r .number) (r .place) (r .acknowledged) (r .next) ⌝ }
 {
-    let mut out = [0u8; 864];
-    let exported = export::export(text, &mut out);
+    let g = m.registers;
+    let f = g.facts;
+    let tables = values::tables_of(f.edition);
+    let mut out = [0u8; 900];
+    let exported = export::export_of(text, &mut out, tables);
     let number = exported.number;
     let length = exported.length;
     if number != 1 {

@@ -23,7 +23,7 @@ use Rattle.state.specs.Making.{emptyReceiver}
 use Rattle.state.specs.Link.{restSpeed}
 use Rattle.state.specs.Setting.{meterIn, withHeld, withMark, withReceiver}
 use Rattle.state.proofs.Limits.{limit-most}
-use Rattle.state.proofs.Parts.{formed, well-formed, formed-receiver, receiver-good, held-long}
+use Rattle.state.proofs.Parts.{formed, well-formed, formed-receiver, receiver-good, held-long, edition-good}
 use Rattle.receiving.specs.declared.Hearing.{Hearing}
 use Rattle.receiving.specs.declared.Hearing.the-variants.{Hold}
 use Rattle.receiving.specs.Hearing.{hearing}
@@ -110,7 +110,7 @@ symbol-sent c h = rw (sent-undamaged c, sent-comes-back c h)
 pub heard-as : (m : Meter) (c : ℕ) (h : Hearing) → wellFormed m ≡ true → c < 128 → hearing (m .mode) (m .receiver .count) (lastHeld (m .receiver)) c ≡ h
     → character m replyRoom (sent c) ≡ heard m c false h
 unfolding character taken
-heard-as m c h f small e = rw (f, symbol-sent c small, sent-undamaged c, e)
+heard-as m c h f small e = rw (edition-good m f, f, symbol-sent c small, sent-undamaged c, e)
 
 -- the last of the held ones
 pub last-held : (c : ℕ) (ys : List ℕ) → lastHeld (openReceiver c ys) ≡ getD (c ∷ (ys ++ replicate (62 - length ys) 0)) (length ys) 0

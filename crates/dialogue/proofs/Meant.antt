@@ -10,25 +10,24 @@ use lib.ListN.{length, getD, take, length-append}
 use lib.Seq.{take-at, getD-append-seam}
 use Rattle.line.specs.Quoted.{chars}
 use Rattle.line.specs.Runs.{every}
-use Rattle.line.proofs.Runs.{and-left, and-right}
+use Rattle.line.proofs.Runs.{and-left, and-right, chosen}
 use Rattle.text.specs.Classes.{between, isDigit, matching, sameText}
-use Rattle.text.specs.Decimal.{decimal, valueOf}
+use Rattle.text.specs.Decimal.{decimal, valueOf, numberAt}
 use Rattle.text.specs.Layout.{Piece, digits, fixed, layoutText, pattern, fits, agrees, numbersFit, plain}
 use Rattle.text.proofs.Decimal.{decimal-value, value-lt, digit-is}
 use Rattle.text.proofs.Forms.{text-fits}
 use Rattle.text.proofs.Matching.{matching-length}
 use Rattle.clock.specs.declared.Clock.{Clock}
 use Rattle.clock.specs.Seconds.{realClock}
-use Rattle.values.specs.Edition.{editionTables}
 use Rattle.values.specs.declared.Energy.the-variants.{Total}
 use Rattle.values.specs.Registers.{zoneEnergy, goodZone, goodDigits, goodPassword, goodAccount, goodRow, goodTable}
-use Rattle.values.specs.Texts.{tableText, clockText}
-use Rattle.values.specs.Reading.{tableRead}
+use Rattle.values.specs.Texts.{tableText, clockText, tableForm}
+use Rattle.values.specs.Reading.{tableRead, someTable, noTable}
+use Rattle.values.specs.declared.reading.TableRead.{TableRead}
 use Rattle.values.proofs.RoundTrip.{clock-reads-back, table-reads-back}
 use Rattle.values.proofs.Rules.{digits-long}
 use Rattle.frames.specs.Commands.{bracketed, askClock, askSerial, askAccount, askEnergy, askTable, setClock, setAccount, setTable}
 use Rattle.frames.specs.Session.{enterData, passwordData}
-use Rattle.state.specs.Sizes.{tables}
 use Rattle.replies.specs.declared.Ask.the-variants as ask
 use Rattle.deciding.specs.declared.Verdict.the-variants.{Refuse, Enter, Password, Read, WriteClock, WriteAccount, WriteTable}
 use Rattle.deciding.specs.Asking.{tableNamed, tableAsked, energyAsked, asked}
@@ -65,39 +64,39 @@ module _ (p : List ℕ) (good : goodPassword p ≡ true) where
 
 -- R1
 
-pub asked-clock : asked askClock ≡ Read ask.Clock
+pub asked-clock : (tables : ℕ) → asked tables askClock ≡ Read ask.Clock
 unfolding asked askClock bracketed sameText matching
-asked-clock = refl
+asked-clock tables = refl
 
-pub asked-serial : asked askSerial ≡ Read ask.Serial
+pub asked-serial : (tables : ℕ) → asked tables askSerial ≡ Read ask.Serial
 unfolding asked askClock askSerial bracketed sameText matching
-asked-serial = refl
+asked-serial tables = refl
 
-pub asked-account : asked askAccount ≡ Read ask.Account
+pub asked-account : (tables : ℕ) → asked tables askAccount ≡ Read ask.Account
 unfolding asked askClock askSerial askAccount bracketed sameText matching
-asked-account = refl
+asked-account tables = refl
 
-pub asked-total : asked (askEnergy 0) ≡ Read (ask.Energy Total)
+pub asked-total : (tables : ℕ) → asked tables (askEnergy 0) ≡ Read (ask.Energy Total)
 unfolding asked energyAsked askClock askSerial askAccount askEnergy bracketed sameText matching
-asked-total = refl
+asked-total tables = refl
 
 pub zone-least : (n : ℕ) → goodZone n ≡ true → 1 ≤ n
 unfolding goodZone between
 zone-least n h = leb-true 1 n (and-left (leb 1 n) (leb n 4) h)
 
-pub asked-zone : (n : ℕ) → 1 ≤ n → n ≤ 4 → asked (askEnergy n) ≡ Read (ask.Energy (zoneEnergy n))
+pub asked-zone : (tables n : ℕ) → 1 ≤ n → n ≤ 4 → asked tables (askEnergy n) ≡ Read (ask.Energy (zoneEnergy n))
 unfolding asked energyAsked askClock askSerial askAccount askEnergy bracketed sameText matching
-asked-zone zero l h = absurd (omega arith)
-asked-zone (suc zero) l h = refl
-asked-zone (suc (suc zero)) l h = refl
-asked-zone (suc (suc (suc zero))) l h = refl
-asked-zone (suc (suc (suc (suc zero)))) l h = refl
-asked-zone (suc (suc (suc (suc (suc n))))) l h = absurd (omega arith)
+asked-zone tables zero l h = absurd (omega arith)
+asked-zone tables (suc zero) l h = refl
+asked-zone tables (suc (suc zero)) l h = refl
+asked-zone tables (suc (suc (suc zero))) l h = refl
+asked-zone tables (suc (suc (suc (suc zero)))) l h = refl
+asked-zone tables (suc (suc (suc (suc (suc n))))) l h = absurd (omega arith)
 
 -- Z(xx), of two digits
-two-asked : (x y : ℕ) → isDigit x ≡ true → isDigit y ≡ true → asked (90 ∷ 40 ∷ x ∷ y ∷ 41 ∷ []) ≡ tableNamed (tableRead editionTables (x ∷ y ∷ []))
+two-asked : (tables x y : ℕ) → isDigit x ≡ true → isDigit y ≡ true → asked tables (90 ∷ 40 ∷ x ∷ y ∷ 41 ∷ []) ≡ tableNamed (tableRead tables (x ∷ y ∷ []))
 unfolding asked energyAsked tableAsked askClock askSerial askAccount askEnergy bracketed sameText matching fits agrees
-two-asked x y hx hy = rw (hx, hy)
+two-asked tables x y hx hy = rw (hx, hy)
 
 ask-table-is : (n : ℕ) → askTable n ≡ 90 ∷ 40 ∷ (48 + n / 10 % 10) ∷ (48 + n % 10) ∷ 41 ∷ []
 unfolding askTable bracketed tableText layoutText decimal
@@ -107,12 +106,12 @@ digits-are : (n : ℕ) → (48 + n / 10 % 10) ∷ (48 + n % 10) ∷ [] ≡ table
 unfolding tableText layoutText decimal
 digits-are n = refl
 
-pub asked-table : (n : ℕ) → goodTable editionTables n ≡ true → asked (askTable n) ≡ Read (ask.Table (record { 0 = n }))
-asked-table n good =
-    ap asked (ask-table-is n)
-    ∙ two-asked (48 + n / 10 % 10) (48 + n % 10) (digit-is (n / 10 % 10) (omega arith)) (digit-is (n % 10) (omega arith))
-    ∙ ap (λ (t : List ℕ). tableNamed (tableRead editionTables t)) (digits-are n)
-    ∙ ap tableNamed (table-reads-back editionTables n (omega arith) good)
+pub asked-table : (tables n : ℕ) → tables < 100 → goodTable tables n ≡ true → asked tables (askTable n) ≡ Read (ask.Table (record { 0 = n }))
+asked-table tables n few good =
+    ap (asked tables) (ask-table-is n)
+    ∙ two-asked tables (48 + n / 10 % 10) (48 + n % 10) (digit-is (n / 10 % 10) (omega arith)) (digit-is (n % 10) (omega arith))
+    ∙ ap (λ (t : List ℕ). tableNamed (tableRead tables t)) (digits-are n)
+    ∙ ap tableNamed (table-reads-back tables n few good)
 
 -- W1
 
@@ -141,27 +140,46 @@ module _ (letter : ℕ) (x : List ℕ) where
       ap (λ (n : ℕ). take n (x ++ (41 ∷ []))) {x = length (letter ∷ bracketed x) - 3} {y = length x} (omega (arith, named-long))
       ∙ take-at x (41 ∷ []) (length x) refl
 
-  told-by : told (letter ∷ bracketed x) ≡ cond (eqb letter 84) (clockTold x) (cond (eqb letter 75) (accountTold x) (cond (eqb letter 90) (tableTold x) (Refuse 9)))
+  told-by : (tables : ℕ) → told tables (letter ∷ bracketed x) ≡ cond (eqb letter 84) (clockTold x) (cond (eqb letter 75) (accountTold x) (cond (eqb letter 90) (tableTold tables x) (Refuse 9)))
   unfolding told
-  told-by = rw (encloses 84, encloses 75, encloses 90, inner-is)
+  told-by tables = rw (encloses 84, encloses 75, encloses 90, inner-is)
 
-pub told-clock : (c : Clock) → realClock c ≡ true → told (setClock c) ≡ WriteClock c
+pub told-clock : (tables : ℕ) (c : Clock) → realClock c ≡ true → told tables (setClock c) ≡ WriteClock c
 unfolding setClock clockTold
-told-clock c good = told-by 84 (clockText c) ∙ ap clockNamed (clock-reads-back c good)
+told-clock tables c good = told-by 84 (clockText c) tables ∙ ap clockNamed (clock-reads-back c good)
 
-pub told-account : (a : List ℕ) → goodAccount a ≡ true → told (setAccount a) ≡ WriteAccount
+pub told-account : (tables : ℕ) (a : List ℕ) → goodAccount a ≡ true → told tables (setAccount a) ≡ WriteAccount
 unfolding setAccount accountTold
-told-account a good = told-by 75 a ∙ (rw good)
+told-account tables a good = told-by 75 a tables ∙ (rw good)
 
-two-told : (x y : ℕ) (row : List ℕ) → goodRow row ≡ true → tableTold (x ∷ y ∷ 59 ∷ row) ≡ tableMeant (tableRead editionTables (x ∷ y ∷ []))
+two-told : (tables x y : ℕ) (row : List ℕ) → goodRow row ≡ true → tableTold tables (x ∷ y ∷ 59 ∷ row) ≡ tableMeant (tableRead tables (x ∷ y ∷ []))
 unfolding tableTold
-two-told x y row good = rw good
+two-told tables x y row good = rw good
 
-pub told-table : (n : ℕ) (row : List ℕ) → goodTable editionTables n ≡ true → goodRow row ≡ true → told (setTable n row) ≡ WriteTable (record { 0 = n })
+-- a table by its number goes by how that reads
+told-read : (tables n : ℕ) (row : List ℕ) → goodRow row ≡ true → told tables (setTable n row) ≡ tableMeant (tableRead tables (tableText n))
 unfolding setTable
-told-table n row good-n good =
-    told-by 90 (tableText n ++ (59 ∷ row))
-    ∙ ap (λ (t : List ℕ). tableTold (t ++ (59 ∷ row))) (sym (digits-are n))
-    ∙ two-told (48 + n / 10 % 10) (48 + n % 10) row good
-    ∙ ap (λ (t : List ℕ). tableMeant (tableRead editionTables t)) (digits-are n)
-    ∙ ap tableMeant (table-reads-back editionTables n (omega arith) good-n)
+told-read tables n row good =
+    told-by 90 (tableText n ++ (59 ∷ row)) tables
+    ∙ ap (λ (t : List ℕ). tableTold tables (t ++ (59 ∷ row))) (sym (digits-are n))
+    ∙ two-told tables (48 + n / 10 % 10) (48 + n % 10) row good
+    ∙ ap (λ (t : List ℕ). tableMeant (tableRead tables t)) (digits-are n)
+
+pub told-table : (tables n : ℕ) (row : List ℕ) → tables < 100 → goodTable tables n ≡ true → goodRow row ≡ true → told tables (setTable n row) ≡ WriteTable (record { 0 = n })
+told-table tables n row few good-n good = told-read tables n row good ∙ ap tableMeant (table-reads-back tables n few good-n)
+
+-- [3]: and one that the meter has not is refused
+other-table : (tables n : ℕ) → 1 ≤ n → n < 100 → goodTable tables n ≡ false → tableRead tables (tableText n) ≡ noTable
+unfolding tableRead goodTable between
+other-table tables n low small none =
+    let s = tableText n in
+    let r = table-reads-back 99 n (omega arith) (rw (le-leb 1 n low, le-leb n 99 (omega arith))) in
+    let some = someTable 99 (numberAt s 0 2) in
+    let f = chosen (λ (t : TableRead). t .ok) (fits (pattern tableForm) s) some noTable refl (ap (λ (t : TableRead). t .ok) r) in
+    let k : some ≡ record { ok = true; table = record { 0 = n } } = rw f at r in
+    let g = chosen (λ (t : TableRead). t .ok) (goodTable 99 (numberAt s 0 2)) (record { ok = true; table = record { 0 = numberAt s 0 2 } }) noTable refl (ap (λ (t : TableRead). t .ok) k) in
+    let is : numberAt s 0 2 ≡ n = ap (λ (t : TableRead). t .table .0) (rw g at k) in
+    rw (f, is, none)
+
+pub told-other : (tables n : ℕ) (row : List ℕ) → 1 ≤ n → n < 100 → goodTable tables n ≡ false → goodRow row ≡ true → told tables (setTable n row) ≡ Refuse 9
+told-other tables n row low small none good = told-read tables n row good ∙ ap tableMeant (other-table tables n low small none)

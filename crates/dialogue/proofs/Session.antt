@@ -26,7 +26,7 @@ use Rattle.frames.specs.Session.{signOn, closingSignOn, signOnTo, wiredLine, wi
 use Rattle.state.specs.Sizes.{replyRoom}
 use Rattle.state.specs.declared.Registers.{Registers}
 use Rattle.state.specs.declared.Meter.{Meter}
-use Rattle.state.specs.WellFormed.{limit}
+use Rattle.state.specs.WellFormed.{tablesIn, limit}
 use Rattle.state.specs.Closing.{closing}
 use Rattle.state.proofs.Parts.{formed-registers, formed-facts}
 use Rattle.receiving.specs.declared.Hearing.the-variants.{Line, Confirm}
@@ -58,8 +58,8 @@ inLine-small = within inLine (between 0 127) refl (λ x h. omega (arith, leb-tru
 -- answered, a period being closed before it, or nothing said
 abbrev called : ℕ → Registers → Bool → Bool → Outcome
 called a g ours closes =
-    cond ours (saying 1 (resting g) (identified (g .facts .link) (g .facts .serial)) (idle 1 a (resting g) g))
-    (cond closes (saying 1 (resting g) (identified (g .facts .link) (g .facts .serial)) (idle 1 a (resting g) (closing g))) (silent 0 (idle 0 a (resting g) g)))
+    cond ours (saying 1 (resting g) (identified (g .facts .link) (g .facts .edition) (g .facts .serial)) (idle 1 a (resting g) g))
+    (cond closes (saying 1 (resting g) (identified (g .facts .link) (g .facts .edition) (g .facts .serial)) (idle 1 a (resting g) (closing g))) (silent 0 (idle 0 a (resting g) g)))
 
 module _ (a : ℕ) (g : Registers) (fit : Fit 0 a (resting g) g) (ys : List ℕ) (plain : every inLine ys ≡ true) (long : length ys ≤ 20) where
   abbrev link : ℕ
@@ -333,13 +333,13 @@ module _ (a : ℕ) (g : Registers) (fit : Fit 1 a (resting g) g) where
 
 -- ---- B0
 
-leaves : (mode : ℕ) → (leb 2 mode && leb mode 4) ≡ true → verdict mode (1 ∷ 66 ∷ 48 ∷ 3 ∷ []) false (bccOf (66 ∷ 48 ∷ 3 ∷ [])) ≡ Leave
+leaves : (tables mode : ℕ) → (leb 2 mode && leb mode 4) ≡ true → verdict tables mode (1 ∷ 66 ∷ 48 ∷ 3 ∷ []) false (bccOf (66 ∷ 48 ∷ 3 ∷ [])) ≡ Leave
 unfolding verdict shapeVerdict bareVerdict bareShape startGood isPrintable between
-leaves mode h = rw (eq-eqb (bccOf (66 ∷ 48 ∷ 3 ∷ [])) _ refl, h)
+leaves tables mode h = rw (eq-eqb (bccOf (66 ∷ 48 ∷ 3 ∷ [])) _ refl, h)
 
 pub leave-fed : (mode a s : ℕ) (g : Registers) → Fit mode a s g → (leb 2 mode && leb mode 4) ≡ true
     → Fed (idle mode a s g) (onWire (bareFrame B0)) (atLast 4 s (saidIn (outcomeOf (idle mode a s g) leave))) (outcomeOf (idle mode a s g) leave .next)
 unfolding bareFrame outcomeOf every besides acted
 leave-fed mode a s g fit h =
     frame-fed mode a s g fit (leb-true 2 mode (and-left (leb 2 mode) (leb mode 4) h)) (66 ∷ 48 ∷ []) refl (lit≤ tt) (ack s (idle 0 a (resting g) g))
-    (ap (acted (holding mode a s g 1 (66 ∷ 48 ∷ 3 ∷ []))) (leaves mode h))
+    (ap (acted (holding mode a s g 1 (66 ∷ 48 ∷ 3 ∷ []))) (leaves (tablesIn g) mode h))

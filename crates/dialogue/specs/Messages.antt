@@ -8,14 +8,13 @@ use lib.ListN.{length}
 use Rattle.line.specs.Quoted.{char}
 use Rattle.text.specs.Classes.{sameText}
 use Rattle.values.specs.declared.Energy.the-variants.{Total}
-use Rattle.values.specs.Edition.{editionTables}
 use Rattle.values.specs.Registers.{zoneEnergy}
 use Rattle.frames.specs.Frames.{blockOf}
 use Rattle.frames.specs.Commands.{P1, R1}
 use Rattle.frames.specs.Session.{speedSaid}
 use Rattle.state.specs.Sizes.{replyRoom}
 use Rattle.state.specs.declared.Meter.{Meter}
-use Rattle.state.specs.WellFormed.{wellFormed}
+use Rattle.state.specs.WellFormed.{tablesIn, wellFormed}
 use Rattle.replies.specs.declared.Ask.{Ask}
 use Rattle.replies.specs.declared.Ask.the-variants as ask
 use Rattle.replies.specs.Answers.{askedData}
@@ -109,7 +108,7 @@ outcomeOf m (callWired serial) = signedOnIf (isWired (linkOf m) && names m seria
 outcomeOf m (confirm v y) =
     cond (digitHeard (linkOf m) v)
     (cond (eqb y (char "1")) (saying 1 (speedSaid v) passwordAsk (withSpeed (inMode m 2) (speedSaid v)))
-    (readOut m (speedSaid v) (cond (eqb y (char "6")) (longData editionTables (m .registers)) (blockData editionTables (m .registers)))))
+    (readOut m (speedSaid v) (cond (eqb y (char "6")) (longData (tablesIn (m .registers)) (m .registers)) (blockData (tablesIn (m .registers)) (m .registers)))))
     (silent 2 (inMode m 0))
 outcomeOf m (command c) = obeyed m c
 outcomeOf m leave = ack (speedOf m) (inMode m 0)

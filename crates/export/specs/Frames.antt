@@ -4,7 +4,9 @@ use mathlib.Core.Logic.{_⊎_}
 use mathlib.Core.List.{List, [], _∷_, _++_}
 use Prim.Native.Nat.{ℕ, _*_, _<_, _≤_}
 use lib.ListN.{length}
+use mathlib.Core.Bool.{true, false}
 use Rattle.text.specs.Beginnings.{Longest}
+use Rattle.values.specs.Edition.{isEdition, tablesOf}
 use Rattle.text.specs.Writing.{holding}
 use Rattle.frames.specs.Frames.{frameOf, onWire}
 use Rattle.frames.specs.Commands.{W1, setTable}
@@ -48,3 +50,8 @@ pub record NoPost (tables : ℕ) (text out : List ℕ) (number size place : ℕ)
 unfoldable pub ExportedAs : ℕ → List ℕ → List ℕ → ℕ → ℕ → ℕ → List ℕ → Type 0
 ExportedAs tables text out number size place after =
     Done tables text out number size place after ⊎ (NoRoom tables text out number size place after ⊎ NoPost tables text out number size place after)
+
+-- [3]: 16 before all else for an edition that there is not
+pub record ExportedFor (edition : ℕ) (text out : List ℕ) (number size place : ℕ) (after : List ℕ) : Type 0 where
+  pub none : isEdition edition ≡ false → (number ≡ 16) × (size ≡ 0) × (place ≡ 0) × (after ≡ out)
+  pub some : isEdition edition ≡ true → ExportedAs (tablesOf edition) text out number size place after

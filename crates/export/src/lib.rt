@@ -3,7 +3,7 @@ ghost use mathlib.Core.Path.{_≡_};
 ghost use Prim.Native.Nat.{_+_, _*_, _<_, _≤_};
 ghost use lib.ListN.{length, take, drop};
 ghost use Rattle.text.specs.Writing.{stored};
-ghost use Rattle.export.specs.Frames.{ExportedAs};
+ghost use Rattle.export.specs.Frames.{ExportedAs, ExportedFor};
 ghost use Rattle.export.specs.Changed.{change, changedLine, changedLines};
 
 // The line of a table, and the frame that sets it, with LF in the place of the BCC: in which bits a column of the one differs from the other's.
@@ -11,7 +11,7 @@ const LINE: [u8; 36] = *b"131.0.00(111111111111111111111111)\r\n";
 
 const FRAME: [u8; 36] = *b"\x01W1\x02Z(00;111111111111111111111111)\x03\n";
 
-// The export's answer: 1 with the length, 20 with the place, or 21.
+// The export's answer: 1 with the length, 20 with the place, or 21, or 16.
 pub struct Exported {
     pub number: u8,
     pub length: usize,
@@ -106,9 +106,16 @@ pub fn export_of(text: &[u8], out: &mut [u8], tables: u8) -> Exported
     }
 }
 
-// The export: the frames of a post, or why there are none; a refusal leaves the buffer as it was.
-pub fn export(text: &[u8], out: &mut [u8]) -> Exported
-    ensures { λ r. ⌜ ExportedAs 24 (now (text .entry)) (now (out .entry)) (r .number) (r .length) (r .place) (now (out .exit)) ⌝ }
+// The export: the frames of a post for an edition, or why there are none; a refusal leaves the buffer as it was.
+pub fn export(edition: u8, text: &[u8], out: &mut [u8]) -> Exported
+    ensures { λ r. ⌜ ExportedFor edition (now (text .entry)) (now (out .entry)) (r .number) (r .length) (r .place) (now (out .exit)) ⌝ }
 {
-    export_of(text, out, values::TABLES)
+    if values::is_edition(edition) {
+        return export_of(text, out, values::tables_of(edition));
+    }
+    Exported {
+        number: 16,
+        length: 0,
+        place: 0,
+    }
 }

@@ -1,11 +1,13 @@
 -- Document 01, "What is built": what the exporter writes to a text, and nothing more.
 use mathlib.Core.Path.{_≡_}
 use mathlib.Core.Logic.{_⊎_}
+use mathlib.Core.Bool.{true, false}
 use mathlib.Core.List.{List}
 use Prim.Native.Nat.{ℕ}
 use lib.ListN.{length}
 use Rattle.text.specs.Beginnings.{Longest}
 use Rattle.text.specs.Writing.{holding}
+use Rattle.values.specs.Edition.{isEdition, tablesOf}
 use Rattle.numerals.specs.Numerals.{numberLine}
 use Rattle.post.specs.Grammar.{IsPost}
 use Rattle.export.specs.Frames.{framesOf}
@@ -33,3 +35,8 @@ pub record ShowsExport (tables : ℕ) (text out : List ℕ) (number size : ℕ) 
   pub is : ExportShown tables text number shown
   pub long : size ≡ length shown
   pub held : after ≡ holding out shown
+
+-- [3]: the same for an edition; of one that there is not it is 16, a space, 0 and LF
+pub record ShownFor (edition : ℕ) (text out : List ℕ) (number size : ℕ) (after : List ℕ) : Type 0 where
+  pub none : isEdition edition ≡ false → (number ≡ 16) × (size ≡ length (numberLine 16 0)) × (after ≡ holding out (numberLine 16 0))
+  pub some : isEdition edition ≡ true → ShowsExport (tablesOf edition) text out number size after

@@ -1,24 +1,25 @@
 // All that the exporter writes, made in a lent buffer: the frames of a post; for any other text `20`, a space, the place and LF.
 ghost use mathlib.Core.Path.{_≡_};
-ghost use Prim.Native.Nat.{_≤_};
+ghost use Prim.Native.Nat.{_+_, _*_, _<_, _≤_};
 ghost use lib.ListN.{length, take};
-ghost use Rattle.exporting.specs.Shown.{ShowsExport};
+ghost use Rattle.exporting.specs.Shown.{ShowsExport, ShownFor};
 
-// 36 bytes for each of 24 tables: the frames of any post.
-pub const ROOM: usize = 864;
+// Room for the frames of any post, of 25 tables.
+pub const ROOM: usize = 900;
 
-// Whether a post was shown, 1 or 20, and how many bytes of the buffer are to be written.
+// Whether a post was shown, 1, 20 or 16, and how many bytes of the buffer are to be written.
 pub struct Shown {
     pub number: u8,
     pub length: usize,
 }
 
-pub fn show(text: &[u8], out: &mut [u8]) -> Shown
-    requires { ⌜ 864 ≤ length (now out) ⌝ }
-    ensures { λ r. ⌜ ShowsExport 24 (now (text .entry)) (now (out .entry)) (r .number) (r .length) (now (out .exit)) ⌝ }
+// For so many tables.
+fn show_of(text: &[u8], out: &mut [u8], tables: u8) -> Shown
+    requires { ⌜ (36 * tables ≤ length (now out)) × (42 ≤ length (now out)) × (0 < tables) × (tables < 100) ⌝ }
+    ensures { λ r. ⌜ ShowsExport tables (now (text .entry)) (now (out .entry)) (r .number) (r .length) (now (out .exit)) ⌝ }
     ensures within { λ r. ⌜ (r .length ≤ length (now (out .exit))) × (r .length ≡ length (take (r .length) (now (out .exit)))) ⌝ }
 {
-    let exported = export::export(text, out);
+    let exported = export::export_of(text, out, tables);
     let number = exported.number;
     if number == 1 {
         return Shown {
@@ -28,4 +29,17 @@ pub fn show(text: &[u8], out: &mut [u8]) -> Shown
     }
     let length = numerals::put_line(out, 0, 20, exported.place as u64);
     Shown { number: 20, length }
+}
+
+// For an edition; of one that there is not, `16`, a space, 0 and LF.
+pub fn show(edition: u8, text: &[u8], out: &mut [u8]) -> Shown
+    requires { ⌜ 900 ≤ length (now out) ⌝ }
+    ensures { λ r. ⌜ ShownFor edition (now (text .entry)) (now (out .entry)) (r .number) (r .length) (now (out .exit)) ⌝ }
+    ensures within { λ r. ⌜ (r .length ≤ length (now (out .exit))) × (r .length ≡ length (take (r .length) (now (out .exit)))) ⌝ }
+{
+    if values::is_edition(edition) {
+        return show_of(text, out, values::tables_of(edition));
+    }
+    let length = numerals::put_line(out, 0, 16, 0);
+    Shown { number: 16, length }
 }

@@ -17,7 +17,7 @@ use Rattle.text.specs.Layout.{layoutText, pattern, agrees, fits}
 use Rattle.clock.specs.Dates.{leap, thirty, daysIn, realDate, realTime}
 use Rattle.clock.specs.Seconds.{realClock, dateOf}
 use Rattle.clock.specs.Weekday.{daysBefore, dayNumber, weekday}
-use Rattle.values.specs.Edition.{editionTables}
+use Rattle.values.proofs.Editions.{tables-most}
 use Rattle.values.specs.Registers.{energyNo, zoneEnergy}
 use Rattle.values.specs.Texts.{tableText, counterText}
 use Rattle.values.specs.Reading.{clockRead}
@@ -26,7 +26,7 @@ use Rattle.frames.specs.Commands.{B0, P0, P1, W1, bracketed, askClock, askSeria
 use Rattle.frames.specs.Session.{enterData}
 use Rattle.state.specs.declared.Counters.{Counters}
 use Rattle.state.specs.declared.Registers.{Registers}
-use Rattle.state.specs.WellFormed.{registersGood}
+use Rattle.state.specs.WellFormed.{tablesIn, registersGood}
 use Rattle.state.specs.Setting.{counterOf}
 use Rattle.datasets.specs.Sets.{dataSet, linesOf, energySet}
 use Rattle.replies.specs.declared.Ask.the-variants.{Energy}
@@ -34,11 +34,12 @@ use Rattle.replies.specs.Shown.{energy}
 use Rattle.replies.specs.Answers.{askedSets, askedData}
 use Rattle.replies.specs.Periods.{longData}
 use Rattle.replies.proofs.Good.{register-ground}
+use Rattle.replies.proofs.Sizes.{block-long}
 use Rattle.replies.proofs.Periods.{long-block-long}
 use Rattle.deciding.specs.declared.Verdict.the-variants.{Refuse, Read, WriteClock}
 use Rattle.deciding.specs.Asking.{energyAsked, asked}
 use Rattle.deciding.specs.Telling.{enclosed, inner, clockTold, told}
-use Rattle.tariff.specs.Zones.{tableFor, grown, counted}
+use Rattle.tariff.specs.Zones.{ownDay, tableFor, grown, counted}
 use Rattle.post.specs.Grammar.{lineText}
 use Rattle.facts.specs.Facts.{Facts, allOnes}
 use Rattle.facts.proofs.Places.{only-answer, empty-answer, last-answer, past-answer}
@@ -58,11 +59,11 @@ unfolding counted
 counter-wraps c h = first-wraps (c .zones) h
 
 -- so many characters, whatever the periods hold
-long-is : (g : Registers) → registersGood g ≡ true → length (blockOf (longData editionTables g)) ≡ 1063 + g .archive .count * 134
-long-is g h = long-block-long g (register-ground g h .lengths)
+long-is : (g : Registers) → registersGood g ≡ true → length (blockOf (longData (tablesIn g) g)) ≡ 199 + tablesIn g * 36 + g .archive .count * 134
+long-is g h = long-block-long (tablesIn g) g (register-ground g h .lengths)
 
 pub facts : Facts
-unfolding ones bareFrame frameOf closed bccOf seven sent bracketed enterData setTable tableText layoutText decimal asked energyAsked askClock askSerial askAccount askEnergy sameText matching weekday dayNumber daysBefore tableFor leap told enclosed inner clockTold clockRead pattern fits agrees isDigit between numberAt valueOf valueFrom realClock realDate realTime daysIn thirty
+unfolding ones bareFrame frameOf closed bccOf seven sent bracketed enterData setTable tableText layoutText decimal asked energyAsked askClock askSerial askAccount askEnergy sameText matching weekday dayNumber daysBefore tableFor ownDay leap told enclosed inner clockTold clockRead pattern fits agrees isDigit between numberAt valueOf valueFrom realClock realDate realTime daysIn thirty
 facts =
     record {
       leave = refl;
@@ -76,13 +77,17 @@ facts =
       energy-block = energy-shown;
       saturday = refl;
       saturday-table = refl;
+      saturday-kilns = refl;
+      sunday-kilns = refl;
       wraps = counter-wraps;
       leap-day = refl;
       no-leap-day = refl;
       empty-text = only-answer [] 20 0 empty-answer;
       only-last = only-answer (chars "!") 20 0 last-answer;
       past-24 = λ row good. only-answer (lineText 24 row ++ chars "1") 20 36 (past-answer row good);
+      block-length = λ g h. block-long (tablesIn g) g (register-ground g h .lengths);
       long-block = long-is;
-      longest-block = λ g h. omega (arith, long-is g h, register-ground g h .lengths .kept);
-      twelve-periods = λ g h e. omega (arith, long-is g h, e);
+      longest-block = λ g h. omega (arith, long-is g h, register-ground g h .lengths .kept, tables-most (g .facts .edition));
+      twelve-periods = λ g h e t. omega (arith, long-is g h, e, t);
+      twelve-periods-2 = λ g h e t. omega (arith, long-is g h, e, t);
     }

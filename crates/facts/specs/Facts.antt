@@ -6,7 +6,7 @@ use Prim.Native.Nat.{ℕ, _+_, _*_, _≤_}
 use lib.ListN.{length, getD, replicate}
 use Rattle.line.specs.Quoted.{char, chars}
 use Rattle.line.specs.Controls.{SOH, STX, ETX}
-use Rattle.values.specs.Edition.{editionTables, rowLength}
+use Rattle.values.specs.Edition.{rowLength}
 use Rattle.values.specs.Registers.{goodRow, zoneEnergy}
 use Rattle.clock.specs.Seconds.{dateOf, timeOf}
 use Rattle.clock.specs.Weekday.{weekday}
@@ -16,10 +16,11 @@ use Rattle.frames.specs.Session.{enterData}
 use Rattle.state.specs.declared.Counters.{Counters}
 use Rattle.state.specs.declared.Registers.{Registers}
 use Rattle.state.specs.Sizes.{periodPlaces}
-use Rattle.state.specs.WellFormed.{registersGood}
+use Rattle.state.specs.WellFormed.{tablesIn, registersGood}
 use Rattle.state.specs.Setting.{counterOf}
 use Rattle.replies.specs.declared.Ask.the-variants.{Energy}
 use Rattle.replies.specs.Answers.{askedData}
+use Rattle.replies.specs.Block.{blockData}
 use Rattle.replies.specs.Periods.{longData}
 use Rattle.deciding.specs.declared.Verdict.the-variants.{Refuse, Read, WriteClock}
 use Rattle.deciding.specs.Asking.{asked}
@@ -34,8 +35,8 @@ allOnes = replicate rowLength (char "1")
 
 -- the answer of the check is this one and no other
 pub record Answers (text : List ℕ) (number place : ℕ) : Type 0 where
-  pub right : CheckedAs editionTables text number place
-  pub only : (n p : ℕ) → CheckedAs editionTables text n p → (n ≡ number) × (p ≡ place)
+  pub right : CheckedAs 24 text number place
+  pub only : (n p : ℕ) → CheckedAs 24 text n p → (n ≡ number) × (p ≡ place)
 
 pub record Facts : Type 0 where
   -- BCC of B0: 71 (hex)
@@ -50,24 +51,28 @@ pub record Facts : Type 0 where
   pub ones-04 : getD (frameOf W1 (setTable 4 allOnes)) 35 0 ≡ ETX
   pub ones-06 : getD (frameOf W1 (setTable 6 allOnes)) 35 0 ≡ SOH
   -- 1,500 Wh in T1, E1(): STX 15.8.1(000001.500*kWh) CR LF ETX, BCC 6C
-  pub asks-first : asked (chars "E1()") ≡ Read (Energy (zoneEnergy 1))
+  pub asks-first : asked 24 (chars "E1()") ≡ Read (Energy (zoneEnergy 1))
   pub energy-block : (g : Registers) → counterOf (g .counters) 1 ≡ 1500
       → blockOf (askedData g (Energy (zoneEnergy 1)))
       ≡ STX ∷ chars "15.8.1(000001.500*kWh)\r\n" ++ ETX ∷ 0x6C ∷ []
-  -- 2000-01-01 is a Saturday: table 13
+  -- 2000-01-01 is a Saturday: table 13; [3]: of edition 2 table 25, and the Sunday after it table 13
   pub saturday : weekday (dateOf 2000 1 1) ≡ 5
-  pub saturday-table : tableFor (dateOf 2000 1 1) ≡ 13
+  pub saturday-table : tableFor 1 (dateOf 2000 1 1) ≡ 13
+  pub saturday-kilns : tableFor 2 (dateOf 2000 1 1) ≡ 25
+  pub sunday-kilns : tableFor 2 (dateOf 2000 1 2) ≡ 13
   -- 999,999,999 + 1 Wh gives 0
   pub wraps : (c : Counters) → counterOf c 1 ≡ 999999999 → counterOf (counted c 1 1) 1 ≡ 0
   -- 29-02-2000 accepted, 29-02-2001 refused with 9
-  pub leap-day : told (chars "T(29-02-2000;00:00:00)") ≡ WriteClock (record { date = dateOf 2000 2 29; time = timeOf 0 0 0 })
-  pub no-leap-day : told (chars "T(29-02-2001;00:00:00)") ≡ Refuse 9
+  pub leap-day : told 24 (chars "T(29-02-2000;00:00:00)") ≡ WriteClock (record { date = dateOf 2000 2 29; time = timeOf 0 0 0 })
+  pub no-leap-day : told 24 (chars "T(29-02-2001;00:00:00)") ≡ Refuse 9
   -- empty text and `!` alone: 20 at place 0
   pub empty-text : Answers [] 20 0
   pub only-last : Answers (chars "!") 20 0
   -- table 24's line, then '1': 20 at place 36
   pub past-24 : (row : List ℕ) → goodRow row ≡ true → Answers (lineText 24 row ++ chars "1") 20 36
-  -- [12], beside document 01's: with its closed periods a block has 134 characters more for each; the longest, of twelve, has 2,671
-  pub long-block : (g : Registers) → registersGood g ≡ true → length (blockOf (longData editionTables g)) ≡ 1063 + g .archive .count * 134
-  pub longest-block : (g : Registers) → registersGood g ≡ true → length (blockOf (longData editionTables g)) ≤ 2671
-  pub twelve-periods : (g : Registers) → registersGood g ≡ true → g .archive .count ≡ periodPlaces → length (blockOf (longData editionTables g)) ≡ 2671
+  -- [12], [3], beside document 01's: a block has 36 characters a table, and with its closed periods 134 more for each; the longest have 2,671 and 2,707
+  pub block-length : (g : Registers) → registersGood g ≡ true → length (blockOf (blockData (tablesIn g) g)) ≡ 199 + tablesIn g * 36
+  pub long-block : (g : Registers) → registersGood g ≡ true → length (blockOf (longData (tablesIn g) g)) ≡ 199 + tablesIn g * 36 + g .archive .count * 134
+  pub longest-block : (g : Registers) → registersGood g ≡ true → length (blockOf (longData (tablesIn g) g)) ≤ 2707
+  pub twelve-periods : (g : Registers) → registersGood g ≡ true → g .archive .count ≡ periodPlaces → tablesIn g ≡ 24 → length (blockOf (longData (tablesIn g) g)) ≡ 2671
+  pub twelve-periods-2 : (g : Registers) → registersGood g ≡ true → g .archive .count ≡ periodPlaces → tablesIn g ≡ 25 → length (blockOf (longData (tablesIn g) g)) ≡ 2707

@@ -2,12 +2,12 @@
 ghost use mathlib.Core.Path.{_≡_};
 ghost use mathlib.Core.Bool.{true, _&&_};
 ghost use Rattle.clock.specs.Seconds.{realClock, dateOf, timeOf};
-ghost use Rattle.values.specs.Edition.{editionTables};
+ghost use Rattle.values.specs.Edition.{tablesOf};
 ghost use Rattle.values.specs.Registers.{goodSerial, goodPassword, goodAccount, goodRow, goodTable, goodZone};
 ghost use Rattle.frames.specs.Frames.{frameOf, bareFrame, onWire};
 ghost use Rattle.frames.specs.Commands.{B0, P1, R1, W1, askClock, askSerial, askAccount, askEnergy, askTable, setClock, setAccount, setTable};
 ghost use Rattle.frames.specs.Session.{signOn, closingSignOn, signOnTo, wiredSignOn, confirmation, goodSpeed, enterData, passwordData};
-ghost use Rattle.commands.specs.Building.{goodChoice, Builds};
+ghost use Rattle.commands.specs.Building.{goodChoice, Builds, BuildsFor};
 use clock::Clock;
 use clock::Date;
 use clock::Time;
@@ -143,12 +143,17 @@ pub extern "C" fn dirgemist_head_read_zone(zone: u8, out: &mut [u8], size: &mut 
     b.number
 }
 
-// R1 for a table.
+// R1 for a table of an edition's meter.
 #[no_mangle]
-pub extern "C" fn dirgemist_head_read_table(table: u8, out: &mut [u8], size: &mut usize) -> u8
-    ensures { λ r. ⌜ Builds (now (out .entry)) (goodTable editionTables table) (onWire (frameOf R1 (askTable table))) (record { number = r; length = now (size .exit) }) (now (out .exit)) ⌝ }
+pub extern "C" fn dirgemist_head_read_table(
+    edition: u8,
+    table: u8,
+    out: &mut [u8],
+    size: &mut usize,
+) -> u8
+    ensures { λ r. ⌜ BuildsFor edition (now (out .entry)) (goodTable (tablesOf edition) table) (onWire (frameOf R1 (askTable table))) (record { number = r; length = now (size .exit) }) (now (out .exit)) ⌝ }
 {
-    let b = commands::read_table(out, TableNo(table));
+    let b = commands::read_table(out, edition, TableNo(table));
     *size = b.length;
     b.number
 }
@@ -194,17 +199,18 @@ pub extern "C" fn dirgemist_head_write_account(
     b.number
 }
 
-// W1 for a table.
+// W1 for a table of an edition's meter.
 #[no_mangle]
 pub extern "C" fn dirgemist_head_write_table(
+    edition: u8,
     table: u8,
     row: &[u8],
     out: &mut [u8],
     size: &mut usize,
 ) -> u8
-    ensures { λ r. ⌜ Builds (now (out .entry)) (goodTable editionTables table && goodRow (now (row .entry))) (onWire (frameOf W1 (setTable table (now (row .entry))))) (record { number = r; length = now (size .exit) }) (now (out .exit)) ⌝ }
+    ensures { λ r. ⌜ BuildsFor edition (now (out .entry)) (goodTable (tablesOf edition) table && goodRow (now (row .entry))) (onWire (frameOf W1 (setTable table (now (row .entry))))) (record { number = r; length = now (size .exit) }) (now (out .exit)) ⌝ }
 {
-    let b = commands::write_table(out, TableNo(table), row);
+    let b = commands::write_table(out, edition, TableNo(table), row);
     *size = b.length;
     b.number
 }

@@ -9,6 +9,7 @@ use Rattle.text.specs.Layout.{agrees, fits, pattern, layoutText}
 use Rattle.text.specs.Decimal.{decimal, valueFrom, valueOf, numberAt}
 use Rattle.clock.specs.Dates.{leap, thirty, daysIn, realDate, realTime}
 use Rattle.clock.specs.Seconds.{realClock}
+use Rattle.values.specs.Edition.{tablesOf}
 use Rattle.values.specs.Registers.{goodDigits, isAccountCharacter, goodAccount, goodRow, goodTable}
 use Rattle.values.specs.Reading.{clockRead, tableRead}
 use Rattle.values.specs.Texts.{serialText, wiredText, tableText, clockText}
@@ -24,7 +25,7 @@ use Rattle.history.specs.Deeds.{wroteAll, deedsAt, deeds, writesOf}
 use Rattle.history.specs.Examples.{spoken, Examples}
 
 pub examples : Examples
-unfolding damagedAt seven sent undamagedAll bccOf every between isDigit isLetter isPrintable matching sameText agrees fits pattern layoutText decimal valueFrom valueOf numberAt leap thirty daysIn realDate realTime realClock goodDigits isAccountCharacter goodAccount goodRow goodTable clockRead tableRead serialText wiredText tableText clockText closed frameOf bareFrame bracketed askClock askSerial askAccount askEnergy setClock setAccount setTable signOn closingSignOn signOnTo wiredLine isWired confirmation enterData passwordData carries says orElse since endsWith dataIn isFrame leaves enters tries goodWrite writeData tells inside writeOf writeIn someWrite isAsk asks isTaken happens pastOf calls callsOptical callsWired closesPeriod signsOn asksForPassword opened refusedIn standing wroteAll deedsAt deeds writesOf spoken ones
+unfolding damagedAt seven sent undamagedAll bccOf every between isDigit isLetter isPrintable matching sameText agrees fits pattern layoutText decimal valueFrom valueOf numberAt leap thirty daysIn realDate realTime realClock goodDigits isAccountCharacter tablesOf goodAccount goodRow goodTable clockRead tableRead serialText wiredText tableText clockText closed frameOf bareFrame bracketed askClock askSerial askAccount askEnergy setClock setAccount setTable signOn closingSignOn signOnTo wiredLine isWired confirmation enterData passwordData carries says orElse since endsWith dataIn isFrame leaves enters tries goodWrite writeData tells inside writeOf writeIn someWrite isAsk asks isTaken happens pastOf calls callsOptical callsWired closesPeriod signsOn asksForPassword opened refusedIn standing wroteAll deedsAt deeds writesOf spoken ones
 examples =
     record {
       programmed = refl;
@@ -49,4 +50,6 @@ examples =
       wired-deaf = refl;
       wired-dropped = refl;
       wired-asked = refl;
+      saturday = refl;
+      no-saturday = refl;
     }

@@ -3,6 +3,7 @@ use mathlib.Core.Bool.{cond, _&&_}
 use mathlib.Core.List.{List, [], _∷_, _++_}
 use Prim.Native.Nat.{ℕ}
 use lib.Dec.{eqb}
+use Rattle.values.specs.Edition.{tablesOf}
 use Rattle.state.specs.declared.Facts.{Facts}
 use Rattle.meter.specs.declared.Event.{Event}
 use Rattle.meter.specs.declared.Event.the-variants.{Character, Silence, Tick, Pulse, PowerUp, Unknown}
@@ -22,7 +23,7 @@ wroteAll (w ∷ ws) = wrote w ∷ wroteAll ws
 -- a byte that makes a frame whole while programming mode stands; one that ends /C! while listening
 abbrev pub byByte : Facts → Standing → ℕ → List Deed
 byByte facts s b =
-    cond (eqb (s .mode) 4 && isWhole s) (wroteAll (writeIn (frameBy s b)))
+    cond (eqb (s .mode) 4 && isWhole s) (wroteAll (writeIn (tablesOf (facts .edition)) (frameBy s b)))
     (cond (eqb (s .mode) 0 && closesPeriod facts (s .said ++ (b ∷ []))) (closed ∷ []) [])
 
 unfoldable pub deedsAt : Facts → Standing → Event → List Deed

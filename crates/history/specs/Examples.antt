@@ -25,6 +25,10 @@ ours = factsOf (chars "1234567890") (chars "20304050") 1 1 0
 abbrev pub onTheWire : Facts
 onTheWire = factsOf (chars "1234567890") (chars "20304050") 1 2 0
 
+-- the same of edition 2
+abbrev pub later : Facts
+later = factsOf (chars "1234567890") (chars "20304050") 2 1 0
+
 -- bytes, each with room for a reply
 unfoldable pub spoken : List ℕ → List (ℕ × Event)
 spoken [] = []
@@ -36,6 +40,9 @@ tellsUs es = writesOf (deeds ours (pastOf [] es))
 
 abbrev pub tellsThere : List (ℕ × Event) → List Write
 tellsThere es = writesOf (deeds onTheWire (pastOf [] es))
+
+abbrev pub tellsLater : List (ℕ × Event) → List Write
+tellsLater es = writesOf (deeds later (pastOf [] es))
 
 -- sign-on, confirmation and the right password; the same with (), and with a password that is wrong
 abbrev pub opening : List ℕ → List ℕ
@@ -104,3 +111,6 @@ pub record Examples : Type 0 where
   pub wired-deaf : tellsThere (spoken (programming ++ accountWrite)) ≡ []
   pub wired-dropped : tellsThere (spoken (programmingThere ++ set (onesWrite 1) 12 0x31 ++ accountWrite)) ≡ []
   pub wired-asked : tellsThere (spoken (programmingThere ++ onWire (frameOf R1 askAccount) ++ accountWrite)) ≡ account newAccount ∷ []
+  -- table 25 is told to edition 2 alone
+  pub saturday : tellsLater (spoken (programming ++ onesWrite 25)) ≡ ones 25 ∷ []
+  pub no-saturday : tellsUs (spoken (programming ++ onesWrite 25)) ≡ []

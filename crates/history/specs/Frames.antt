@@ -1,4 +1,4 @@
--- What a whole frame says: it is compared with the frame that the rules build.
+-- What a whole frame says: it is compared with the frame that the rules build, for a meter of so many tables.
 use mathlib.Core.Bool.{Bool, true, false, cond, _&&_, _||_}
 use mathlib.Core.List.{List, [], _∷_, map}
 use Prim.Native.Nat.{ℕ, _-_}
@@ -11,7 +11,6 @@ use Rattle.text.specs.Classes.{isPrintable, sameText}
 use Rattle.text.specs.Layout.{fits}
 use Rattle.clock.specs.Seconds.{realClock}
 use Rattle.clock.specs.declared.Clock.{Clock}
-use Rattle.values.specs.Edition.{editionTables}
 use Rattle.values.specs.Registers.{goodAccount, goodRow, goodTable}
 use Rattle.values.specs.Reading.{clockRead, tableRead}
 use Rattle.frames.specs.Frames.{frameOf, bareFrame}
@@ -47,10 +46,10 @@ pub data Write : Type 0 where
   account : List ℕ → Write
   row : ℕ → List ℕ → Write
 
-unfoldable pub goodWrite : Write → Bool
-goodWrite (clock c) = realClock c
-goodWrite (account a) = goodAccount a
-goodWrite (row n r) = goodTable editionTables n && goodRow r
+unfoldable pub goodWrite : ℕ → Write → Bool
+goodWrite tables (clock c) = realClock c
+goodWrite tables (account a) = goodAccount a
+goodWrite tables (row n r) = goodTable tables n && goodRow r
 
 unfoldable pub writeData : Write → List ℕ
 writeData (clock c) = setClock c
@@ -58,8 +57,8 @@ writeData (account a) = setAccount a
 writeData (row n r) = setTable n r
 
 -- data is just what the rules write for this write, and its fields are good
-unfoldable pub tells : List ℕ → Write → Bool
-tells d w = goodWrite w && sameText d (writeData w)
+unfoldable pub tells : ℕ → List ℕ → Write → Bool
+tells tables d w = goodWrite tables w && sameText d (writeData w)
 
 -- what stands between the brackets behind a letter
 unfoldable pub inside : List ℕ → List ℕ
@@ -72,19 +71,19 @@ clockHere d = clock (clockRead (inside d) .clock)
 abbrev pub accountHere : List ℕ → Write
 accountHere d = account (inside d)
 
-abbrev pub rowHere : List ℕ → Write
-rowHere d = row (tableRead editionTables (take 2 (inside d)) .table .0) (drop 3 (inside d))
+abbrev pub rowHere : ℕ → List ℕ → Write
+rowHere tables d = row (tableRead tables (take 2 (inside d)) .table .0) (drop 3 (inside d))
 
 -- the write that data tells, if it tells one
-unfoldable pub writeOf : List ℕ → List Write
-writeOf d =
-    cond (tells d (clockHere d)) (clockHere d ∷ [])
-    (cond (tells d (accountHere d)) (accountHere d ∷ [])
-    (cond (tells d (rowHere d)) (rowHere d ∷ []) []))
+unfoldable pub writeOf : ℕ → List ℕ → List Write
+writeOf tables d =
+    cond (tells tables d (clockHere d)) (clockHere d ∷ [])
+    (cond (tells tables d (accountHere d)) (accountHere d ∷ [])
+    (cond (tells tables d (rowHere tables d)) (rowHere tables d ∷ []) []))
 
 -- W1
-unfoldable pub writeIn : List ℕ → List Write
-writeIn frame = cond (isFrame W1 frame) (writeOf (dataIn frame)) []
+unfoldable pub writeIn : ℕ → List ℕ → List Write
+writeIn tables frame = cond (isFrame W1 frame) (writeOf tables (dataIn frame)) []
 
 -- there is one
 unfoldable pub someWrite : List Write → Bool
@@ -92,15 +91,15 @@ someWrite [] = false
 someWrite (w ∷ ws) = true
 
 -- R1 with what may be asked: T(), L(), K(), E0() to E4(), Z(xx)
-unfoldable pub isAsk : List ℕ → Bool
-isAsk d =
+unfoldable pub isAsk : ℕ → List ℕ → Bool
+isAsk tables d =
     sameText d askClock || (sameText d askSerial || (sameText d askAccount
     || (sameText d (askEnergy 0) || (sameText d (askEnergy 1) || (sameText d (askEnergy 2) || (sameText d (askEnergy 3) || (sameText d (askEnergy 4)
-    || (fits (chars "Z(##)") d && tableRead editionTables (take 2 (drop 2 d)) .ok))))))))
+    || (fits (chars "Z(##)") d && tableRead tables (take 2 (drop 2 d)) .ok))))))))
 
-unfoldable pub asks : List ℕ → Bool
-asks frame = isFrame R1 frame && isAsk (dataIn frame)
+unfoldable pub asks : ℕ → List ℕ → Bool
+asks tables frame = isFrame R1 frame && isAsk tables (dataIn frame)
 
 -- a frame that is taken in modes 3 and 4: a question in either, a write in mode 4
-unfoldable pub isTaken : ℕ → List ℕ → Bool
-isTaken mode frame = asks frame || (eqb mode 4 && someWrite (writeIn frame))
+unfoldable pub isTaken : ℕ → ℕ → List ℕ → Bool
+isTaken tables mode frame = asks tables frame || (eqb mode 4 && someWrite (writeIn tables frame))

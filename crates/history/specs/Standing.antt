@@ -7,6 +7,7 @@ use lib.ListN.{length, replicate}
 use Rattle.line.specs.Controls.{SOH, ETX}
 use Rattle.line.specs.Quoted.{char}
 use Rattle.text.specs.Classes.{sameText}
+use Rattle.values.specs.Edition.{tablesOf}
 use Rattle.frames.specs.Session.{signOn, closingSignOn, signOnTo, wiredSignOn, confirmation}
 use Rattle.state.specs.Link.{isWired}
 use Rattle.state.specs.declared.Facts.{Facts}
@@ -94,7 +95,7 @@ abbrev pub framed : Facts → Standing → List ℕ → Standing
 framed facts s frame =
     cond (eqb (s .mode) 2) (entered facts s frame)
     (cond (leaves frame) (anew s 0)
-    (cond (isTaken (s .mode) frame) (anew s (s .mode)) (anew s (refusedIn facts (s .mode)))))
+    (cond (isTaken (tablesOf (facts .edition)) (s .mode) frame) (anew s (s .mode)) (anew s (refusedIn facts (s .mode)))))
 
 abbrev pub inSession : Facts → Standing → ℕ → Standing
 inSession facts s b = cond (isWhole s) (framed facts s (frameBy s b)) (cond (isTooMany s b) (anew s (refusedIn facts (s .mode))) (saidMore s b))

@@ -43,9 +43,9 @@ clockTold factory (second ∷ ds) = nextSecond (clockTold factory ds)
 clockTold factory (energy wh ∷ ds) = clockTold factory ds
 clockTold factory (closed ∷ ds) = clockTold factory ds
 
--- the zone that the character for the hour names in the day's table
-abbrev pub zoneAt : List ℕ → Clock → ℕ
-zoneAt tables c = getD tables (rowStart (tableFor (c .date)) + c .time .hour) 0 - char "0"
+-- the zone that the character for the hour names in the day's table, of an edition
+abbrev pub zoneAt : ℕ → List ℕ → Clock → ℕ
+zoneAt edition tables c = getD tables (rowStart (tableFor edition (c .date)) + c .time .hour) 0 - char "0"
 
 -- what the factory gave: of account, tables, clock, counters and archive
 module _ (factory : Registers) where
@@ -60,7 +60,7 @@ module _ (factory : Registers) where
   countersTold [] = factory .counters
   countersTold (wrote w ∷ ds) = countersTold ds
   countersTold (second ∷ ds) = countersTold ds
-  countersTold (energy wh ∷ ds) = counted (countersTold ds) (zoneAt (tablesThen ds) (clockThen ds)) wh
+  countersTold (energy wh ∷ ds) = counted (countersTold ds) (zoneAt (factory .facts .edition) (tablesThen ds) (clockThen ds)) wh
   countersTold (closed ∷ ds) = countersTold ds
 
   -- a period for each call, and for each second that reaches 00:00:00 on the first of a month

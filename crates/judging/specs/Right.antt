@@ -17,9 +17,9 @@ use Rattle.replies.specs.Fixed.{identification, passwordAsk, accepted, refused}
 use Rattle.blocks.specs.Parts.{partOf}
 use Rattle.judging.specs.Lines.{isLine, valueIn}
 
--- the identification, the P0 ask, ACK and NAK, byte for byte
-unfoldable pub identifies : List ℕ → Bool
-identifies reply = sameText reply (onWire identification)
+-- the identification of an edition, the P0 ask, ACK and NAK, byte for byte
+unfoldable pub identifies : ℕ → List ℕ → Bool
+identifies edition reply = sameText reply (onWire (identification edition))
 
 unfoldable pub asksPassword : List ℕ → Bool
 asksPassword reply = sameText reply (onWire passwordAsk)

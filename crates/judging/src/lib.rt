@@ -14,9 +14,12 @@ const CLOSING: [u8; 3] = *b")\r\n";
 const TIME_LINE: usize = 17;
 
 // The fixed replies are compared as they come over the line, with their parity.
-pub fn is_identification(reply: &[u8]) -> bool
-    ensures { λ r. ⌜ r ≡ identifies (now (reply .entry)) ⌝ }
+pub fn is_identification(edition: u8, reply: &[u8]) -> bool
+    ensures { λ r. ⌜ r ≡ identifies edition (now (reply .entry)) ⌝ }
 {
+    if edition == 2 {
+        return text::same(reply, b"\xafZZZ5SUB-VP0\xb2.00\xaa\x8d\n");
+    }
     text::same(reply, b"\xafZZZ5SUB-VP0\xb1.00\xaa\x8d\n")
 }
 

@@ -55,6 +55,9 @@ pub extern "C" fn dirgemist_meter_make(
 fn check(m: Meter) -> u8
     ensures { λ r. ⌜ r ≡ checkedAs m ⌝ }
 {
+    if !state::has_edition(m) {
+        return 16;
+    }
     if state::is_well_formed(m) {
         return 1;
     }
@@ -74,6 +77,12 @@ fn show(m: Meter) -> Shown
 {
     let g = m.registers;
     let c = g.counters;
+    if !state::has_edition(m) {
+        return Shown {
+            number: 16,
+            total: 0,
+        };
+    }
     if state::is_well_formed(m) {
         return Shown {
             number: 1,

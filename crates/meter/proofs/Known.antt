@@ -9,13 +9,15 @@ use lib.ListN.{length, take, drop, length-drop}
 use lib.Seq.{length-take-le}
 use Rattle.line.proofs.Runs.{and-left, and-right}
 use Rattle.text.specs.Classes.{between}
+use Rattle.values.specs.Edition.{tablesOf}
 use Rattle.values.specs.Registers.{goodTable}
+use Rattle.values.proofs.Editions.{tables-most}
 use Rattle.clock.specs.Dates.{realDate}
 use Rattle.clock.specs.Seconds.{realClock}
 use Rattle.clock.proofs.Real.{date-facts}
-use Rattle.state.specs.Sizes.{heldPlaces, tables}
+use Rattle.state.specs.Sizes.{heldPlaces, tablePlaces}
 use Rattle.state.specs.declared.Meter.{Meter}
-use Rattle.state.specs.WellFormed.{countersGood, archiveGood, wellFormed}
+use Rattle.state.specs.WellFormed.{tablesIn, countersGood, archiveGood, wellFormed}
 use Rattle.state.proofs.Parts.{formed, formed-registers, Long, long}
 use Rattle.state.proofs.Archives.{formed-archive}
 use Rattle.replies.specs.Shown.{Lengths}
@@ -27,19 +29,20 @@ piece-long m h a n r = length-take-le n (drop a (m .receiver .held)) (omega (ari
 pub archive-good : (m : Meter) → wellFormed m ≡ true → archiveGood (m .registers .archive) ≡ true
 archive-good m h = formed-registers (m .registers) (formed m h .registers) .archive
 
-pub lengths : (m : Meter) → wellFormed m ≡ true → Lengths tables (m .registers)
+pub lengths : (m : Meter) → wellFormed m ≡ true → Lengths (tablesIn (m .registers)) (m .registers)
 lengths m h =
     let l = long m h in
     let a = formed-archive (m .registers .archive) (archive-good m h) in
-    record { serial = l .serial; account = l .account; rows = l .tables; places = a .long; kept = a .count }
+    record { serial = l .serial; account = l .account; rows = l .tables; few = tables-most (m .registers .facts .edition); places = a .long; kept = a .count }
 
-pub table-low : (n : ℕ) → goodTable tables n ≡ true → 1 ≤ n
+pub table-low : (tables n : ℕ) → goodTable tables n ≡ true → 1 ≤ n
 unfolding goodTable between
-table-low n h = leb-true 1 n (and-left (leb 1 n) (leb n tables) h)
+table-low tables n h = leb-true 1 n (and-left (leb 1 n) (leb n tables) h)
 
-pub table-high : (n : ℕ) → goodTable tables n ≡ true → n ≤ tables
+pub table-high : (edition n : ℕ) → goodTable (tablesOf edition) n ≡ true → n ≤ tablePlaces
 unfolding goodTable between
-table-high n h = leb-true n tables (and-right (leb 1 n) (leb n tables) h)
+table-high edition n h =
+    omega (arith, tables-most edition, leb-true n (tablesOf edition) (and-right (leb 1 n) (leb n (tablesOf edition)) h))
 
 pub counters-good : (m : Meter) → wellFormed m ≡ true → countersGood (m .registers .counters) ≡ true
 counters-good m h = formed-registers (m .registers) (formed m h .registers) .counters

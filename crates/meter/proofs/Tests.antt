@@ -1,4 +1,4 @@
--- The tests of an event, in their order: what refuses it whatever the state, then a malformed state; and what an event has that passed the first. Assumes nothing.
+-- The tests of an event, in their order: the edition, what refuses it whatever the state, then a malformed state; and what an event has that passed the first. Assumes nothing.
 use mathlib.Core.Path.{_≡_, refl, sym, ap, _∙_}
 use mathlib.Core.Bool.{Bool, true, false, cond}
 use mathlib.Core.List.{[]}
@@ -6,12 +6,13 @@ use Prim.Native.Nat.{ℕ, _≤_}
 use native.Mathlib.Omega.{arith}
 use lib.Dec.{eqb, ltb}
 use borrow.Author.Tests.{ltb-false}
+use Rattle.values.specs.Edition.{isEdition}
 use Rattle.state.specs.Sizes.{replyRoom}
 use Rattle.state.specs.declared.Meter.{Meter}
-use Rattle.state.specs.WellFormed.{wellFormed}
+use Rattle.state.specs.WellFormed.{editionOf, wellFormed}
 use Rattle.meter.specs.declared.Event.{Event}
 use Rattle.meter.specs.declared.Event.the-variants.{Character, Silence, Tick, Pulse, PowerUp, Unknown}
-use Rattle.meter.specs.Outcomes.{Outcome, silent, unheard}
+use Rattle.meter.specs.Outcomes.{Outcome, silent, unheard, ofEdition}
 use Rattle.meter.specs.Character.{character}
 use Rattle.meter.specs.Events.{afterTick, afterPulse, afterPowerUp, silence, tick, pulse, powerUp}
 use Rattle.meter.specs.Life.{met, refusal, happened}
@@ -28,12 +29,12 @@ tested-13 : (m : Meter) (p : Bool) (o : Outcome) → cond p (unheard 13 m) (cond
 tested-13 m true o = refl
 tested-13 m false o = refl
 
-pub met-in-order : (m : Meter) (room : ℕ) (e : Event) → met m room e ≡ inOrder m (refusal room e) (happened m e)
+pub met-in-order : (m : Meter) (room : ℕ) (e : Event) → met m room e ≡ ofEdition m (inOrder m (refusal room e) (happened m e))
 unfolding met refusal happened character silence tick pulse powerUp
-met-in-order m room (Character b) = tested-12 m (ltb room replyRoom) _
-met-in-order m room Silence = tested-12 m (ltb room replyRoom) _
+met-in-order m room (Character b) = ap (ofEdition m) (tested-12 m (ltb room replyRoom) _)
+met-in-order m room Silence = ap (ofEdition m) (tested-12 m (ltb room replyRoom) _)
 met-in-order m room Tick = refl
-met-in-order m room (Pulse wh) = tested-13 m (ltb 1000000 wh) _
+met-in-order m room (Pulse wh) = ap (ofEdition m) (tested-13 m (ltb 1000000 wh) _)
 met-in-order m room PowerUp = refl
 met-in-order m room Unknown = refl
 
@@ -60,19 +61,28 @@ unfolding refusal
 pulse-small room e wh is none = ltb-false 1000000 wh (passed-13 (ltb 1000000 wh) (sym (ap (refusal room) is) ∙ none))
 
 -- what passes has no reply, taken or refused
-quiet : (m : Meter) (p q : Bool) (number : ℕ) (next : Meter) → cond p (unheard number m) (cond q (silent 1 next) (unheard 14 m)) .reply ≡ []
-quiet m true q number next = refl
-quiet m false true number next = refl
-quiet m false false number next = refl
+quiet : (m : Meter) (e p q : Bool) (number : ℕ) (next : Meter)
+    → cond e (cond p (unheard number m) (cond q (silent 1 next) (unheard 14 m))) (unheard 16 m) .reply ≡ []
+quiet m false p q number next = refl
+quiet m true true q number next = refl
+quiet m true false true number next = refl
+quiet m true false false number next = refl
 
 pub tick-quiet : (m : Meter) → tick m .reply ≡ []
 unfolding tick
-tick-quiet m = quiet m false (wellFormed m) 0 (afterTick m .next)
+tick-quiet m = quiet m (isEdition (editionOf m)) false (wellFormed m) 0 (afterTick m .next)
 
 pub pulse-quiet : (m : Meter) (wh : ℕ) → pulse m wh .reply ≡ []
 unfolding pulse
-pulse-quiet m wh = quiet m (ltb 1000000 wh) (wellFormed m) 13 (afterPulse m wh .next)
+pulse-quiet m wh = quiet m (isEdition (editionOf m)) (ltb 1000000 wh) (wellFormed m) 13 (afterPulse m wh .next)
 
 pub power-up-quiet : (m : Meter) → powerUp m .reply ≡ []
 unfolding powerUp
-power-up-quiet m = quiet m false (wellFormed m) 0 (afterPowerUp m .next)
+power-up-quiet m = quiet m (isEdition (editionOf m)) false (wellFormed m) 0 (afterPowerUp m .next)
+
+pub unknown-quiet : (m : Meter) → ofEdition m (unheard 99 m) .reply ≡ []
+unknown-quiet m = go (isEdition (editionOf m))
+  where
+    go : (e : Bool) → cond e (unheard 99 m) (unheard 16 m) .reply ≡ []
+    go true = refl
+    go false = refl

@@ -6,8 +6,9 @@ use lib.Dec.{eqb}
 use lib.ListN.{take, drop}
 use Rattle.text.specs.Classes.{sameText}
 use Rattle.frames.specs.Frames.{blockOf}
-use Rattle.state.specs.Sizes.{rowLength, tables}
+use Rattle.state.specs.Sizes.{rowLength}
 use Rattle.state.specs.declared.Meter.{Meter}
+use Rattle.state.specs.WellFormed.{tablesIn}
 use Rattle.state.specs.Making.{emptyReceiver}
 use Rattle.values.specs.Registers.{goodTable}
 use Rattle.replies.specs.Answers.{askedData}
@@ -52,4 +53,4 @@ acted m Password = tried m
 acted m (Read a) = saying 1 (speedOf m) (blockOf (askedData (m .registers) a)) (withReceiver m emptyReceiver)
 acted m (WriteClock c) = wrote m (withRegisters m (withClock (m .registers) c))
 acted m WriteAccount = wrote m (accountTaken m)
-acted m (WriteTable t) = cond (goodTable tables (t .0)) (wrote m (rowTaken m (t .0))) (nak 9 m)
+acted m (WriteTable t) = cond (goodTable (tablesIn (m .registers)) (t .0)) (wrote m (rowTaken m (t .0))) (nak 9 m)

@@ -7,9 +7,9 @@ use lib.ListN.{getD}
 use Rattle.line.specs.Characters.{damagedAt, seven}
 use Rattle.frames.specs.Frames.{blockOf}
 use Rattle.frames.specs.Session.{speedSaid}
-use Rattle.state.specs.Sizes.{tables, replyRoom}
+use Rattle.state.specs.Sizes.{replyRoom}
 use Rattle.state.specs.declared.Meter.{Meter}
-use Rattle.state.specs.WellFormed.{wellFormed, marked}
+use Rattle.state.specs.WellFormed.{tablesIn, editionOf, wellFormed, marked}
 use Rattle.state.specs.Making.{emptyReceiver}
 use Rattle.receiving.specs.declared.Hearing.{Hearing}
 use Rattle.receiving.specs.declared.Hearing.the-variants.{Drop, Hold, Restart, Empty, Line, Confirm, Frame, TooLong}
@@ -23,7 +23,7 @@ use Rattle.state.specs.Setting.{withReceiver, inMode, withSpeed, withRegisters}
 use Rattle.state.specs.Closing.{closing}
 use Rattle.state.specs.Link.{linkOf, restSpeed}
 use Rattle.meter.specs.Link.{identified}
-use Rattle.meter.specs.Outcomes.{Outcome, silent, unheard, saying, nak, atPlace}
+use Rattle.meter.specs.Outcomes.{Outcome, silent, unheard, ofEdition, saying, nak, atPlace}
 use Rattle.meter.specs.SignOn.{signsOnBy, closesBy, wantsBlock, wantsPeriods, wantsProgram}
 use Rattle.meter.specs.Acting.{acted}
 
@@ -33,7 +33,7 @@ symbol b = cond (damagedAt b) 0 (seven b)
 
 -- answered as the link rules and at its speed, then mode 1
 abbrev pub signedOn : Meter → Outcome
-signedOn m = saying 1 (restSpeed (linkOf m)) (identified (linkOf m) (m .registers .facts .serial)) (inMode m 1)
+signedOn m = saying 1 (restSpeed (linkOf m)) (identified (linkOf m) (editionOf m) (m .registers .facts .serial)) (inMode m 1)
 
 -- the meter with a period closed
 abbrev pub periodClosed : Meter → Meter
@@ -58,15 +58,15 @@ readOut m speed content = saying 1 speed (blockOf content) (inMode m 0)
 unfoldable pub confirmed : Meter → ℕ → Bool → Outcome
 confirmed m c damaged =
     cond (marked (m .receiver) || damaged) (silent 2 (inMode m 0))
-    (cond (wantsBlock (linkOf m) (heldText (m .receiver)) c) (readOut m (confirmedSpeed m) (blockData tables (m .registers)))
-    (cond (wantsPeriods (linkOf m) (heldText (m .receiver)) c) (readOut m (confirmedSpeed m) (longData tables (m .registers)))
+    (cond (wantsBlock (linkOf m) (heldText (m .receiver)) c) (readOut m (confirmedSpeed m) (blockData (tablesIn (m .registers)) (m .registers)))
+    (cond (wantsPeriods (linkOf m) (heldText (m .receiver)) c) (readOut m (confirmedSpeed m) (longData (tablesIn (m .registers)) (m .registers)))
     (cond (wantsProgram (linkOf m) (heldText (m .receiver)) c) (saying 1 (confirmedSpeed m) passwordAsk (withSpeed (inMode m 2) (confirmedSpeed m)))
     (silent 2 (inMode m 0)))))
 
 -- a whole frame, c being its BCC; [2]: where one of its characters was damaged, the answer has the place of the first, else 0
 abbrev pub frameEnded : Meter → ℕ → Bool → Outcome
 frameEnded m c damaged =
-    atPlace (acted m (verdict (m .mode) (heldText (m .receiver)) (marked (m .receiver) || damaged) c)) (hurtPlace (m .receiver) damaged)
+    atPlace (acted m (verdict (tablesIn (m .registers)) (m .mode) (heldText (m .receiver)) (marked (m .receiver) || damaged) c)) (hurtPlace (m .receiver) damaged)
 
 unfoldable pub heard : Meter → ℕ → Bool → Hearing → Outcome
 heard m c damaged Drop = silent 0 m
@@ -83,4 +83,4 @@ taken m b = heard m (symbol b) (damagedAt b) (hearing (m .mode) (m .receiver .co
 
 -- a reply buffer under 4,096 gives 12, then a malformed state 14
 unfoldable pub character : Meter → ℕ → ℕ → Outcome
-character m room b = cond (ltb room replyRoom) (unheard 12 m) (cond (wellFormed m) (taken m b) (unheard 14 m))
+character m room b = ofEdition m (cond (ltb room replyRoom) (unheard 12 m) (cond (wellFormed m) (taken m b) (unheard 14 m)))

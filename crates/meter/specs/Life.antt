@@ -7,7 +7,7 @@ use Rattle.state.specs.Sizes.{replyRoom}
 use Rattle.state.specs.declared.Meter.{Meter}
 use Rattle.meter.specs.declared.Event.{Event}
 use Rattle.meter.specs.declared.Event.the-variants.{Character, Silence, Tick, Pulse, PowerUp, Unknown}
-use Rattle.meter.specs.Outcomes.{Outcome, unheard}
+use Rattle.meter.specs.Outcomes.{Outcome, unheard, ofEdition}
 use Rattle.meter.specs.Character.{taken, character}
 use Rattle.meter.specs.Events.{afterSilence, afterTick, afterPulse, afterPowerUp, silence, tick, pulse, powerUp}
 
@@ -27,7 +27,7 @@ met m room Silence = silence m room
 met m room Tick = tick m
 met m room (Pulse wh) = pulse m wh
 met m room PowerUp = powerUp m
-met m room Unknown = unheard 99 m
+met m room Unknown = ofEdition m (unheard 99 m)
 
 -- the number that refuses an event whatever the state, or 0: 99; 13 for a pulse over 1,000,000; 12 for a reply buffer under 4,096
 unfoldable pub refusal : ℕ → Event → ℕ

@@ -32,8 +32,8 @@ unfoldable pub closes : ℕ → List ℕ → Bool
 closes link line = not (isWired link) && sameText line closingSignOn
 
 -- the answer to a sign-on; on the wired link it has our serial, whoever was called
-unfoldable pub identified : ℕ → List ℕ → List ℕ
-identified link serial = cond (isWired link) (wiredAnswer serial) identification
+unfoldable pub identified : ℕ → ℕ → List ℕ → List ℕ
+identified link edition serial = cond (isWired link) (wiredAnswer serial) (identification edition)
 
 -- the confirmation's digit is '5'; on the optical link '0' too
 unfoldable pub slowToo : ℕ → Bool

@@ -1,8 +1,11 @@
 -- What a call answers: the number, the reply as characters, its speed, the place of the first damaged character with 3, and the next state.
+use mathlib.Core.Bool.{cond}
 use mathlib.Core.List.{List, []}
 use Prim.Native.Nat.{ℕ}
 use lib.ListN.{length}
+use Rattle.values.specs.Edition.{isEdition}
 use Rattle.state.specs.declared.Meter.{Meter}
+use Rattle.state.specs.WellFormed.{editionOf}
 use Rattle.state.specs.Setting.{inMode}
 use Rattle.state.specs.Link.{linkOf}
 use Rattle.replies.specs.Fixed.{accepted}
@@ -28,9 +31,13 @@ speedOf m = m .speed
 abbrev pub silent : ℕ → Meter → Outcome
 silent number next = record { number = number; speed = speedOf next; reply = []; place = 0; next = next }
 
--- 12 to 14: nothing changed, speed 0
+-- 12 to 14 and 16: nothing changed, speed 0
 abbrev pub unheard : ℕ → Meter → Outcome
 unheard number m = record { number = number; speed = 0; reply = []; place = 0; next = m }
+
+-- [3]: a meter of an edition that there is not answers 16 before all else
+abbrev pub ofEdition : Meter → Outcome → Outcome
+ofEdition m o = cond (isEdition (editionOf m)) o (unheard 16 m)
 
 -- a reply at a speed
 abbrev pub saying : ℕ → ℕ → List ℕ → Meter → Outcome

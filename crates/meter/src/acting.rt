@@ -5,7 +5,7 @@ ghost use Prim.Native.Nat.{_≤_};
 ghost use lib.ListN.{length};
 ghost use Rattle.text.specs.Writing.{holding};
 ghost use Rattle.frames.specs.Frames.{onWire};
-ghost use Rattle.state.specs.Sizes.{tables, replyRoom};
+ghost use Rattle.state.specs.Sizes.{tablePlaces, replyRoom};
 ghost use Rattle.state.specs.WellFormed.{wellFormed};
 ghost use Rattle.state.specs.Setting.{withRegisters, withClock};
 ghost use Rattle.meter.specs.Outcomes.{answerOf};
@@ -82,7 +82,7 @@ fn take_account(m: Meter) -> Meter
 
 // The state that a write of a table leaves, the receiver aside.
 fn take_row(m: Meter, t: TableNo) -> Meter
-    requires { ⌜ (wellFormed m ≡ true) × ((1 ≤ t .0) × (t .0 ≤ tables)) ⌝ }
+    requires { ⌜ (wellFormed m ≡ true) × ((1 ≤ t .0) × (t .0 ≤ tablePlaces)) ⌝ }
     ensures { λ r. ⌜ r ≡ rowTaken m (t .0) ⌝ }
 {
     let r = m.receiver;
@@ -107,7 +107,9 @@ fn write_row(m: Meter, t: TableNo, reply: &mut [u8]) -> Answer
     ensures result { λ r. ⌜ r ≡ answerOf (acted m (Verdict.WriteTable t)) ⌝ }
     ensures held { λ _. ⌜ now (reply .exit) ≡ holding (now (reply .entry)) (onWire (acted m (Verdict.WriteTable t) .reply)) ⌝ }
 {
-    if values::is_table(t, values::TABLES) {
+    let g = m.registers;
+    let f = g.facts;
+    if values::is_table(t, values::tables_of(f.edition)) {
         return answers::accept(m.speed, emptied(take_row(m, t)), reply);
     }
     answers::refuse(9, m, reply)
@@ -143,6 +145,14 @@ pub fn act_on_frame(m: Meter, c: u8, damaged: bool, reply: &mut [u8]) -> Answer
     if hurt {
         return answers::refuse_at(3, receiving::hurt_place(r, damaged), m, reply);
     }
-    let v = deciding::decide(m.mode, text::first(&held, r.count as usize), false, c);
+    let g = m.registers;
+    let f = g.facts;
+    let v = deciding::decide(
+        values::tables_of(f.edition),
+        m.mode,
+        text::first(&held, r.count as usize),
+        false,
+        c,
+    );
     act(m, v, reply)
 }

@@ -97,6 +97,16 @@ pub fn act(m: Meter, kind: u8, value: u32, reply: &mut [u8]) -> Answer
     take_event(m, event_of(kind, value), reply)
 }
 
+// No event: 99, and nothing changed.
+fn unknown(m: Meter) -> Answer
+    ensures { λ r. ⌜ r ≡ answerOf (met m 0 Event.Unknown) ⌝ }
+{
+    if !state::has_edition(m) {
+        return answers::unheard_with(16, m);
+    }
+    answers::unheard_with(99, m)
+}
+
 // Any event, met by any meter with any buffer.
 pub fn meet(m: Meter, e: Event, reply: &mut [u8]) -> Answer
     ensures result { λ r. ⌜ r ≡ answerOf (met m (length (now (reply .entry))) e) ⌝ }
@@ -108,6 +118,6 @@ pub fn meet(m: Meter, e: Event, reply: &mut [u8]) -> Answer
         Event::Tick => passing::pass_second(m),
         Event::Pulse(wh) => passing::take_pulse(m, wh),
         Event::PowerUp => passing::power_up(m),
-        Event::Unknown => answers::unheard_with(99, m),
+        Event::Unknown => unknown(m),
     }
 }

@@ -80,6 +80,9 @@ pub fn receive(m: Meter, b: u8, reply: &mut [u8]) -> Answer
     ensures result { λ r. ⌜ r ≡ answerOf (character m (length (now (reply .entry))) b) ⌝ }
     ensures held { λ _. ⌜ now (reply .exit) ≡ holding (now (reply .entry)) (onWire (character m (length (now (reply .entry))) b .reply)) ⌝ }
 {
+    if !state::has_edition(m) {
+        return answers::unheard_with(16, m);
+    }
     if reply.len() < REPLY_ROOM {
         return answers::unheard_with(12, m);
     }
@@ -94,6 +97,9 @@ pub fn hear_nothing(m: Meter, reply: &mut [u8]) -> Answer
     ensures result { λ r. ⌜ r ≡ answerOf (silence m (length (now (reply .entry)))) ⌝ }
     ensures held { λ _. ⌜ now (reply .exit) ≡ holding (now (reply .entry)) (onWire (silence m (length (now (reply .entry))) .reply)) ⌝ }
 {
+    if !state::has_edition(m) {
+        return answers::unheard_with(16, m);
+    }
     if reply.len() < REPLY_ROOM {
         return answers::unheard_with(12, m);
     }

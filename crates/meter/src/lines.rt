@@ -8,8 +8,8 @@ ghost use Rattle.frames.specs.Frames.{blockOf, onWire};
 ghost use Rattle.frames.specs.Session.{speedSaid};
 ghost use Rattle.replies.specs.Block.{blockData};
 ghost use Rattle.replies.specs.Periods.{longData};
-ghost use Rattle.state.specs.Sizes.{tables, replyRoom};
-ghost use Rattle.state.specs.WellFormed.{wellFormed};
+ghost use Rattle.state.specs.Sizes.{replyRoom};
+ghost use Rattle.state.specs.WellFormed.{tablesIn, editionOf, wellFormed};
 ghost use Rattle.meter.specs.Outcomes.{answerOf};
 ghost use Rattle.meter.specs.Character.{signedOn, periodClosed, lineEnded, readOut, confirmed};
 ghost use Rattle.meter.specs.SignOn.{confirms, wantsBlock, wantsPeriods, wantsProgram};
@@ -32,7 +32,7 @@ fn sign_on(m: Meter, reply: &mut [u8]) -> Answer
     let g = m.registers;
     let f = g.facts;
     let serial = f.serial;
-    let length = link::identify(f.link, &serial, reply);
+    let length = link::identify(f.link, f.edition, &serial, reply);
     Answer {
         number: 1,
         length,
@@ -116,11 +116,12 @@ fn speed_said(v: u8) -> u8
 // The data block, then mode 0.
 fn read_out(m: Meter, speed: u8, reply: &mut [u8]) -> Answer
     requires { ⌜ (wellFormed m ≡ true) × (replyRoom ≤ length (now reply)) ⌝ }
-    ensures result { λ r. ⌜ r ≡ answerOf (readOut m speed (blockData tables (m .registers))) ⌝ }
-    ensures held { λ _. ⌜ now (reply .exit) ≡ holding (now (reply .entry)) (onWire (blockOf (blockData tables (m .registers)))) ⌝ }
+    ensures result { λ r. ⌜ r ≡ answerOf (readOut m speed (blockData (tablesIn (m .registers)) (m .registers))) ⌝ }
+    ensures held { λ _. ⌜ now (reply .exit) ≡ holding (now (reply .entry)) (onWire (blockOf (blockData (tablesIn (m .registers)) (m .registers)))) ⌝ }
 {
     let g = m.registers;
-    let length = replies::data_block(reply, g);
+    let f = g.facts;
+    let length = replies::data_block(reply, g, values::tables_of(f.edition));
     Answer {
         number: 1,
         length,
@@ -133,11 +134,12 @@ fn read_out(m: Meter, speed: u8, reply: &mut [u8]) -> Answer
 // The same with the closed periods.
 fn read_out_long(m: Meter, speed: u8, reply: &mut [u8]) -> Answer
     requires { ⌜ (wellFormed m ≡ true) × (replyRoom ≤ length (now reply)) ⌝ }
-    ensures result { λ r. ⌜ r ≡ answerOf (readOut m speed (longData tables (m .registers))) ⌝ }
-    ensures held { λ _. ⌜ now (reply .exit) ≡ holding (now (reply .entry)) (onWire (blockOf (longData tables (m .registers)))) ⌝ }
+    ensures result { λ r. ⌜ r ≡ answerOf (readOut m speed (longData (tablesIn (m .registers)) (m .registers))) ⌝ }
+    ensures held { λ _. ⌜ now (reply .exit) ≡ holding (now (reply .entry)) (onWire (blockOf (longData (tablesIn (m .registers)) (m .registers)))) ⌝ }
 {
     let g = m.registers;
-    let length = replies::long_block(reply, g);
+    let f = g.facts;
+    let length = replies::long_block(reply, g, values::tables_of(f.edition));
     Answer {
         number: 1,
         length,

@@ -59,15 +59,15 @@ pub fn closes(link: u8, line: &[u8]) -> bool
 }
 
 // The answer to a sign-on.
-pub fn identify(link: u8, serial: &[u8], reply: &mut [u8]) -> usize
+pub fn identify(link: u8, edition: u8, serial: &[u8], reply: &mut [u8]) -> usize
     requires { ⌜ (length (now serial) ≡ 10) × (19 ≤ length (now reply)) ⌝ }
-    ensures whole { λ r. ⌜ r ≡ length (identified link (now (serial .entry))) ⌝ }
-    ensures held { λ _. ⌜ now (reply .exit) ≡ holding (now (reply .entry)) (onWire (identified link (now (serial .entry)))) ⌝ }
+    ensures whole { λ r. ⌜ r ≡ length (identified link edition (now (serial .entry))) ⌝ }
+    ensures held { λ _. ⌜ now (reply .exit) ≡ holding (now (reply .entry)) (onWire (identified link edition (now (serial .entry)))) ⌝ }
 {
     if is_wired(link) {
         return replies::answer_call(reply, serial);
     }
-    replies::identify(reply)
+    replies::identify(reply, edition)
 }
 
 // Whether the confirmation's digit may be '0'.

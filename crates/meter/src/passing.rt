@@ -11,6 +11,9 @@ use state::Meter;
 pub fn pass_second(m: Meter) -> Answer
     ensures { λ r. ⌜ r ≡ answerOf (tick m) ⌝ }
 {
+    if !state::has_edition(m) {
+        return answers::unheard_with(16, m);
+    }
     if state::is_well_formed(m) {
         return after::tick(m);
     }
@@ -21,6 +24,9 @@ pub fn pass_second(m: Meter) -> Answer
 pub fn take_pulse(m: Meter, wh: u32) -> Answer
     ensures { λ r. ⌜ r ≡ answerOf (pulse m wh) ⌝ }
 {
+    if !state::has_edition(m) {
+        return answers::unheard_with(16, m);
+    }
     if 1_000_000 < wh {
         return answers::unheard_with(13, m);
     }
@@ -34,6 +40,9 @@ pub fn take_pulse(m: Meter, wh: u32) -> Answer
 pub fn power_up(m: Meter) -> Answer
     ensures { λ r. ⌜ r ≡ answerOf (powerUp m) ⌝ }
 {
+    if !state::has_edition(m) {
+        return answers::unheard_with(16, m);
+    }
     if state::is_well_formed(m) {
         return after::power_up(m);
     }

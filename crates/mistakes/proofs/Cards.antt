@@ -9,8 +9,9 @@ use lib.ListN.{length, getD, drop, replicate}
 use lib.Seq.{drop-at}
 use Rattle.line.specs.Runs.{every}
 use Rattle.text.specs.Classes.{between, isLetter, isDigit}
+use Rattle.values.specs.Edition.{isEdition}
 use Rattle.values.specs.Registers.{isAccountCharacter, goodAccount, goodRow, goodTable}
-use Rattle.state.specs.WellFormed.{wellFormed}
+use Rattle.state.specs.WellFormed.{editionOf, wellFormed}
 use Rattle.state.specs.Setting.{withAttempts}
 use Rattle.post.specs.Grammar.{Entry, goodEntry, rising}
 use Rattle.card.specs.Grammar.{fieldText, accountField, tableField, tableFields, cardText, IsCard}
@@ -24,7 +25,7 @@ use Rattle.card.proofs.Answers.{one-answer}
 use Rattle.cardwriting.specs.declared.Written.{Written}
 use Rattle.cardwriting.specs.Writing.{writtenIn}
 use Rattle.cardwriting.proofs.Writing.{answers-14, answers-41}
-use Rattle.mistakes.specs.Samples.{account, twos}
+use Rattle.mistakes.specs.Samples.{account, twos, newMeter}
 use Rattle.mistakes.specs.Posts.{entry, one, ready}
 use Rattle.mistakes.proofs.Sending.{ready-formed}
 use Rattle.mistakes.specs.Cards.{sample, swapped, secondAccount, equalNumbers, Cards, CardsWritten}
@@ -163,6 +164,10 @@ cards =
           (λ size place after. read-other 6 sample (replicate 55 0) after size place no-high, λ size place after. card-refused 7 sample (replicate 55 0) after size place (sample-card 7 (computed .rises-of-7)));
     }
 
+first-edition : isEdition (editionOf ready) ≡ true
+unfolding isEdition between newMeter
+first-edition = refl
+
 many-attempts : wellFormed (withAttempts ready 4) ≡ false
 unfolding wellFormed
 many-attempts = refl
@@ -171,7 +176,7 @@ pub cards-written : CardsWritten
 cards-written =
     record {
       write = (
-        λ e. omega (arith, ap (λ (w : Written). w .number) (e ∙ sym (answers-41 ready [] ready-formed (omega arith) .0))),
-        λ e. omega (arith, ap (λ (w : Written). w .number) (e ∙ sym (answers-14 (withAttempts ready 4) [] many-attempts .0))),
+        λ e. omega (arith, ap (λ (w : Written). w .number) (e ∙ sym (answers-41 ready [] first-edition ready-formed _ _ refl refl (omega arith) .0))),
+        λ e. omega (arith, ap (λ (w : Written). w .number) (e ∙ sym (answers-14 (withAttempts ready 4) [] first-edition many-attempts .0))),
       );
     }

@@ -5,7 +5,9 @@ use mathlib.Core.Logic.{inl, inr}
 use Prim.Native.Nat.{ℕ}
 use native.Mathlib.Omega.{arith}
 use lib.ListN.{getD}
+use Rattle.values.specs.Edition.{tablesOf}
 use Rattle.state.specs.declared.Meter.{Meter}
+use Rattle.state.specs.Making.{newRows}
 use Rattle.replies.specs.Shown.{rowOf}
 use Rattle.state.specs.Setting.{withAttempts}
 use Rattle.post.specs.Grammar.{Entry, postText}
@@ -24,6 +26,7 @@ is-ready : Ready ready
 is-ready = record { formed = ready-formed; mode = refl; empty = refl }
 
 delivered : Delivered ready one (answered ready full (framesOf one)) (left ready full (framesOf one))
+unfolding newMeter tablesOf
 delivered = delivery ready is-ready (postText one) (post-of 24 one good-one) full (λ i. omega arith)
 
 counted-once : acknowledgements (answered ready full (framesOf one)) ≡ 1
@@ -31,7 +34,7 @@ counted-once = ap acknowledgements (delivered .acknowledged) ∙ count-once (rea
 
 -- the row of table 7 was '1', and is '2'
 row-before : getD (rowOf (ready .registers .tables) 7) 0 0 ≡ 49
-unfolding newMeter rowOf
+unfolding newMeter rowOf tablesOf newRows
 row-before = refl
 
 row-posted : getD twos 0 0 ≡ 50
@@ -44,12 +47,12 @@ keeps-no-state e =
     omega (arith, row-before, row-posted, ap (λ (s : List ℕ). getD s 0 0) row)
 
 all-acknowledged : DeliveredAs ready (postText one) 1 0 1 ready → ⊥
-unfolding DeliveredAs
+unfolding DeliveredAs newMeter tablesOf
 all-acknowledged (inl a) = keeps-no-state (a .fed ∙ ap (λ (es : List Entry). left ready full (framesOf es)) (entries-of one good-one (a .is-post)))
 all-acknowledged (inr b) = omega (arith, b .refused)
 
 changed-by-refusal : (place : ℕ) → DeliveredAs ready lastAlone 20 place 0 (withAttempts ready 1) → ⊥
-unfolding DeliveredAs newMeter
+unfolding DeliveredAs newMeter tablesOf newRows
 changed-by-refusal place (inl a) = omega (arith, a .done)
 changed-by-refusal place (inr b) = omega (arith, ap (λ (m : Meter). m .attempts) (b .kept))
 

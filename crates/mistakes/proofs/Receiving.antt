@@ -12,6 +12,7 @@ use Rattle.text.specs.Layout.{layoutText, agrees, fits}
 use Rattle.clock.specs.Dates.{leap, thirty, daysIn, realDate, realTime}
 use Rattle.clock.specs.Seconds.{realStamp, nextMonth, nextDay, nextSecond}
 use Rattle.clock.specs.Weekday.{daysBefore, dayNumber, weekday}
+use Rattle.values.specs.Edition.{tablesOf}
 use Rattle.values.specs.Texts.{tableText}
 use Rattle.frames.specs.Frames.{closed, frameOf}
 use Rattle.frames.specs.Commands.{bracketed, setTable}
@@ -22,7 +23,7 @@ use Rattle.state.specs.declared.Period.{Period}
 use Rattle.state.specs.declared.Registers.{Registers}
 use Rattle.state.specs.WellFormed.{below, zonesGood, noTime, unused, periodGood, everyPeriod, archiveGood}
 use Rattle.state.specs.Link.{isWired, restSpeed}
-use Rattle.state.specs.Making.{noPeriod}
+use Rattle.state.specs.Making.{noPeriod, newRows}
 use Rattle.state.specs.Closing.{periodsOf, closedWith}
 use Rattle.state.specs.Setting.{counterOf}
 use Rattle.receiving.specs.declared.Hearing.{Hearing}
@@ -32,7 +33,7 @@ use Rattle.deciding.specs.declared.Verdict.{Verdict}
 use Rattle.deciding.specs.declared.Verdict.the-variants.{Refuse, Leave, Enter, Password, Read, WriteClock, WriteAccount, WriteTable}
 use Rattle.deciding.specs.Shape.{startGood, bareShape, content, framedShape}
 use Rattle.deciding.specs.Verdict.{entry, bareVerdict, framedVerdict, shapeVerdict, verdict}
-use Rattle.tariff.specs.Zones.{tableFor, zoneIn, counted}
+use Rattle.tariff.specs.Zones.{ownDay, tableFor, zoneIn, counted}
 use Rattle.tariff.specs.Months.{monthStarts, monthClosed}
 use Rattle.mistakes.specs.Samples.{serial, account, twos, newMeter, used, heldIn, closedTwice, oldestFirst}
 use Rattle.mistakes.specs.Receiving.{Setting, Hearings, Decisions, Closing, Tariff}
@@ -60,7 +61,7 @@ verdictCase WriteAccount = 105
 verdictCase (WriteTable t) = 106
 
 pub hearings : Hearings
-unfolding hearing listening confirming framing hearingCase stored newMeter heldIn
+unfolding hearing listening confirming framing hearingCase stored newMeter heldIn tablesOf newRows
 hearings =
     record {
       hear = (seen hearingCase refl, seen hearingCase refl);
@@ -76,7 +77,7 @@ unfolding seven bccOf every between isDigit isPrintable matching sameText decima
 decisions = record { decide = (seen verdictCase refl, seen verdictCase refl) }
 
 pub setting : Setting
-unfolding stored decimal serial account twos newMeter used heldIn isWired restSpeed
+unfolding stored decimal serial account twos newMeter used heldIn tablesOf newRows isWired restSpeed
 setting =
     record {
       «with_receiver» = (seen (λ (m : Meter). m .receiver .count) refl, seen (λ (m : Meter). m .mode) refl);
@@ -95,7 +96,7 @@ setting =
     }
 
 pub closings : Closing
-unfolding stored decimal leap thirty daysIn realDate realTime realStamp every below zonesGood noTime unused periodGood everyPeriod archiveGood periodsOf closedWith serial account twos newMeter used closedTwice oldestFirst
+unfolding stored decimal leap thirty daysIn realDate realTime realStamp every below zonesGood noTime unused periodGood everyPeriod archiveGood periodsOf closedWith serial account twos newMeter used closedTwice oldestFirst tablesOf newRows
 closings =
     record {
       «archive_good» = (flag refl, flag refl);
@@ -104,9 +105,10 @@ closings =
     }
 
 pub tariff : Tariff
-unfolding stored decimal leap thirty daysIn nextMonth nextDay nextSecond monthStarts monthClosed periodsOf closedWith daysBefore dayNumber weekday tableFor zoneIn counted serial account twos newMeter used heldIn
+unfolding stored decimal leap thirty daysIn nextMonth nextDay nextSecond monthStarts monthClosed periodsOf closedWith daysBefore dayNumber weekday tableFor zoneIn counted serial account twos newMeter used heldIn tablesOf newRows ownDay
 tariff =
     record {
+      table-for-kilns = (number refl, number refl);
       «table_for» = (number refl, number refl);
       «zone_in» = (number refl, number refl);
       count = (seen (λ (c : Counters). counterOf c 2) refl, seen (λ (c : Counters). counterOf c 1) refl);

@@ -12,22 +12,23 @@ use Rattle.text.specs.Decimal.{decimal}
 use Rattle.text.specs.Layout.{layoutText}
 use Rattle.clock.specs.Dates.{leap, thirty, daysIn, realDate, realTime}
 use Rattle.clock.specs.Seconds.{realClock, realStamp}
+use Rattle.values.specs.Edition.{isEdition, tablesOf}
 use Rattle.values.specs.Registers.{goodDigits, isAccountCharacter, goodAccount, energyNo}
 use Rattle.values.specs.Texts.{serialText, tableText, dateText, timeText, stampText, counterText}
 use Rattle.frames.specs.Frames.{closed, sealed, frameOf, bareFrame, blockOf}
 use Rattle.frames.specs.Commands.{bracketed}
 use Rattle.state.specs.declared.Meter.{Meter}
 use Rattle.state.specs.declared.Made.{Made}
-use Rattle.state.specs.WellFormed.{limit, firstGood, heldGood, markGood, receiverGood, below, zonesGood, sumOf, total, tablesGood, noTime, unused, periodGood, everyPeriod, archiveGood, editionGood, linkGood, decimalsGood, factsGood, factoryGood, registersGood, wellFormed, speedGood, hurtGood}
+use Rattle.state.specs.WellFormed.{limit, firstGood, heldGood, markGood, receiverGood, below, zonesGood, sumOf, total, tablesGood, noTime, unused, periodGood, everyPeriod, archiveGood, linkGood, decimalsGood, factsGood, factoryGood, registersGood, wellFormed, speedGood, hurtGood}
 use Rattle.state.specs.Link.{isWired, restSpeed}
-use Rattle.state.specs.Making.{factsRefused, madeOf}
+use Rattle.state.specs.Making.{factsRefused, madeOf, newRows}
 use Rattle.state.specs.Closing.{periodsOf, closedWith}
 use Rattle.datasets.specs.Sets.{dataSet, linesOf}
 use Rattle.replies.specs.Shown.{energy, rowOf}
 use Rattle.replies.specs.Answers.{askedSets, askedData}
 use Rattle.replies.specs.Block.{factSets, energySets, tableSets, blockSets, blockData}
 use Rattle.replies.specs.Periods.{periodSets, archiveSets, longSets, longData}
-use Rattle.replies.specs.Fixed.{passwordAsk}
+use Rattle.replies.specs.Fixed.{identification, passwordAsk}
 use Rattle.state.specs.Setting.{inMode}
 use Rattle.mistakes.specs.Samples.{serial, account, password, twos, newMeter, used, closedTwice, oldestFirst, heldIn}
 use Rattle.mistakes.specs.Sending.{Frames, States, Sets, Replies}
@@ -39,7 +40,7 @@ frames = record { seal = (byte 4 refl, byte 5 refl); send = (byte 1 refl, byte 0
 
 -- the states, and that a new meter in programming mode is well-formed
 computed : States × (wellFormed (inMode newMeter 4) ≡ true)
-unfolding every between isDigit isLetter decimal leap thirty daysIn realDate realTime realClock goodDigits isAccountCharacter goodAccount limit firstGood heldGood markGood hurtGood receiverGood below zonesGood sumOf total tablesGood editionGood linkGood decimalsGood factsGood factoryGood registersGood wellFormed factsRefused madeOf serial account password newMeter heldIn stored speedGood isWired restSpeed realStamp noTime unused periodGood everyPeriod archiveGood
+unfolding every between isDigit isLetter decimal leap thirty daysIn realDate realTime realClock goodDigits isAccountCharacter goodAccount limit firstGood heldGood markGood hurtGood receiverGood below zonesGood sumOf total tablesGood isEdition tablesOf linkGood decimalsGood factsGood factoryGood registersGood wellFormed factsRefused madeOf serial account password newMeter heldIn stored speedGood isWired restSpeed realStamp noTime unused periodGood everyPeriod archiveGood newRows
 computed = (
   record {
     «limit_of» = (number refl, number refl);
@@ -47,6 +48,8 @@ computed = (
     is-well-formed-place = (flag refl, flag refl);
     is-well-formed-total = (flag refl, flag refl);
     is-well-formed-archive = (flag refl, flag refl);
+    «has_edition» = (flag refl, flag refl);
+    «not_made» = (seen (λ (r : Made). r .number) refl, seen (λ (r : Made). r .number) refl);
     blank = (seen (λ (m : Meter). m .attempts) refl, seen (λ (m : Meter). getD (m .registers .account) 0 0) refl);
     «not_made» = (seen (λ (r : Made). r .number) refl, seen (λ (r : Made). r .number) refl);
     make = (seen (λ (r : Made). r .number) refl, seen (λ (r : Made). getD (r .meter .registers .facts .serial) 0 0) refl);
@@ -75,10 +78,10 @@ sets =
     }
 
 pub replies : Replies
-unfolding ones seven sent bccOf holding closed frameOf bareFrame blockOf bracketed stored decimal layoutText serialText tableText dateText timeText stampText counterText dataSet linesOf periodsOf closedWith periodSets archiveSets longSets longData closedTwice oldestFirst energy energyNo rowOf askedSets askedData factSets energySets tableSets blockSets blockData passwordAsk serial account twos newMeter used
+unfolding ones seven sent bccOf holding closed frameOf bareFrame blockOf bracketed stored decimal layoutText serialText tableText dateText timeText stampText counterText dataSet linesOf periodsOf closedWith periodSets archiveSets longSets longData closedTwice oldestFirst energy energyNo rowOf askedSets askedData factSets energySets tableSets blockSets blockData identification passwordAsk serial account twos newMeter used tablesOf newRows
 replies =
     record {
-      identify = (byte 0 refl, byte 17 refl);
+      identify = (byte 0 refl, byte 11 refl);
       acknowledge = (byte 0 refl, byte 0 refl);
       refuse = (byte 0 refl, byte 0 refl);
       «ask_password» = (byte 2 refl, byte 3 refl);

@@ -6,6 +6,8 @@ use Prim.Native.Nat.{ℕ}
 use native.Mathlib.Omega.{arith}
 use lib.Count.{ones}
 use lib.Dec.{eqb}
+use Rattle.values.proofs.Editions.{is-one}
+use Rattle.values.specs.Edition.{isEdition, tablesOf}
 use Rattle.line.specs.Characters.{damagedAt, seven, sent, undamagedAll}
 use Rattle.line.specs.Checksum.{bccOf}
 use Rattle.line.specs.Runs.{every}
@@ -17,7 +19,7 @@ use Rattle.values.specs.Reading.{counterRead}
 use Rattle.frames.specs.Frames.{closed, frameOf, blockOf}
 use Rattle.frames.specs.Commands.{bracketed}
 use Rattle.frames.specs.Session.{enterData, confirmation, signOn, goodSpeed}
-use Rattle.replies.specs.Fixed.{passwordAsk}
+use Rattle.replies.specs.Fixed.{passwordAsk, identification}
 use Rattle.post.specs.Grammar.{postText}
 use Rattle.blocks.specs.Parts.{isCharacter, notEtx, between as within, isBlock, bccFits, partOf}
 use Rattle.commands.specs.Building.{goodChoice}
@@ -30,7 +32,7 @@ use Rattle.session.specs.declared.Step.{Step}
 use Rattle.session.specs.Messages.{calling, entering, readOf, readAt, workAt, readsGood, messageAt}
 use Rattle.session.specs.Standing.{toldGood, keptGood, workGood, placeGood, factGood, sessionTold, sessionGood}
 use Rattle.session.specs.Turns.{rightRead, rightWork, rightAt, answeredRight, answered, replied, silent}
-use Rattle.session.specs.Starting.{toldOf, startedOf, Opening, Opens, small, nothing, reads, posts, others, sessionOf, opened, openedReads, openedPost, Starts}
+use Rattle.session.specs.Starting.{toldOf, startedOf, Opening, Opens, unknown, small, nothing, reads, posts, others, sessionOf, opened, openedReads, openedPost, Starts}
 use Rattle.mistakes.specs.RuledOut.{RuledOut}
 use Rattle.mistakes.specs.Commands.{room}
 use Rattle.mistakes.specs.Posts.{one}
@@ -39,7 +41,7 @@ use Rattle.mistakes.proofs.Differing.{seen, flag, long}
 use Rattle.mistakes.proofs.Posts.{post-of, good-one}
 
 pub judging : Judging
-unfolding ones damagedAt seven sent undamagedAll bccOf every between isDigit isLetter matching sameText decimal valueFrom valueOf numberAt layoutText pattern fits agrees isAccountCharacter goodAccount counterRead closed frameOf blockOf enterData passwordAsk isCharacter notEtx within isBlock bccFits partOf isLine valueIn identifies asksPassword accepts refuses tellsAccount tellsEnergy tells dataIn answersIn answers energyBlock
+unfolding ones damagedAt seven sent undamagedAll bccOf every between isDigit isLetter matching sameText decimal valueFrom valueOf numberAt layoutText pattern fits agrees isAccountCharacter goodAccount counterRead closed frameOf blockOf enterData identification passwordAsk isCharacter notEtx within isBlock bccFits partOf isLine valueIn identifies asksPassword accepts refuses tellsAccount tellsEnergy tells dataIn answersIn answers energyBlock
 judging =
     record {
       «is_identification» = (flag refl, flag refl);
@@ -54,7 +56,7 @@ by-fact : {right wrong : Step} → eqb (wrong .fact) (right .fact) ≡ false →
 by-fact = seen (λ (r : Step). r .fact)
 
 pub sessions : Sessions
-unfolding ones damagedAt seven sent undamagedAll bccOf every between isDigit matching sameText decimal valueFrom valueOf numberAt layoutText pattern fits agrees counterRead closed frameOf blockOf bracketed enterData confirmation signOn goodSpeed passwordAsk isCharacter notEtx within isBlock bccFits partOf goodChoice goodFields textOf goodMessage isLine valueIn identifies asksPassword accepts refuses tellsEnergy tells dataIn answersIn answers calling entering readOf readAt workAt messageAt toldGood keptGood workGood placeGood factGood sessionTold sessionGood rightRead rightWork rightAt answeredRight answered replied silent lettersOf dataOf spoken energyBlock
+unfolding ones damagedAt seven sent undamagedAll bccOf every between isDigit matching sameText decimal valueFrom valueOf numberAt layoutText pattern fits agrees counterRead closed frameOf blockOf bracketed enterData confirmation signOn goodSpeed isEdition tablesOf identification passwordAsk isCharacter notEtx within isBlock bccFits partOf goodChoice goodFields textOf goodMessage isLine valueIn identifies asksPassword accepts refuses tellsEnergy tells dataIn answersIn answers calling entering readOf readAt workAt messageAt toldGood keptGood workGood placeGood factGood sessionTold sessionGood rightRead rightWork rightAt answeredRight answered replied silent lettersOf dataOf spoken energyBlock
 sessions =
     record {
       hear = (by-fact refl, by-fact refl);
@@ -64,24 +66,26 @@ sessions =
 
 -- a start with reads, in room enough
 module _ (work : List ℕ) (r : Started) (after : List ℕ) where
-  opened-reads : Starts (toldOf 0 [] 0 [] 0) work room r after → r ≡ startedOf (openedReads (toldOf 0 [] 0 [] 0) work)
+  opened-reads : Starts (toldOf 1 0 [] 0 [] 0) work room r after → r ≡ startedOf (openedReads (toldOf 1 0 [] 0 [] 0) work)
   opened-reads s = s .answer ∙ ap startedOf (reads-of (s .opening) (s .opens))
     where
-      reads-of : (o : Opening) → Opens (toldOf 0 [] 0 [] 0) work 64 o → o ≡ openedReads (toldOf 0 [] 0 [] 0) work
-      reads-of o (small h e) = absurd (omega (arith, h))
-      reads-of o (nothing h no-reads no-post e) = absurd (no-reads refl)
-      reads-of o (reads h k e) = e
-      reads-of o (posts h k p) = absurd (omega (arith, k))
-      reads-of o (others h k p) = absurd (omega (arith, k))
+      reads-of : (o : Opening) → Opens (toldOf 1 0 [] 0 [] 0) work 64 o → o ≡ openedReads (toldOf 1 0 [] 0 [] 0) work
+      reads-of o (unknown x e) = absurd (is-one 1 true (unfold isEdition between in refl) refl x)
+      reads-of o (small x h e) = absurd (omega (arith, h))
+      reads-of o (nothing x h no-reads no-post e) = absurd (no-reads refl)
+      reads-of o (reads x h k e) = e
+      reads-of o (posts x h k p) = absurd (omega (arith, k))
+      reads-of o (others x h k p) = absurd (omega (arith, k))
 
 -- a post with `()` and no serial
-posted : (o : Opening) → Opens (toldOf 1 [] 0 [] 1) (postText one) 64 o → o .number ≡ 30
-unfolding openedPost
-posted o (small h e) = absurd (omega (arith, h))
-posted o (nothing h no-reads no-post e) = absurd (no-post refl)
-posted o (reads h k e) = absurd (omega (arith, k))
-posted o (posts h k p) = ap (λ (x : Opening). x .number) (p .opens)
-posted o (others h k p) = absurd (p .no-post (post-of 24 one good-one))
+posted : (o : Opening) → Opens (toldOf 1 1 [] 0 [] 1) (postText one) 64 o → o .number ≡ 30
+unfolding openedPost tablesOf
+posted o (unknown x e) = absurd (is-one 1 true (unfold isEdition between in refl) refl x)
+posted o (small x h e) = absurd (omega (arith, h))
+posted o (nothing x h no-reads no-post e) = absurd (no-post refl)
+posted o (reads x h k e) = absurd (omega (arith, k))
+posted o (posts x h k p) = ap (λ (y : Opening). y .number) (p .opens)
+posted o (others x h k p) = absurd (p .no-post (post-of 24 one good-one))
 
 by-number : {right wrong : Started} → eqb (wrong .number) (right .number) ≡ false → RuledOut right wrong
 by-number = seen (λ (r : Started). r .number)
@@ -90,7 +94,7 @@ by-sent : {right wrong : Started} → eqb (wrong .session .sent) (right .session
 by-sent = seen (λ (r : Started). r .session .sent)
 
 pub starting : Starting
-unfolding every between isDigit goodDigits goodTable goodZone goodFields readOf readsGood toldGood sessionOf opened openedReads
+unfolding every between isDigit goodDigits tablesOf goodTable goodZone goodFields readOf readsGood toldGood sessionOf opened openedReads
 starting =
     record {
       start = (

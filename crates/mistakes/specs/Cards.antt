@@ -43,5 +43,5 @@ pub record Cards : Type 0 where
 -- of `cardwriting`
 pub record CardsWritten : Type 0 where
   -- 14 for a good state without room; 41 before 14
-  pub write : RuledOut (writtenIn 24 ready []) (record { number = 14; length = 0 })
-      × RuledOut (writtenIn 24 (withAttempts ready 4) []) (record { number = 41; length = 0 })
+  pub write : RuledOut (writtenIn ready []) (record { number = 14; length = 0 })
+      × RuledOut (writtenIn (withAttempts ready 4) []) (record { number = 41; length = 0 })

@@ -93,8 +93,8 @@ pub record Receiving : Type 0 where
   pub receive-password : RuledOut (answerOf shortTried) (answerOf (nak 9 (withAttempts shortPassword 1)))
       × RuledOut (answerOf shortTried) (answerOf (saying 9 5 refused (inMode newMeter 2)))
   -- the identification at the speed of a data block; mode 0 after it
-  pub receive-sign-on : RuledOut (answerOf signedOn) (answerOf (saying 1 5 identification (inMode newMeter 1)))
-      × RuledOut (answerOf signedOn) (answerOf (saying 1 0 identification newMeter))
+  pub receive-sign-on : RuledOut (answerOf signedOn) (answerOf (saying 1 5 (identification 1) (inMode newMeter 1)))
+      × RuledOut (answerOf signedOn) (answerOf (saying 1 0 (identification 1) newMeter))
   -- the mark kept at a restart; a SOH taken for one more character
   pub receive-restart : RuledOut (answerOf restarted)
       (answerOf (silent 0 (withReceiver (inMode newMeter 2) (withMark (restartedReceiver 1) 1 0))))

@@ -9,7 +9,7 @@ use Rattle.text.specs.Writing.{stored}
 use Rattle.clock.specs.Seconds.{dateOf}
 use Rattle.frames.specs.Frames.{frameOf}
 use Rattle.frames.specs.Commands.{P1, W1, bracketed, setTable}
-use Rattle.state.specs.Sizes.{rowLength, tables, periodPlaces}
+use Rattle.state.specs.Sizes.{rowLength, periodPlaces}
 use Rattle.state.specs.Making.{emptyReceiver, noCounters, noPeriod}
 use Rattle.state.specs.WellFormed.{archiveGood}
 use Rattle.state.specs.Closing.{closing}
@@ -44,8 +44,8 @@ pub record Hearings : Type 0 where
 -- of `deciding`
 pub record Decisions : Type 0 where
   -- three digits as a password, which would count an attempt; a write in the mode that only reads
-  pub decide : RuledOut (verdict 2 (take 10 (frameOf P1 (bracketed (chars "123")))) false (getD (frameOf P1 (bracketed (chars "123"))) 10 0)) Password
-      × RuledOut (verdict 3 (take 35 (frameOf W1 (setTable 7 twos))) false (getD (frameOf W1 (setTable 7 twos)) 35 0)) (WriteTable (record { 0 = 7 }))
+  pub decide : RuledOut (verdict 24 2 (take 10 (frameOf P1 (bracketed (chars "123")))) false (getD (frameOf P1 (bracketed (chars "123"))) 10 0)) Password
+      × RuledOut (verdict 24 3 (take 35 (frameOf W1 (setTable 7 twos))) false (getD (frameOf W1 (setTable 7 twos)) 35 0)) (WriteTable (record { 0 = 7 }))
 
 -- of `state::setting`
 pub record Setting : Type 0 where
@@ -93,8 +93,10 @@ pub record Closing : Type 0 where
 
 -- of `tariff`
 pub record Tariff : Type 0 where
+  -- edition 2: December's Saturday by table 24; a Sunday by table 25
+  pub table-for-kilns : RuledOut (tableFor 2 (dateOf 2000 12 2)) 24 × RuledOut (tableFor 2 (dateOf 2000 1 2)) 25
   -- a working day's table on a Saturday; a Saturday's on a Monday
-  pub «table_for» : RuledOut (tableFor (dateOf 2000 1 1)) 1 × RuledOut (tableFor (dateOf 2000 1 3)) 13
+  pub «table_for» : RuledOut (tableFor 1 (dateOf 2000 1 1)) 1 × RuledOut (tableFor 1 (dateOf 2000 1 3)) 13
   -- the zone of the hour before; the character for its number
   pub «zone_in» : RuledOut (zoneIn (withTables used (stored (newMeter .registers .tables) 300 (chars "2")))) 1
       × RuledOut (zoneIn (withTables used (stored (newMeter .registers .tables) 300 (chars "2")))) 50

@@ -1,5 +1,5 @@
 -- Two wrong answers for each call of `frames`, `state`, `datasets` and `replies`.
-use mathlib.Core.Bool.{true}
+use mathlib.Core.Bool.{true, false}
 use mathlib.Core.List.{[], _∷_, _++_}
 use Prim.Native.Nat.{_*_}
 use lib.ListN.{take, drop, replicate}
@@ -8,12 +8,13 @@ use Rattle.line.specs.Quoted.{chars}
 use Rattle.text.specs.Writing.{stored, holding}
 use Rattle.clock.specs.Seconds.{dateOf, timeOf}
 use Rattle.values.specs.declared.Energy.the-variants.{Total}
+use Rattle.values.specs.Edition.{isEdition}
 use Rattle.values.specs.Registers.{energyNo, zoneEnergy}
 use Rattle.values.specs.Texts.{serialText, timeText, dateText}
 use Rattle.frames.specs.Frames.{sealed, frameOf, bareFrame, blockOf, onWire}
 use Rattle.frames.specs.Commands.{P0, P1, bracketed}
-use Rattle.state.specs.Sizes.{rowLength, tables, replyRoom, periodPlaces}
-use Rattle.state.specs.WellFormed.{limit, wellFormed}
+use Rattle.state.specs.Sizes.{rowLength, replyRoom, periodPlaces, tablePlaces}
+use Rattle.state.specs.WellFormed.{editionOf, limit, wellFormed}
 use Rattle.state.specs.Making.{emptyReceiver, noCounters, noPeriod, factsOf, meterOf, blankMeter, notMade, madeOf}
 use Rattle.datasets.specs.Sets.{dataSet, linesOf, lineOf, timeSet, dateSet, serialSet, accountSet, energySet, tableSet, closedSet, keptSet}
 use Rattle.replies.specs.declared.Ask.the-variants.{Energy, Table}
@@ -39,7 +40,7 @@ pub record States : Type 0 where
   -- a 32nd character in mode 0; the sixth of a confirmation
   pub «limit_of» : RuledOut (limit 0) 32 × RuledOut (limit 1) 6
   -- the tables not looked at; a mark on an empty receiver
-  pub «is_well_formed» : RuledOut (wellFormed (withRegisters newMeter (withTables (newMeter .registers) (replicate (tables * rowLength) 53)))) true
+  pub «is_well_formed» : RuledOut (wellFormed (withRegisters newMeter (withTables (newMeter .registers) (replicate (tablePlaces * rowLength) 53)))) true
       × RuledOut (wellFormed (withReceiver newMeter (withMark emptyReceiver 1 0))) true
   -- with a mark a place that nothing is held at; a place without a mark
   pub is-well-formed-place : RuledOut (wellFormed (withReceiver (heldIn 2 (SOH ∷ chars "B")) (withMark (heldIn 2 (SOH ∷ chars "B") .receiver) 1 2))) true
@@ -50,6 +51,10 @@ pub record States : Type 0 where
   -- [12]: a period without a time; a thirteenth
   pub is-well-formed-archive : RuledOut (wellFormed (withRegisters newMeter (withArchive (newMeter .registers) (record { periods = replicate periodPlaces noPeriod; count = 1 })))) true
       × RuledOut (wellFormed (withRegisters newMeter (withArchive (newMeter .registers) (record { periods = replicate periodPlaces noPeriod; count = 13 })))) true
+  -- [3]: an edition 3; a new meter without one
+  pub «has_edition» : RuledOut (isEdition (editionOf (meterOf (factsOf serial password 3 1 0) account noon))) true × RuledOut (isEdition (editionOf newMeter)) false
+  -- 15 for edition 3; 15 for decimals 1
+  pub «not_made» : RuledOut (notMade 3 0) (record { number = 15; meter = blankMeter }) × RuledOut (notMade 1 1) (record { number = 15; meter = blankMeter })
   -- one failed attempt at the start; an account of zeros
   pub blank : RuledOut blankMeter (withAttempts blankMeter 1)
       × RuledOut blankMeter (withRegisters blankMeter (withAccount (blankMeter .registers) (replicate 10 48)))
@@ -88,9 +93,9 @@ pub record Sets : Type 0 where
 
 -- of `replies`
 pub record Replies : Type 0 where
-  -- no parity; no CR LF
-  pub identify : RuledOut (holding (replicate 19 0) (onWire identification)) identification
-      × RuledOut (holding (replicate 19 0) (onWire identification)) (holding (replicate 19 0) (onWire (take 17 identification)))
+  -- no parity; edition 1's for edition 2
+  pub identify : RuledOut (holding (replicate 19 0) (onWire (identification 1))) (identification 1)
+      × RuledOut (holding (replicate 19 0) (onWire (identification 2))) (holding (replicate 19 0) (onWire (identification 1)))
   -- NAK; odd parity
   pub acknowledge : RuledOut (holding (0 ∷ []) (onWire accepted)) (onWire refused) × RuledOut (holding (0 ∷ []) (onWire accepted)) (0x86 ∷ [])
   -- ACK; no parity
@@ -103,8 +108,8 @@ pub record Replies : Type 0 where
       × RuledOut (holding (replicate replyRoom 0) (onWire (blockOf (askedData used (Table (record { 0 = 7 }))))))
       (holding (replicate replyRoom 0) (onWire (blockOf (lineOf (tableSet 7 twos)))))
   -- one table too few; no last line
-  pub «data_block» : RuledOut (holding (replicate replyRoom 0) (onWire (blockOf (blockData tables used)))) (holding (replicate replyRoom 0) (onWire (blockOf (blockData 23 used))))
-      × RuledOut (holding (replicate replyRoom 0) (onWire (blockOf (blockData tables used)))) (holding (replicate replyRoom 0) (onWire (blockOf (linesOf (blockSets tables used)))))
+  pub «data_block» : RuledOut (holding (replicate replyRoom 0) (onWire (blockOf (blockData 24 used)))) (holding (replicate replyRoom 0) (onWire (blockOf (blockData 23 used))))
+      × RuledOut (holding (replicate replyRoom 0) (onWire (blockOf (blockData 24 used)))) (holding (replicate replyRoom 0) (onWire (blockOf (linesOf (blockSets 24 used)))))
   -- no periods; the oldest first
-  pub «long_block» : RuledOut (holding (replicate replyRoom 0) (onWire (blockOf (longData tables closedTwice)))) (holding (replicate replyRoom 0) (onWire (blockOf (blockData tables closedTwice))))
-      × RuledOut (holding (replicate replyRoom 0) (onWire (blockOf (longData tables closedTwice)))) (holding (replicate replyRoom 0) (onWire (blockOf (longData tables oldestFirst))))
+  pub «long_block» : RuledOut (holding (replicate replyRoom 0) (onWire (blockOf (longData 24 closedTwice)))) (holding (replicate replyRoom 0) (onWire (blockOf (blockData 24 closedTwice))))
+      × RuledOut (holding (replicate replyRoom 0) (onWire (blockOf (longData 24 closedTwice)))) (holding (replicate replyRoom 0) (onWire (blockOf (longData 24 oldestFirst))))

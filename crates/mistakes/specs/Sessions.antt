@@ -4,7 +4,6 @@ use mathlib.Core.List.{List, [], _∷_, _++_}
 use Prim.Native.Nat.{ℕ}
 use lib.ListN.{replicate}
 use Rattle.line.specs.Quoted.{char, chars}
-use Rattle.values.specs.Edition.{editionTables}
 use Rattle.frames.specs.Frames.{frameOf, blockOf, onWire}
 use Rattle.frames.specs.Commands.{P0}
 use Rattle.frames.specs.Session.{enterData}
@@ -27,7 +26,7 @@ totalRead = char "E" ∷ 0 ∷ []
 
 abbrev pub waiting : ℕ → ℕ → Session
 waiting sent fact =
-    record { serial = replicate 10 0; password = replicate 8 0; named = 0; access = 0; work = 0; count = 1; sent = sent; fact = fact }
+    record { serial = replicate 10 0; password = replicate 8 0; named = 0; access = 0; work = 0; count = 1; sent = sent; fact = fact; edition = 1 }
 
 -- the line of a zone's energy, and a block as it comes
 unfoldable pub energyBlock : List ℕ → List ℕ
@@ -35,8 +34,8 @@ energyBlock zone = onWire (blockOf (chars "15.8." ++ (zone ++ chars "(000123.456
 
 -- of `judging`
 pub record Judging : Type 0 where
-  -- without its parity; edition 2's
-  pub «is_identification» : RuledOut (identifies identification) true × RuledOut (identifies (onWire (chars "/ZZZ5SUB-VP02.00*\r\n"))) true
+  -- without its parity; edition 2's taken for edition 1
+  pub «is_identification» : RuledOut (identifies 1 (identification 1)) true × RuledOut (identifies 1 (onWire (identification 2))) true
   -- P0 with `()`; the ask itself refused
   pub «is_password_ask» : RuledOut (asksPassword (onWire (frameOf P0 enterData))) true × RuledOut (asksPassword (onWire passwordAsk)) false
   -- a damaged ACK; two of them
@@ -53,18 +52,18 @@ pub record Sessions : Type 0 where
   pub hear : RuledOut (stepOf (replied (waiting 3 0) totalRead (onWire refused) 64)) (stepOf (goesOn (waiting 3 0) totalRead))
       × RuledOut (stepOf (replied (waiting 4 0) totalRead (energyBlock (chars "0")) 64)) (stepOf (ends (waiting 4 0) 1))
   -- the password before the meter asks for it; an ended session that goes on
-  pub hear-order : RuledOut (replied (waiting 1 0) totalRead (onWire identification) 64 .text) (textOf (entering (waiting 1 0)))
-      × RuledOut (stepOf (replied (waiting 1 4) totalRead (onWire identification) 64)) (stepOf (goesOn (waiting 1 4) totalRead))
+  pub hear-order : RuledOut (replied (waiting 1 0) totalRead (onWire (identification 1)) 64 .text) (textOf (entering (waiting 1 0)))
+      × RuledOut (stepOf (replied (waiting 1 4) totalRead (onWire (identification 1)) 64)) (stepOf (goesOn (waiting 1 4) totalRead))
   -- silence as done; silence after a NAK in its place
   pub «hear_nothing» : RuledOut (stepOf (silent (waiting 5 0))) (stepOf (ends (waiting 5 0) 1)) × RuledOut (stepOf (silent (waiting 3 2))) (stepOf (ends (waiting 3 2) 4))
 
 -- of `session::starting`
 pub record Starting : Type 0 where
   -- 9 for no reads at all; 9 before 30
-  pub start : ((place size : ℕ) (s : Session) (after : List ℕ) → Starts (toldOf 0 [] 0 [] 0) [] room (record { number = 9; place = place; length = size; session = s }) after → ⊥)
-      × ((place size : ℕ) (s : Session) (after : List ℕ) → Starts (toldOf 1 [] 0 [] 1) (postText one) room (record { number = 9; place = place; length = size; session = s }) after → ⊥)
+  pub start : ((place size : ℕ) (s : Session) (after : List ℕ) → Starts (toldOf 1 0 [] 0 [] 0) [] room (record { number = 9; place = place; length = size; session = s }) after → ⊥)
+      × ((place size : ℕ) (s : Session) (after : List ℕ) → Starts (toldOf 1 1 [] 0 [] 1) (postText one) room (record { number = 9; place = place; length = size; session = s }) after → ⊥)
   -- the sign-on counted as no message; a refused start that leaves a session
-  pub start-record : ((place size : ℕ) (after : List ℕ) → Starts (toldOf 0 [] 0 [] 0) totalRead room (record { number = 1; place = place; length = size; session = waiting 0 0 }) after → ⊥)
-      × ((place size : ℕ) (after : List ℕ) → Starts (toldOf 0 [] 0 [] 0) [] room (record { number = 28; place = place; length = size; session = waiting 1 0 }) after → ⊥)
+  pub start-record : ((place size : ℕ) (after : List ℕ) → Starts (toldOf 1 0 [] 0 [] 0) totalRead room (record { number = 1; place = place; length = size; session = waiting 0 0 }) after → ⊥)
+      × ((place size : ℕ) (after : List ℕ) → Starts (toldOf 1 0 [] 0 [] 0) [] room (record { number = 28; place = place; length = size; session = waiting 1 0 }) after → ⊥)
   -- energy 5; table 0
-  pub «read_good» : RuledOut (goodFields editionTables (readOf (char "E") 5)) true × RuledOut (goodFields editionTables (readOf (char "Z") 0)) true
+  pub «read_good» : RuledOut (goodFields 24 (readOf (char "E") 5)) true × RuledOut (goodFields 24 (readOf (char "Z") 0)) true

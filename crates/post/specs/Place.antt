@@ -3,7 +3,9 @@ use mathlib.Core.Path.{_≡_}
 use mathlib.Core.Logic.{_⊎_}
 use mathlib.Core.List.{List}
 use Prim.Native.Nat.{ℕ}
+use mathlib.Core.Bool.{true, false}
 use Rattle.text.specs.Beginnings.{Longest}
+use Rattle.values.specs.Edition.{isEdition, tablesOf}
 use Rattle.post.specs.Grammar.{IsPost}
 
 -- number 1: a post; there is no place
@@ -20,3 +22,8 @@ pub record Refused (tables : ℕ) (text : List ℕ) (number place : ℕ) : Type 
 
 unfoldable pub CheckedAs : ℕ → List ℕ → ℕ → ℕ → Type 0
 CheckedAs tables text number place = Accepted tables text number place ⊎ Refused tables text number place
+
+-- [3]: an edition that there is not gives 16 before all else; a post for an edition is one of as many tables
+pub record CheckedFor (edition : ℕ) (text : List ℕ) (number place : ℕ) : Type 0 where
+  pub none : isEdition edition ≡ false → (number ≡ 16) × (place ≡ 0)
+  pub some : isEdition edition ≡ true → CheckedAs (tablesOf edition) text number place

@@ -6,7 +6,7 @@ ghost use Prim.Native.Nat.{ℕ, _+_, _*_, _<_, _≤_};
 ghost use lib.ListN.{length, getD, drop};
 ghost use Rattle.text.specs.Beginnings.{Longest};
 ghost use Rattle.post.specs.Grammar.{lastLine, IsPost};
-ghost use Rattle.post.specs.Place.{CheckedAs};
+ghost use Rattle.post.specs.Place.{CheckedAs, CheckedFor};
 ghost use Rattle.post.specs.Columns.{lowest, highest, columnFits, nextNumber, straying, smaller, StraysFirst, FirstStray, LinePlace, LastPlace, beginsLast, isLast, TookLine, LineRises};
 ghost use Rattle.post.specs.Rest.{Rest, Scanned};
 
@@ -15,7 +15,7 @@ const LOWEST: [u8; 36] = *b"131.0.00(111111111111111111111111)\r\n";
 
 const HIGHEST: [u8; 36] = *b"131.0.99(444444444444444444444444)\r\n";
 
-// The check's answer: 1, or 20 with the place.
+// The check's answer: 1, or 20 with the place, or 16.
 pub struct Checked {
     pub number: u8,
     pub place: usize,
@@ -388,9 +388,15 @@ pub fn check_of(text: &[u8], tables: u8) -> Checked
     }
 }
 
-// The check: whether a text is a post, and if not, where it leaves every post.
-pub fn check(text: &[u8]) -> Checked
-    ensures { λ r. ⌜ CheckedAs 24 (now (text .entry)) (r .number) (r .place) ⌝ }
+// The check: whether a text is a post for an edition, and if not, where it leaves every post.
+pub fn check(edition: u8, text: &[u8]) -> Checked
+    ensures { λ r. ⌜ CheckedFor edition (now (text .entry)) (r .number) (r .place) ⌝ }
 {
-    check_of(text, values::TABLES)
+    if values::is_edition(edition) {
+        return check_of(text, values::tables_of(edition));
+    }
+    Checked {
+        number: 16,
+        place: 0,
+    }
 }

@@ -11,12 +11,12 @@ use lib.ListN.{length, set}
 use lib.Seq.{set-out}
 use Rattle.line.specs.Runs.{every}
 use Rattle.line.proofs.Runs.{and-left}
-use Rattle.state.specs.Sizes.{tables, counterEnd}
+use Rattle.state.specs.Sizes.{counterEnd}
 use Rattle.state.specs.declared.Counters.{Counters}
 use Rattle.state.specs.declared.Registers.{Registers}
 use Rattle.state.specs.declared.Meter.{Meter}
 use Rattle.state.specs.Link.{linkOf}
-use Rattle.state.specs.WellFormed.{speedGood, sumOf, total, below, zonesGood, receiverGood, tablesGood, archiveGood, factoryGood, registersGood, wellFormed}
+use Rattle.state.specs.WellFormed.{speedGood, sumOf, total, below, zonesGood, receiverGood, tablesIn, tablesGood, archiveGood, factoryGood, registersGood, wellFormed}
 use Rattle.state.specs.Setting.{zonePlace, counterOf, withRegisters, withCounters, withTotal}
 use Rattle.state.proofs.Parts.{formed, formed-registers, total-is-sum}
 use Rattle.tariff.specs.Zones.{grown, counted}
@@ -44,7 +44,7 @@ exactly m =
     let g = m .registers in
     let c = g .counters in
     aside (((leb (m .mode) 4 && leb (m .attempts) 3) && speedGood (linkOf m) (m .mode) (m .speed)) && receiverGood (m .mode) (m .receiver)) (factoryGood (g .facts) (g .account) (g .clock))
-    (zonesGood (c .zones)) (eqb (c .total) (total c)) (tablesGood tables (g .tables) && archiveGood (g .archive))
+    (zonesGood (c .zones)) (eqb (c .total) (total c)) (tablesGood (tablesIn g) (g .tables) && archiveGood (g .archive))
 
 pub refuses : Refuses
 refuses = record { exactly = exactly }

@@ -1,29 +1,42 @@
 -- Where a meter begins: the blank state and the one made of any facts are well-formed. Assumes nothing.
 use mathlib.Core.Path.{_≡_, refl}
-use mathlib.Core.Bool.{true}
-use mathlib.Core.List.{List}
-use Prim.Native.Nat.{ℕ}
+use mathlib.Core.Bool.{Bool, true, false, cond}
+use mathlib.Core.List.{List, _++_}
+use Prim.Native.Nat.{ℕ, _-_, _*_}
 use native.Mathlib.Omega.{arith}
+use lib.Dec.{eqb}
 use lib.ListN.{replicate}
 use Rattle.line.specs.Runs.{every}
 use Rattle.text.specs.Classes.{between, isDigit, isLetter}
 use Rattle.clock.specs.Dates.{leap, thirty, daysIn, realDate, realTime}
 use Rattle.clock.specs.Seconds.{realClock, dateOf, timeOf}
 use Rattle.clock.specs.declared.Clock.{Clock}
+use Rattle.values.specs.Edition.{isEdition, tablesOf}
 use Rattle.values.specs.Registers.{goodDigits, isAccountCharacter, goodAccount}
+use Rattle.state.specs.Sizes.{rowLength, tablePlaces}
 use Rattle.state.specs.declared.Facts.{Facts}
 use Rattle.state.specs.declared.Meter.{Meter}
 use Rattle.state.specs.declared.Made.{Made}
-use Rattle.state.specs.WellFormed.{below, zonesGood, sumOf, total, tablesGood, noTime, unused, everyPeriod, archiveGood, editionGood, linkGood, decimalsGood, factsGood, factoryGood, registersGood, wellFormed}
-use Rattle.state.specs.Making.{factsOf, meterOf, blankMeter, madeOf}
+use Rattle.state.specs.WellFormed.{below, zonesGood, sumOf, total, tablesGood, noTime, unused, everyPeriod, archiveGood, tablesIn, linkGood, decimalsGood, factsGood, factoryGood, registersGood, wellFormed}
+use Rattle.state.specs.Making.{factsOf, newRows, meterOf, blankMeter, madeOf}
 use Rattle.state.proofs.Parts.{well-formed, rest-good}
 use Rattle.promises.proofs.Choices as choice
 use Rattle.promises.proofs.Formed.{empty-good}
 
+-- every row of a new meter is of '1', and the places behind them are unused
+rows-of : (two : Bool) → tablesGood (cond two 25 24) (replicate (cond two 25 24 * rowLength) 49 ++ replicate ((tablePlaces - cond two 25 24) * rowLength) 0) ≡ true
+unfolding tablesGood every between
+rows-of true = refl
+rows-of false = refl
+
+new-rows-good : (edition : ℕ) → tablesGood (tablesOf edition) (newRows edition) ≡ true
+unfolding newRows tablesOf
+new-rows-good edition = rows-of (eqb edition 2)
+
 new-registers : (facts : Facts) (account : List ℕ) (clock : Clock) → factoryGood facts account clock ≡ true
     → registersGood (meterOf facts account clock .registers) ≡ true
-unfolding registersGood zonesGood below sumOf total tablesGood noTime unused everyPeriod archiveGood every between
-new-registers facts account clock h = rw h
+unfolding registersGood zonesGood below sumOf total noTime unused everyPeriod archiveGood every
+new-registers facts account clock h = rw (h, new-rows-good (facts .edition))
 
 pub new-well-formed : (facts : Facts) (account : List ℕ) (clock : Clock) → factoryGood facts account clock ≡ true
     → wellFormed (meterOf facts account clock) ≡ true
@@ -32,7 +45,7 @@ new-well-formed facts account clock h =
     (record { mode = omega arith; attempts = omega arith; speed = rest-good (facts .link) 0; receiver = empty-good 0; registers = new-registers facts account clock h })
 
 blank-facts : factoryGood (factsOf (replicate 10 48) (replicate 8 48) 1 1 0) (replicate 10 32) (record { date = dateOf 2000 1 1; time = timeOf 0 0 0 }) ≡ true
-unfolding factoryGood factsGood editionGood linkGood decimalsGood goodDigits goodAccount isAccountCharacter isDigit isLetter every between realClock realDate realTime daysIn leap thirty
+unfolding factoryGood factsGood isEdition linkGood decimalsGood goodDigits goodAccount isAccountCharacter isDigit isLetter every between realClock realDate realTime daysIn leap thirty
 blank-facts = refl
 
 pub blank-well-formed : wellFormed blankMeter ≡ true

@@ -14,15 +14,14 @@ use Rattle.line.specs.Characters.{damagedAt, seven}
 use Rattle.line.proofs.Runs.{and-left, and-right, and-both, every-set}
 use Rattle.line.proofs.Parity.{seven-lt}
 use Rattle.text.specs.Classes.{between, sameText}
-use Rattle.text.specs.Writing.{stored}
 use Rattle.text.proofs.Matching.{same-is}
-use Rattle.text.proofs.Writing.{length-stored, every-stored}
 use Rattle.clock.specs.Seconds.{realClock, nextSecond}
 use Rattle.clock.specs.declared.Clock.{Clock}
 use Rattle.clock.proofs.Real.{next-second-real}
 use Rattle.values.specs.declared.TableNo.{TableNo}
+use Rattle.values.specs.Edition.{isEdition}
 use Rattle.values.specs.Registers.{goodAccount, goodRow, goodTable}
-use Rattle.state.specs.Sizes.{replyRoom, tables, rowLength, counterEnd, heldPlaces}
+use Rattle.state.specs.Sizes.{replyRoom, counterEnd, heldPlaces}
 use Rattle.state.specs.declared.Receiver.{Receiver}
 use Rattle.state.specs.declared.Counters.{Counters}
 use Rattle.state.specs.declared.Archive.{Archive}
@@ -30,9 +29,10 @@ use Rattle.state.specs.declared.Registers.{Registers}
 use Rattle.frames.specs.Session.{speedSaid, confirmation}
 use Rattle.state.specs.declared.Meter.{Meter}
 use Rattle.state.specs.Link.{linkOf, isWired, restSpeed}
-use Rattle.state.specs.WellFormed.{limit, firstGood, markGood, heldGood, receiverGood, below, zonesGood, sumOf, total, countersGood, tablesGood, archiveGood, registersGood, wellFormed, marked, speedGood, hurtGood}
+use Rattle.state.specs.WellFormed.{limit, firstGood, markGood, heldGood, receiverGood, below, zonesGood, sumOf, total, countersGood, tablesIn, editionOf, archiveGood, registersGood, wellFormed, marked, speedGood, hurtGood}
 use Rattle.state.specs.Making.{emptyReceiver}
 use Rattle.state.specs.Closing.{periodOf, closing}
+use Rattle.state.proofs.Rows.{row-good}
 use Rattle.state.proofs.Parts.{Formed, formed, well-formed, FormedRegisters, formed-registers, registers-good, FormedReceiver, formed-receiver, receiver-good, total-is-sum, speed-kept, fast-good}
 use Rattle.state.proofs.Totals.{grows-alike}
 use Rattle.state.specs.Setting.{withReceiver, inMode, withAttempts, withRegisters, withClock, withAccount, withTables, withArchive, withCounters, withZones, withTotal, withRow, rowStart, zonePlace, counterOf, withSpeed}
@@ -218,15 +218,11 @@ account-good : (g : Registers) (a : List ℕ) → FormedRegisters g → goodAcco
 account-good g a f k =
     registers-good (withAccount g a) (record { facts = f .facts; account = k; clock = f .clock; counters = f .counters; tables = f .tables; archive = f .archive })
 
-tables-good : (g : Registers) (n : ℕ) (row : List ℕ) → FormedRegisters g → goodRow row ≡ true → registersGood (withTables g (withRow (g .tables) n row)) ≡ true
-tables-good g n row f k =
+tables-good : (g : Registers) (n : ℕ) (row : List ℕ) → FormedRegisters g → goodTable (tablesIn g) n ≡ true → goodRow row ≡ true
+    → registersGood (withTables g (withRow (g .tables) n row)) ≡ true
+tables-good g n row f there k =
     registers-good (withTables g (withRow (g .tables) n row))
-    (record { facts = f .facts; account = f .account; clock = f .clock; counters = f .counters; tables = rows-good (g .tables) (rowStart n) row (f .tables) k; archive = f .archive })
-  where
-    rows-good : (t : List ℕ) (i : ℕ) (r : List ℕ) → tablesGood tables t ≡ true → goodRow r ≡ true → tablesGood tables (stored t i r) ≡ true
-    rows-good t i r h j = unfold tablesGood goodRow in (
-        rw (length-stored t i r, and-left (eqb (length t) (tables * rowLength)) (every (between 49 52) t) h)
-        (every-stored (between 49 52) t i r (and-right (eqb (length t) (tables * rowLength)) (every (between 49 52) t) h) (and-right (eqb (length r) rowLength) (every (between 49 52) r) j)))
+    (record { facts = f .facts; account = f .account; clock = f .clock; counters = f .counters; tables = row-good (tablesIn g) (g .tables) n row (f .tables) there k; archive = f .archive })
 
 counters-good : (g : Registers) (c : Counters) → FormedRegisters g → countersGood c ≡ true → registersGood (withCounters g c) ≡ true
 counters-good g c f k =
@@ -292,10 +288,10 @@ module _ (m : Meter) (h : wellFormed m ≡ true) where
   wrote-stays : (g : Registers) → registersGood g ≡ true → g .facts .link ≡ linkOf m → wellFormed (withReceiver (withRegisters m g) emptyReceiver) ≡ true
   wrote-stays g k same = with-receiver (withRegisters m g) emptyReceiver (with-registers m g h k same) (empty-good (m .mode))
 
-  frame-stays : (mark : Bool) (sum : ℕ) → Stays (acted m (verdict (m .mode) (heldText (m .receiver)) mark sum))
+  frame-stays : (mark : Bool) (sum : ℕ) → Stays (acted m (verdict (tablesIn (m .registers)) (m .mode) (heldText (m .receiver)) mark sum))
   unfolding acted Stays
   frame-stays mark sum =
-      verdict-all (λ (v : Verdict). Stays (acted m v)) (m .mode) (heldText (m .receiver)) mark sum
+      verdict-all (λ (v : Verdict). Stays (acted m v)) (tablesIn (m .registers)) (m .mode) (heldText (m .receiver)) mark sum
       (record {
         refuse = λ n k. falls;
         leave = in-mode m 0 h (omega arith);
@@ -307,8 +303,8 @@ module _ (m : Meter) (h : wellFormed m ≡ true) where
               clock = λ c i r. wrote-stays _ (clock-good (m .registers) c (own m h) r) refl;
               account = λ r. wrote-stays _ (account-good (m .registers) (accountGiven m) (own m h) (account-is (m .receiver .count) (m .receiver .held) r)) refl;
               table = λ t i g r.
-                  choice.either Stays (goodTable tables (t .0))
-                  (wrote-stays _ (tables-good (m .registers) (t .0) (rowGiven m) (own m h) (row-is (m .receiver .count) (m .receiver .held) r)) refl)
+                  choice.either Stays (goodTable (tablesIn (m .registers)) (t .0))
+                  (wrote-stays _ (tables-good (m .registers) (t .0) (rowGiven m) (own m h) g (row-is (m .receiver .count) (m .receiver .held) r)) refl)
                   falls;
               wrong = falls;
             };
@@ -341,9 +337,11 @@ module _ (m : Meter) (h : wellFormed m ≡ true) where
   pub character-stays : (room b : ℕ) → wellFormed (character m room b .next) ≡ true
   unfolding character taken Stays
   character-stays room b =
-      choice.either Stays (ltb room replyRoom) h
+      choice.either Stays (isEdition (editionOf m))
+      (choice.either Stays (ltb room replyRoom) h
       (choice.either Stays (wellFormed m)
-      (heard-stays (symbol b) (damagedAt b) (hearing (m .mode) (m .receiver .count) (lastHeld (m .receiver)) (symbol b)) refl (symbol-small b)) h)
+      (heard-stays (symbol b) (damagedAt b) (hearing (m .mode) (m .receiver .count) (lastHeld (m .receiver)) (symbol b)) refl (symbol-small b)) h))
+      h
 
   -- ---- the other events
 
@@ -351,8 +349,10 @@ module _ (m : Meter) (h : wellFormed m ≡ true) where
   unfolding silence afterSilence Stays
   silence-stays room =
       let off = in-mode m 0 h (omega arith) in
-      choice.either Stays (ltb room replyRoom) h
-      (choice.either Stays (wellFormed m) (choice.either Stays (eqb (m .mode) 0) off (choice.either Stays (eqb (m .mode) 1) off off)) h)
+      choice.either Stays (isEdition (editionOf m))
+      (choice.either Stays (ltb room replyRoom) h
+      (choice.either Stays (wellFormed m) (choice.either Stays (eqb (m .mode) 0) off (choice.either Stays (eqb (m .mode) 1) off off)) h))
+      h
 
   second-good : registersGood (secondLater (m .registers)) ≡ true
   unfolding monthClosed
@@ -367,15 +367,20 @@ module _ (m : Meter) (h : wellFormed m ≡ true) where
 
   pub tick-stays : wellFormed (tick m .next) ≡ true
   unfolding tick Stays
-  tick-stays = choice.either Stays (wellFormed m) (with-registers m (secondLater (m .registers)) h second-good same-link) h
+  tick-stays =
+      choice.either Stays (isEdition (editionOf m)) (choice.either Stays (wellFormed m) (with-registers m (secondLater (m .registers)) h second-good same-link) h) h
 
   pub pulse-stays : (wh : ℕ) → wellFormed (pulse m wh .next) ≡ true
   unfolding pulse Stays
   pulse-stays wh =
-      choice.either Stays (ltb 1000000 wh) h
+      choice.either Stays (isEdition (editionOf m))
+      (choice.either Stays (ltb 1000000 wh) h
       (choice.either Stays (wellFormed m)
-      (with-registers m _ h (counters-good (m .registers) _ (own m h) (counted-good (m .registers .counters) (zoneIn (m .registers)) wh (own m h .counters))) refl) h)
+      (with-registers m _ h (counters-good (m .registers) _ (own m h) (counted-good (m .registers .counters) (zoneIn (m .registers)) wh (own m h .counters))) refl) h))
+      h
 
   pub power-up-stays : wellFormed (powerUp m .next) ≡ true
   unfolding powerUp Stays
-  power-up-stays = choice.either Stays (wellFormed m) (with-attempts (inMode m 0) 0 (in-mode m 0 h (omega arith)) (omega arith)) h
+  power-up-stays =
+      choice.either Stays (isEdition (editionOf m))
+      (choice.either Stays (wellFormed m) (with-attempts (inMode m 0) 0 (in-mode m 0 h (omega arith)) (omega arith)) h) h

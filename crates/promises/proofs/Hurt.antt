@@ -19,7 +19,7 @@ use Rattle.state.specs.Sizes.{replyRoom, heldPlaces}
 use Rattle.state.specs.declared.Receiver.{Receiver}
 use Rattle.state.specs.declared.Meter.{Meter}
 use Rattle.state.specs.WellFormed.{wellFormed, marked}
-use Rattle.state.proofs.Parts.{formed, held-long}
+use Rattle.state.proofs.Parts.{formed, held-long, edition-good}
 use Rattle.receiving.specs.declared.Hearing.{Hearing}
 use Rattle.receiving.specs.declared.Hearing.the-variants.{Drop, Hold, Restart, Empty, Line, Confirm, Frame, TooLong}
 use Rattle.receiving.specs.Hearing.{framing, hearing}
@@ -108,7 +108,7 @@ hearing-is mode count last c m n = rw (ne-eqb mode 0 (λ e. omega arith), ne-eqb
 
 taken-is : (k : Meter) (b : ℕ) → wellFormed k ≡ true → character k replyRoom b ≡ taken k b
 unfolding character
-taken-is k b f = rw f
+taken-is k b f = rw (edition-good k f, f)
 
 -- a whole frame is answered 3 only where it is marked
 three-marked : (mark : Bool) (n : ℕ) → FrameNumber mark n → n ≡ 3 → mark ≡ true

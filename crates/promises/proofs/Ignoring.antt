@@ -11,10 +11,11 @@ use lib.ListN.{getD}
 use Rattle.line.specs.Characters.{damagedAt}
 use Rattle.line.proofs.Runs.{and-left, and-right, and-both}
 use Rattle.state.specs.Sizes.{replyRoom}
+use Rattle.values.specs.Edition.{isEdition}
 use Rattle.state.specs.declared.Meter.{Meter}
 use Rattle.state.specs.Link.{linkOf}
-use Rattle.state.specs.WellFormed.{limit, firstGood, markGood, hurtGood, heldGood, receiverGood, speedGood, registersGood, wellFormed, marked}
-use Rattle.state.proofs.Parts.{formed, well-formed, formed-receiver, receiver-good}
+use Rattle.state.specs.WellFormed.{limit, firstGood, markGood, hurtGood, heldGood, receiverGood, speedGood, registersGood, wellFormed, marked, tablesIn, editionOf}
+use Rattle.state.proofs.Parts.{formed, well-formed, formed-receiver, receiver-good, edition-good}
 use Rattle.receiving.specs.declared.Hearing.{Hearing}
 use Rattle.receiving.specs.declared.Hearing.the-variants.{Drop, Hold, Restart, Empty, Line, Confirm, Frame, TooLong}
 use Rattle.receiving.specs.Hearing.{hearing}
@@ -114,7 +115,7 @@ module _ (m : Meter) (p : ℕ) where
   heard-same c d Empty = refl
   heard-same c d Line = refl
   heard-same c d Confirm = refl
-  heard-same c d Frame = ap unplacedOutcome (acted-same (verdict (m .mode) (heldText (m .receiver)) (marked (m .receiver) || d) c))
+  heard-same c d Frame = ap unplacedOutcome (acted-same (verdict (tablesIn (m .registers)) (m .mode) (heldText (m .receiver)) (marked (m .receiver) || d) c))
   heard-same c d TooLong = refl
 
   either-same : (b : Bool) (x y x′ y′ : Outcome) → unplacedOutcome x ≡ unplacedOutcome x′ → unplacedOutcome y ≡ unplacedOutcome y′
@@ -125,14 +126,14 @@ module _ (m : Meter) (p : ℕ) where
   met-same : wellFormed m ≡ true → wellFormed other ≡ true → (room : ℕ) (e : Event) → unplacedOutcome (met m room e) ≡ unplacedOutcome (met other room e)
   unfolding met character taken silence afterSilence tick pulse powerUp
   met-same h k room (Character b) =
-      rw (h, k) (either-same (ltb room replyRoom) _ _ _ _ refl
+      rw (edition-good m h, h, k) (either-same (ltb room replyRoom) _ _ _ _ refl
       (heard-same (symbol b) (damagedAt b) (hearing (m .mode) (m .receiver .count) (lastHeld (m .receiver)) (symbol b))))
   met-same h k room Silence =
-      rw (h, k) (either-same (ltb room replyRoom) _ _ _ _ refl refl)
-  met-same h k room Tick = rw (h, k)
-  met-same h k room (Pulse wh) = rw (h, k) (either-same (ltb 1000000 wh) _ _ _ _ refl refl)
-  met-same h k room PowerUp = rw (h, k)
-  met-same h k room Unknown = refl
+      rw (edition-good m h, h, k) (either-same (ltb room replyRoom) _ _ _ _ refl refl)
+  met-same h k room Tick = rw (edition-good m h, h, k)
+  met-same h k room (Pulse wh) = rw (edition-good m h, h, k) (either-same (ltb 1000000 wh) _ _ _ _ refl refl)
+  met-same h k room PowerUp = rw (edition-good m h, h, k)
+  met-same h k room Unknown = rw (edition-good m h)
 
 same : (m : Meter) → wellFormed m ≡ true → (room : ℕ) (e : Event) → unplacedOutcome (met m room e) ≡ ignoring (unplaced m) room e
 unfolding ignoring
@@ -164,7 +165,7 @@ module _ (m : Meter) where
       (either-nowhere (wantsPeriods (linkOf m) (heldText (m .receiver)) c) _ _ refl (either-nowhere (wantsProgram (linkOf m) (heldText (m .receiver)) c) _ _ refl refl)))
   heard-nowhere c d Frame n = go (marked (m .receiver)) d n
     where
-      go : (k d : Bool) → (acted m (verdict (m .mode) (heldText (m .receiver)) (k || d) c) .number ≡ 3 → ⊥)
+      go : (k d : Bool) → (acted m (verdict (tablesIn (m .registers)) (m .mode) (heldText (m .receiver)) (k || d) c) .number ≡ 3 → ⊥)
           → cond k (m .receiver .place) (cond d (m .receiver .count) 0) ≡ 0
       go true d n = absurd (n refl)
       go false true n = absurd (n refl)
@@ -182,12 +183,17 @@ module _ (m : Meter) where
   pub only-three : (room : ℕ) (e : Event) → (met m room e .number ≡ 3 → ⊥) → met m room e .place ≡ 0
   unfolding met character taken silence afterSilence tick pulse powerUp
   only-three room (Character b) n =
-      passes-nowhere (ltb room replyRoom) _ _ refl
-      (met-nowhere (wellFormed m) _ _ (heard-nowhere (symbol b) (damagedAt b) (hearing (m .mode) (m .receiver .count) (lastHeld (m .receiver)) (symbol b))) refl) n
+      met-nowhere (isEdition (editionOf m)) _ _
+      (passes-nowhere (ltb room replyRoom) _ _ refl
+      (met-nowhere (wellFormed m) _ _ (heard-nowhere (symbol b) (damagedAt b) (hearing (m .mode) (m .receiver .count) (lastHeld (m .receiver)) (symbol b))) refl))
+      refl n
   only-three room Silence n =
-      either-nowhere (ltb room replyRoom) _ _ refl
-      (either-nowhere (wellFormed m) _ _ (either-nowhere (eqb (m .mode) 0) _ _ refl (either-nowhere (eqb (m .mode) 1) _ _ refl refl)) refl)
-  only-three room Tick n = either-nowhere (wellFormed m) _ _ refl refl
-  only-three room (Pulse wh) n = either-nowhere (ltb 1000000 wh) _ _ refl (either-nowhere (wellFormed m) _ _ refl refl)
-  only-three room PowerUp n = either-nowhere (wellFormed m) _ _ refl refl
-  only-three room Unknown n = refl
+      either-nowhere (isEdition (editionOf m)) _ _
+      (either-nowhere (ltb room replyRoom) _ _ refl
+      (either-nowhere (wellFormed m) _ _ (either-nowhere (eqb (m .mode) 0) _ _ refl (either-nowhere (eqb (m .mode) 1) _ _ refl refl)) refl))
+      refl
+  only-three room Tick n = either-nowhere (isEdition (editionOf m)) _ _ (either-nowhere (wellFormed m) _ _ refl refl) refl
+  only-three room (Pulse wh) n =
+      either-nowhere (isEdition (editionOf m)) _ _ (either-nowhere (ltb 1000000 wh) _ _ refl (either-nowhere (wellFormed m) _ _ refl refl)) refl
+  only-three room PowerUp n = either-nowhere (isEdition (editionOf m)) _ _ (either-nowhere (wellFormed m) _ _ refl refl) refl
+  only-three room Unknown n = either-nowhere (isEdition (editionOf m)) _ _ refl refl

@@ -13,11 +13,12 @@ use Rattle.text.specs.Writing.{stored}
 use Rattle.text.proofs.Matching.{same-is}
 use Rattle.values.specs.declared.TableNo.{TableNo}
 use Rattle.values.specs.Registers.{goodTable}
-use Rattle.state.specs.Sizes.{replyRoom, tables}
+use Rattle.state.specs.Sizes.{replyRoom}
 use Rattle.state.specs.declared.Registers.{Registers}
+use Rattle.values.specs.Edition.{isEdition}
 use Rattle.state.specs.declared.Meter.{Meter}
 use Rattle.state.specs.Link.{linkOf, isWired}
-use Rattle.state.specs.WellFormed.{wellFormed, marked}
+use Rattle.state.specs.WellFormed.{wellFormed, marked, tablesIn, editionOf}
 use Rattle.state.specs.Setting.{withAccount, withTables, withRow}
 use Rattle.receiving.specs.declared.Hearing.{Hearing}
 use Rattle.receiving.specs.declared.Hearing.the-variants.{Drop, Hold, Restart, Empty, Line, Confirm, Frame, TooLong}
@@ -53,12 +54,12 @@ module _ (m : Meter) (b : ℕ) where
 
   -- the verdict on the frame that this byte completes
   abbrev decision : Verdict
-  decision = verdict (m .mode) (heldText (m .receiver)) (marked (m .receiver) || damagedAt b) (symbol b)
+  decision = verdict (tablesIn (m .registers)) (m .mode) (heldText (m .receiver)) (marked (m .receiver) || damagedAt b) (symbol b)
 
   frame-kept : hearing (m .mode) (m .receiver .count) (lastHeld (m .receiver)) (symbol b) ≡ Frame → Kept m b (acted m decision)
   unfolding acted
   frame-kept f =
-      verdict-all (λ (v : Verdict). decision ≡ v → Kept m b (acted m v)) (m .mode) (heldText (m .receiver)) (marked (m .receiver) || damagedAt b) (symbol b)
+      verdict-all (λ (v : Verdict). decision ≡ v → Kept m b (acted m v)) (tablesIn (m .registers)) (m .mode) (heldText (m .receiver)) (marked (m .receiver) || damagedAt b) (symbol b)
       (record {
         refuse = λ n k e. same refl;
         leave = λ e. same refl;
@@ -72,7 +73,7 @@ module _ (m : Meter) (b : ℕ) where
                   account (record { programming = k; completed = f; started = w; decided = e }) r refl
                   (ap (withAccount (m .registers)) (sym (account-told (m .receiver .count) (m .receiver .held) r)));
               table = λ t i g r e.
-                  choice.either (Kept m b) (goodTable tables (t .0))
+                  choice.either (Kept m b) (goodTable (tablesIn (m .registers)) (t .0))
                   (table t (record { programming = k; completed = f; started = w; decided = e }) i g r refl
                   (ap (λ (x : List ℕ). withTables (m .registers) (withRow (m .registers .tables) (t .0) x)) (sym (row-told (m .receiver .count) (m .receiver .held) r))))
                   (same refl);
@@ -121,8 +122,10 @@ module _ (m : Meter) (b : ℕ) where
   pub only-writes : (room : ℕ) → Kept m b (character m room b)
   unfolding character taken
   only-writes room =
-      choice.either (Kept m b) (ltb room replyRoom) (same refl)
-      (choice.either (Kept m b) (wellFormed m) (heard-kept (hearing (m .mode) (m .receiver .count) (lastHeld (m .receiver)) (symbol b)) refl) (same refl))
+      choice.either (Kept m b) (isEdition (editionOf m))
+      (choice.either (Kept m b) (ltb room replyRoom) (same refl)
+      (choice.either (Kept m b) (wellFormed m) (heard-kept (hearing (m .mode) (m .receiver .count) (lastHeld (m .receiver)) (symbol b)) refl) (same refl)))
+      (same refl)
 
   -- an answer other than 1 changes no register
   pub refused-keeps : (room : ℕ) → (character m room b .number ≡ 1 → ⊥) → character m room b .next .registers ≡ m .registers

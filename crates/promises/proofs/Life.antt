@@ -5,9 +5,10 @@ use mathlib.Core.List.{List, [], _∷_}
 use Prim.Native.Nat.{ℕ}
 use native.Mathlib.Omega.{arith}
 use Rattle.clock.specs.declared.Clock.{Clock}
+use Rattle.values.specs.Edition.{isEdition}
 use Rattle.state.specs.declared.Meter.{Meter}
 use Rattle.state.specs.declared.Made.{Made}
-use Rattle.state.specs.WellFormed.{wellFormed}
+use Rattle.state.specs.WellFormed.{wellFormed, editionOf}
 use Rattle.state.specs.declared.Facts.{Facts}
 use Rattle.state.specs.Making.{madeOf}
 use Rattle.meter.specs.Outcomes.{Outcome}
@@ -16,6 +17,7 @@ use Rattle.meter.specs.declared.Event.the-variants.{Character, Silence, Tick, P
 use Rattle.meter.specs.Life.{met, lived}
 use Rattle.promises.proofs.Malformed.{character-never-14, silence-never-14, tick-never-14, pulse-never-14, power-up-never-14}
 use Rattle.promises.proofs.Formed.{character-stays, silence-stays, tick-stays, pulse-stays, power-up-stays}
+use Rattle.promises.proofs.Choices as choice
 use Rattle.promises.proofs.Beginning.{made-well-formed}
 
 pub met-stays : (m : Meter) (room : ℕ) (e : Event) → wellFormed m ≡ true → wellFormed (met m room e .next) ≡ true
@@ -25,7 +27,7 @@ met-stays m room Silence h = silence-stays m h room
 met-stays m room Tick h = tick-stays m h
 met-stays m room (Pulse wh) h = pulse-stays m h wh
 met-stays m room PowerUp h = power-up-stays m h
-met-stays m room Unknown h = h
+met-stays m room Unknown h = choice.either (λ (o : Outcome). wellFormed (o .next) ≡ true) (isEdition (editionOf m)) h h
 
 met-never-14 : (m : Meter) (room : ℕ) (e : Event) → wellFormed m ≡ true → met m room e .number ≡ 14 → ⊥
 unfolding met
@@ -34,7 +36,7 @@ met-never-14 m room Silence h = silence-never-14 m room h
 met-never-14 m room Tick h = tick-never-14 m h
 met-never-14 m room (Pulse wh) h = pulse-never-14 m wh h
 met-never-14 m room PowerUp h = power-up-never-14 m h
-met-never-14 m room Unknown h = λ e. omega (arith, e)
+met-never-14 m room Unknown h = choice.either (λ (o : Outcome). o .number ≡ 14 → ⊥) (isEdition (editionOf m)) (λ e. omega (arith, e)) (λ e. omega (arith, e))
 
 pub lived-stays : (m : Meter) (es : List (ℕ × Event)) → wellFormed m ≡ true → wellFormed (lived m es) ≡ true
 unfolding lived

@@ -1,5 +1,5 @@
--- Which calls are not heard. A short buffer gives 12, a pulse over 1,000,000 Wh 13, then a malformed state 14: the state stays as it was, nothing is
--- replied, the speed given is 0. A well-formed state never gives 14. Assumes nothing.
+-- Which calls are not heard. An edition that there is not gives 16, then a short buffer 12, a pulse over 1,000,000 Wh 13, then a malformed state 14:
+-- the state stays as it was, nothing is replied, the speed given is 0. A well-formed state never gives 14. Assumes nothing.
 use mathlib.Core.Path.{_≡_, refl}
 use mathlib.Core.Bool.{Bool, true, false, cond, _||_}
 use mathlib.Core.List.{List}
@@ -9,10 +9,12 @@ use lib.Dec.{eqb, ltb}
 use Rattle.line.specs.Characters.{damagedAt}
 use Rattle.text.specs.Writing.{holding}
 use Rattle.frames.specs.Frames.{onWire}
+use Rattle.values.specs.Edition.{isEdition}
 use Rattle.state.specs.Sizes.{replyRoom}
 use Rattle.state.specs.declared.Meter.{Meter}
 use Rattle.state.specs.Link.{linkOf}
-use Rattle.state.specs.WellFormed.{wellFormed, marked}
+use Rattle.state.specs.WellFormed.{tablesIn, editionOf, wellFormed, marked}
+use Rattle.state.proofs.Parts.{edition-good}
 use Rattle.receiving.specs.declared.Hearing.{Hearing}
 use Rattle.receiving.specs.declared.Hearing.the-variants.{Drop, Hold, Restart, Empty, Line, Confirm, Frame, TooLong}
 use Rattle.receiving.specs.Hearing.{hearing}
@@ -22,6 +24,9 @@ use Rattle.meter.specs.Outcomes.{Outcome, unheard}
 use Rattle.meter.specs.SignOn.{signsOnBy, closesBy, wantsBlock, wantsPeriods, wantsProgram}
 use Rattle.meter.specs.Acting.{acted}
 use Rattle.meter.specs.Character.{symbol, lineEnded, confirmed, heard, taken, character}
+use Rattle.meter.specs.declared.Event.{Event}
+use Rattle.meter.specs.declared.Event.the-variants.{Character, Silence, Tick, Pulse, PowerUp, Unknown}
+use Rattle.meter.specs.Life.{met}
 use Rattle.meter.specs.Events.{afterSilence, silence, tick, pulse, powerUp}
 use Rattle.promises.proofs.Choices as choice
 use Rattle.promises.proofs.Verdicts.{FrameNumber, parity, checksum, shape, unknown, not-allowed, content-wrong}
@@ -32,19 +37,30 @@ pub unheard-buffer : (n : ℕ) (m : Meter) (buf : List ℕ) → holding buf (onW
 unfolding holding
 unheard-buffer n m buf = refl
 
--- ---- a call with a short buffer or too large a pulse is not heard, in any state
+-- ---- [3]: no call is heard by a meter of an edition that there is not
 
-pub short-character : (m : Meter) (room b : ℕ) → ltb room replyRoom ≡ true → character m room b ≡ unheard 12 m
+pub no-edition : (m : Meter) (room : ℕ) (e : Event) → isEdition (editionOf m) ≡ false → met m room e ≡ unheard 16 m
+unfolding met character silence tick pulse powerUp
+no-edition m room (Character b) h = rw h
+no-edition m room Silence h = rw h
+no-edition m room Tick h = rw h
+no-edition m room (Pulse wh) h = rw h
+no-edition m room PowerUp h = rw h
+no-edition m room Unknown h = rw h
+
+-- ---- a call with a short buffer or too large a pulse is not heard, in any state of an edition
+
+pub short-character : (m : Meter) (room b : ℕ) → isEdition (editionOf m) ≡ true → ltb room replyRoom ≡ true → character m room b ≡ unheard 12 m
 unfolding character
-short-character m room b h = rw h
+short-character m room b k h = rw (k, h)
 
-pub short-silence : (m : Meter) (room : ℕ) → ltb room replyRoom ≡ true → silence m room ≡ unheard 12 m
+pub short-silence : (m : Meter) (room : ℕ) → isEdition (editionOf m) ≡ true → ltb room replyRoom ≡ true → silence m room ≡ unheard 12 m
 unfolding silence
-short-silence m room h = rw h
+short-silence m room k h = rw (k, h)
 
-pub large-pulse : (m : Meter) (wh : ℕ) → ltb 1000000 wh ≡ true → pulse m wh ≡ unheard 13 m
+pub large-pulse : (m : Meter) (wh : ℕ) → isEdition (editionOf m) ≡ true → ltb 1000000 wh ≡ true → pulse m wh ≡ unheard 13 m
 unfolding pulse
-large-pulse m wh h = rw h
+large-pulse m wh k h = rw (k, h)
 
 -- ---- nor is any call with a malformed state
 
@@ -52,25 +68,25 @@ unheard-either : (first : Bool) (n : ℕ) (m : Meter) → cond first (unheard n 
 unheard-either true n m = refl
 unheard-either false n m = refl
 
-pub malformed-character : (m : Meter) (room b : ℕ) → wellFormed m ≡ false → character m room b ≡ unheard (cond (ltb room replyRoom) 12 14) m
+pub malformed-character : (m : Meter) (room b : ℕ) → isEdition (editionOf m) ≡ true → wellFormed m ≡ false → character m room b ≡ unheard (cond (ltb room replyRoom) 12 14) m
 unfolding character
-malformed-character m room b h = rw h (unheard-either (ltb room replyRoom) 12 m)
+malformed-character m room b k h = rw (k, h) (unheard-either (ltb room replyRoom) 12 m)
 
-pub malformed-silence : (m : Meter) (room : ℕ) → wellFormed m ≡ false → silence m room ≡ unheard (cond (ltb room replyRoom) 12 14) m
+pub malformed-silence : (m : Meter) (room : ℕ) → isEdition (editionOf m) ≡ true → wellFormed m ≡ false → silence m room ≡ unheard (cond (ltb room replyRoom) 12 14) m
 unfolding silence
-malformed-silence m room h = rw h (unheard-either (ltb room replyRoom) 12 m)
+malformed-silence m room k h = rw (k, h) (unheard-either (ltb room replyRoom) 12 m)
 
-pub malformed-tick : (m : Meter) → wellFormed m ≡ false → tick m ≡ unheard 14 m
+pub malformed-tick : (m : Meter) → isEdition (editionOf m) ≡ true → wellFormed m ≡ false → tick m ≡ unheard 14 m
 unfolding tick
-malformed-tick m h = rw h
+malformed-tick m k h = rw (k, h)
 
-pub malformed-pulse : (m : Meter) (wh : ℕ) → wellFormed m ≡ false → pulse m wh ≡ unheard (cond (ltb 1000000 wh) 13 14) m
+pub malformed-pulse : (m : Meter) (wh : ℕ) → isEdition (editionOf m) ≡ true → wellFormed m ≡ false → pulse m wh ≡ unheard (cond (ltb 1000000 wh) 13 14) m
 unfolding pulse
-malformed-pulse m wh h = rw h (unheard-either (ltb 1000000 wh) 13 m)
+malformed-pulse m wh k h = rw (k, h) (unheard-either (ltb 1000000 wh) 13 m)
 
-pub malformed-power-up : (m : Meter) → wellFormed m ≡ false → powerUp m ≡ unheard 14 m
+pub malformed-power-up : (m : Meter) → isEdition (editionOf m) ≡ true → wellFormed m ≡ false → powerUp m ≡ unheard 14 m
 unfolding powerUp
-malformed-power-up m h = rw h
+malformed-power-up m k h = rw (k, h)
 
 -- ---- a well-formed state never gives 14
 
@@ -85,7 +101,7 @@ frame-number mark n unknown e = omega arith
 frame-number mark n not-allowed e = omega arith
 frame-number mark n content-wrong e = omega arith
 
-frame-never : (m : Meter) (mark : Bool) (sum : ℕ) → Never (acted m (verdict (m .mode) (heldText (m .receiver)) mark sum))
+frame-never : (m : Meter) (mark : Bool) (sum : ℕ) → Never (acted m (verdict (tablesIn (m .registers)) (m .mode) (heldText (m .receiver)) mark sum))
 unfolding Never
 frame-never m mark sum = answered-all (λ (n : ℕ). n ≡ 14 → ⊥) m mark sum (frame-number mark) (λ e. omega arith) (λ e. omega arith) (λ e. omega arith)
 
@@ -110,23 +126,23 @@ heard-never m c d TooLong = λ e. omega arith
 pub character-never-14 : (m : Meter) (room b : ℕ) → wellFormed m ≡ true → character m room b .number ≡ 14 → ⊥
 unfolding character taken Never
 character-never-14 m room b h =
-    rw h (choice.either Never (ltb room replyRoom) (λ e. omega arith)
+    rw (edition-good m h, h) (choice.either Never (ltb room replyRoom) (λ e. omega arith)
     (heard-never m (symbol b) (damagedAt b) (hearing (m .mode) (m .receiver .count) (lastHeld (m .receiver)) (symbol b))))
 
 pub silence-never-14 : (m : Meter) (room : ℕ) → wellFormed m ≡ true → silence m room .number ≡ 14 → ⊥
 unfolding silence afterSilence Never
 silence-never-14 m room h =
-    rw h (choice.either Never (ltb room replyRoom) (λ e. omega arith)
+    rw (edition-good m h, h) (choice.either Never (ltb room replyRoom) (λ e. omega arith)
     (choice.either Never (eqb (m .mode) 0) (λ e. omega arith) (choice.either Never (eqb (m .mode) 1) (λ e. omega arith) (λ e. omega arith))))
 
 pub tick-never-14 : (m : Meter) → wellFormed m ≡ true → tick m .number ≡ 14 → ⊥
 unfolding tick
-tick-never-14 m h = rw h (λ e. omega arith)
+tick-never-14 m h = rw (edition-good m h, h) (λ e. omega arith)
 
 pub pulse-never-14 : (m : Meter) (wh : ℕ) → wellFormed m ≡ true → pulse m wh .number ≡ 14 → ⊥
 unfolding pulse Never
-pulse-never-14 m wh h = rw h (choice.either Never (ltb 1000000 wh) (λ e. omega arith) (λ e. omega arith))
+pulse-never-14 m wh h = rw (edition-good m h, h) (choice.either Never (ltb 1000000 wh) (λ e. omega arith) (λ e. omega arith))
 
 pub power-up-never-14 : (m : Meter) → wellFormed m ≡ true → powerUp m .number ≡ 14 → ⊥
 unfolding powerUp
-power-up-never-14 m h = rw h (λ e. omega arith)
+power-up-never-14 m h = rw (edition-good m h, h) (λ e. omega arith)

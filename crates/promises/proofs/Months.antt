@@ -18,14 +18,15 @@ use Rattle.clock.specs.Seconds.{realClock, realStamp, stampOf, nextSecond}
 use Rattle.clock.specs.declared.Clock.{Clock}
 use Rattle.clock.proofs.Real.{stamp-real}
 use Rattle.frames.specs.Session.{closingSignOn}
-use Rattle.state.specs.Sizes.{replyRoom, tables, periodPlaces}
+use Rattle.state.specs.Sizes.{replyRoom, periodPlaces}
 use Rattle.state.specs.declared.Period.{Period}
 use Rattle.state.specs.declared.Counters.{Counters}
 use Rattle.state.specs.declared.Archive.{Archive}
 use Rattle.state.specs.declared.Registers.{Registers}
+use Rattle.state.proofs.Parts.{edition-good}
 use Rattle.state.specs.declared.Meter.{Meter}
 use Rattle.state.specs.Link.{linkOf, isWired}
-use Rattle.state.specs.WellFormed.{below, zonesGood, total, countersGood, noTime, periodGood, unused, everyPeriod, archiveGood, wellFormed, marked}
+use Rattle.state.specs.WellFormed.{below, zonesGood, total, countersGood, noTime, periodGood, unused, everyPeriod, archiveGood, wellFormed, marked, tablesIn}
 use Rattle.state.specs.Making.{noPeriod}
 use Rattle.state.specs.Closing.{archiveOf, periodsOf, closedWith, periodOf, closing}
 use Rattle.state.proofs.Archives.{formed-archive}
@@ -134,10 +135,10 @@ module _ (m : Meter) where
       choice.either (λ (o : Outcome). kept-in o ≡ now-kept) (eqb (m .attempts) 3) refl
       (choice.either (λ (o : Outcome). kept-in o ≡ now-kept) (sameText (passwordGiven m) (m .registers .facts .password)) refl refl)
 
-  frame-keeps : (mark : Bool) (sum : ℕ) → kept-in (acted m (verdict (m .mode) (heldText (m .receiver)) mark sum)) ≡ now-kept
+  frame-keeps : (mark : Bool) (sum : ℕ) → kept-in (acted m (verdict (tablesIn (m .registers)) (m .mode) (heldText (m .receiver)) mark sum)) ≡ now-kept
   unfolding acted
   frame-keeps mark sum =
-      verdict-all (λ (v : Verdict). kept-in (acted m v) ≡ now-kept) (m .mode) (heldText (m .receiver)) mark sum
+      verdict-all (λ (v : Verdict). kept-in (acted m v) ≡ now-kept) (tablesIn (m .registers)) (m .mode) (heldText (m .receiver)) mark sum
       (record {
         refuse = λ n k. refl;
         leave = refl;
@@ -148,7 +149,7 @@ module _ (m : Meter) where
             record {
               clock = λ c i r. refl;
               account = λ r. refl;
-              table = λ t i g r. choice.either (λ (o : Outcome). kept-in o ≡ now-kept) (goodTable tables (t .0)) refl refl;
+              table = λ t i g r. choice.either (λ (o : Outcome). kept-in o ≡ now-kept) (goodTable (tablesIn (m .registers)) (t .0)) refl refl;
               wrong = refl;
             };
       })
@@ -197,7 +198,7 @@ module _ (m : Meter) where
 
   pub character-archive : wellFormed m ≡ true → (room b : ℕ) → kept-in (character m room b) ≡ archiveAfter m room (Character b)
   unfolding character taken archiveAfter closesAt closingTime
-  character-archive h room b = rw h (go (ltb room replyRoom) refl)
+  character-archive h room b = rw (edition-good m h, h) (go (ltb room replyRoom) refl)
     where
       go : (p : Bool) → ltb room replyRoom ≡ p
           → kept-in (cond p (unheard 12 m) (heard m (symbol b) (damagedAt b) (hearing (m .mode) (m .receiver .count) (lastHeld (m .receiver)) (symbol b))))
@@ -209,7 +210,7 @@ module _ (m : Meter) where
 
   tick-archive : wellFormed m ≡ true → kept-in (tick m) ≡ archiveAfter m 0 Tick
   unfolding tick archiveAfter closesAt closingTime monthClosed
-  tick-archive h = rw h (go (monthStarts (nextSecond (m .registers .clock))))
+  tick-archive h = rw (edition-good m h, h) (go (monthStarts (nextSecond (m .registers .clock))))
     where
       go : (p : Bool) → cond p (closing (withClock (m .registers) (nextSecond (m .registers .clock)))) (withClock (m .registers) (nextSecond (m .registers .clock))) .archive
           ≡ cond p (closedWith (periodOf (nextSecond (m .registers .clock)) (m .registers .counters)) (m .registers .archive)) (m .registers .archive)
@@ -219,13 +220,13 @@ module _ (m : Meter) where
   silence-archive : wellFormed m ≡ true → (room : ℕ) → kept-in (silence m room) ≡ now-kept
   unfolding silence afterSilence
   silence-archive h room =
-      rw h (choice.either (λ (o : Outcome). kept-in o ≡ now-kept) (ltb room replyRoom) refl
+      rw (edition-good m h, h) (choice.either (λ (o : Outcome). kept-in o ≡ now-kept) (ltb room replyRoom) refl
       (choice.either (λ (o : Outcome). kept-in o ≡ now-kept) (eqb (m .mode) 0) refl
       (choice.either (λ (o : Outcome). kept-in o ≡ now-kept) (eqb (m .mode) 1) refl refl)))
 
   pulse-archive : wellFormed m ≡ true → (wh : ℕ) → kept-in (pulse m wh) ≡ now-kept
   unfolding pulse
-  pulse-archive h wh = rw h (choice.either (λ (o : Outcome). kept-in o ≡ now-kept) (ltb 1000000 wh) refl refl)
+  pulse-archive h wh = rw (edition-good m h, h) (choice.either (λ (o : Outcome). kept-in o ≡ now-kept) (ltb 1000000 wh) refl refl)
 
   -- over all events: exactly when the archive changes, and to what
   pub archive-changes : wellFormed m ≡ true → (room : ℕ) (e : Event) → kept-in (met m room e) ≡ archiveAfter m room e
@@ -234,5 +235,5 @@ module _ (m : Meter) where
   archive-changes h room Silence = silence-archive h room
   archive-changes h room Tick = tick-archive h
   archive-changes h room (Pulse wh) = pulse-archive h wh
-  archive-changes h room PowerUp = rw h
-  archive-changes h room Unknown = refl
+  archive-changes h room PowerUp = rw (edition-good m h, h)
+  archive-changes h room Unknown = rw (edition-good m h)

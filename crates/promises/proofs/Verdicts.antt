@@ -24,7 +24,7 @@ use Rattle.values.specs.declared.reading.ClockRead.{ClockRead}
 use Rattle.values.specs.declared.reading.TableRead.{TableRead}
 use Rattle.values.specs.declared.TableNo.{TableNo}
 use Rattle.values.specs.Texts.{clockForm, tableForm}
-use Rattle.state.specs.Sizes.{tables}
+use Rattle.replies.specs.Answers.{answerable}
 use Rattle.replies.specs.declared.Ask.{Ask}
 use Rattle.deciding.specs.declared.Verdict.{Verdict}
 use Rattle.deciding.specs.declared.Verdict.the-variants.{Refuse, Leave, Enter, Password, Read, WriteClock, WriteAccount, WriteTable}
@@ -32,7 +32,7 @@ use Rattle.deciding.specs.Shape.{startGood, bareShape, framedShape, content}
 use Rattle.deciding.specs.Asking.{asked, energyAsked, tableAsked}
 use Rattle.deciding.specs.Telling.{enclosed, inner, told, clockTold, accountTold, tableTold}
 use Rattle.deciding.specs.Verdict.{entry, bareVerdict, framedVerdict, shapeVerdict, verdict}
-use Rattle.promises.specs.Writes.{writeStart, answerable}
+use Rattle.promises.specs.Writes.{writeStart}
 use Rattle.promises.proofs.Choices as choice
 
 -- a clock that reads is real
@@ -45,9 +45,9 @@ clock-real s h =
     rw (f, r) r
 
 -- a table that reads is one of those that there are
-pub table-real : (s : List ℕ) → tableRead tables s .ok ≡ true → goodTable tables (tableRead tables s .table .0) ≡ true
+pub table-real : (tables : ℕ) (s : List ℕ) → tableRead tables s .ok ≡ true → goodTable tables (tableRead tables s .table .0) ≡ true
 unfolding tableRead
-table-real s h =
+table-real tables s h =
     let some = someTable tables (numberAt s 0 2) in
     let f = chosen (λ (r : TableRead). r .ok) (fits (pattern tableForm) s) some noTable refl h in
     let k : some .ok ≡ true = rw f at h in
@@ -80,15 +80,15 @@ write-starts h f w =
     rw (four h (leb-true 5 (length h) (and-left long stx opens)), is0, is1, is2, is3)
 
 -- what is known of a write that was told
-pub record Told (d : List ℕ) (P : Verdict → Type 0) : Type 0 where
+pub record Told (tables : ℕ) (d : List ℕ) (P : Verdict → Type 0) : Type 0 where
   pub clock : (c : Clock) → c ≡ clockRead (inner d) .clock → realClock c ≡ true → P (WriteClock c)
   pub account : goodAccount (inner d) ≡ true → P WriteAccount
   pub table : (t : TableNo) → t ≡ tableRead tables (take 2 (inner d)) .table → goodTable tables (t .0) ≡ true → goodRow (drop 3 (inner d)) ≡ true → P (WriteTable t)
   pub wrong : P (Refuse 9)
 
-pub told-all : (P : Verdict → Type 0) (d : List ℕ) → Told d P → P (told d)
+pub told-all : (P : Verdict → Type 0) (tables : ℕ) (d : List ℕ) → Told tables d P → P (told tables d)
 unfolding told clockTold accountTold tableTold
-told-all P d k =
+told-all P tables d k =
     choice.either P (enclosed 84 d)
     (choice.given P (clockRead (inner d) .ok) (λ h. k .clock (clockRead (inner d) .clock) refl (clock-real (inner d) h)) (k .wrong))
     (choice.either P (enclosed 75 d)
@@ -96,14 +96,14 @@ told-all P d k =
     (choice.either P (enclosed 90 d)
     (choice.given P (eqb (getD (inner d) 2 0) 59 && goodRow (drop 3 (inner d)))
     (λ g. choice.given P (tableRead tables (take 2 (inner d)) .ok)
-    (λ h. k .table (tableRead tables (take 2 (inner d)) .table) refl (table-real (take 2 (inner d)) h) (and-right (eqb (getD (inner d) 2 0) 59) (goodRow (drop 3 (inner d))) g))
+    (λ h. k .table (tableRead tables (take 2 (inner d)) .table) refl (table-real tables (take 2 (inner d)) h) (and-right (eqb (getD (inner d) 2 0) 59) (goodRow (drop 3 (inner d))) g))
     (k .wrong))
     (k .wrong))
     (k .wrong)))
 
-pub asked-all : (P : Verdict → Type 0) (d : List ℕ) → ((a : Ask) → answerable a ≡ true → P (Read a)) → P (Refuse 9) → P (asked d)
+pub asked-all : (P : Verdict → Type 0) (tables : ℕ) (d : List ℕ) → ((a : Ask) → answerable tables a ≡ true → P (Read a)) → P (Refuse 9) → P (asked tables d)
 unfolding asked energyAsked tableAsked answerable
-asked-all P d read wrong =
+asked-all P tables d read wrong =
     choice.either P (sameText d askClock) (read _ refl)
     (choice.either P (sameText d askSerial) (read _ refl)
     (choice.either P (sameText d askAccount) (read _ refl)
@@ -113,7 +113,7 @@ asked-all P d read wrong =
     (choice.either P (sameText d (askEnergy 3)) (read _ refl)
     (choice.either P (sameText d (askEnergy 4)) (read _ refl)
     (choice.either P (fits (90 ∷ 40 ∷ 35 ∷ 35 ∷ 41 ∷ []) d)
-    (choice.given P (tableRead tables (take 2 (drop 2 d)) .ok) (λ h. read _ (table-real (take 2 (drop 2 d)) h)) wrong)
+    (choice.given P (tableRead tables (take 2 (drop 2 d)) .ok) (λ h. read _ (table-real tables (take 2 (drop 2 d)) h)) wrong)
     wrong))))))))
 
 -- the numbers with which a frame is refused here; 3 only where it is marked
@@ -135,17 +135,17 @@ never-zero mark n not-allowed e = omega arith
 never-zero mark n content-wrong e = omega arith
 
 -- what is known of each verdict on a frame
-pub record Known (mode : ℕ) (h : List ℕ) (mark : Bool) (P : Verdict → Type 0) : Type 0 where
+pub record Known (tables mode : ℕ) (h : List ℕ) (mark : Bool) (P : Verdict → Type 0) : Type 0 where
   pub refuse : (n : ℕ) → FrameNumber mark n → P (Refuse n)
   pub leave : P Leave
   pub enter : mode ≡ 2 → P Enter
   pub password : mode ≡ 2 → fits (chars "(########)") (content h) ≡ true → P Password
-  pub read : (a : Ask) → answerable a ≡ true → P (Read a)
-  pub write : mode ≡ 4 → take 4 h ≡ writeStart → Told (content h) P
+  pub read : (a : Ask) → answerable tables a ≡ true → P (Read a)
+  pub write : mode ≡ 4 → take 4 h ≡ writeStart → Told tables (content h) P
 
-pub verdict-all : (P : Verdict → Type 0) (mode : ℕ) (h : List ℕ) (mark : Bool) (sum : ℕ) → Known mode h mark P → P (verdict mode h mark sum)
+pub verdict-all : (P : Verdict → Type 0) (tables mode : ℕ) (h : List ℕ) (mark : Bool) (sum : ℕ) → Known tables mode h mark P → P (verdict tables mode h mark sum)
 unfolding verdict shapeVerdict bareVerdict framedVerdict entry
-verdict-all P mode h mark sum k =
+verdict-all P tables mode h mark sum k =
     let a = getD h 1 0 in
     let b = getD h 2 0 in
     let no8 = k .refuse 8 not-allowed in
@@ -160,29 +160,29 @@ verdict-all P mode h mark sum k =
     (choice.given P (fits (chars "(########)") (content h)) (k .password (eqb-true mode 2 e)) (k .refuse 9 content-wrong)))
     no8)
     (choice.either P (eqb a 82 && eqb b 49)
-    (choice.either P (eqb mode 3 || eqb mode 4) (asked-all P (content h) (k .read) (k .refuse 9 content-wrong)) no8)
+    (choice.either P (eqb mode 3 || eqb mode 4) (asked-all P tables (content h) (k .read) (k .refuse 9 content-wrong)) no8)
     (choice.given P (eqb a 87 && eqb b 49)
-    (λ w. choice.given P (eqb mode 4) (λ e. told-all P (content h) (k .write (eqb-true mode 4 e) (write-starts h f w))) no8)
+    (λ w. choice.given P (eqb mode 4) (λ e. told-all P tables (content h) (k .write (eqb-true mode 4 e) (write-starts h f w))) no8)
     (k .refuse 7 unknown))))
     (k .refuse 6 shape)))
     (k .refuse 4 checksum))
 
 -- a meter answers only what it has
-sound : Verdict → Bool
-sound (Refuse n) = true
-sound Leave = true
-sound Enter = true
-sound Password = true
-sound (Read a) = answerable a
-sound (WriteClock c) = true
-sound WriteAccount = true
-sound (WriteTable t) = true
+sound : ℕ → Verdict → Bool
+sound tables (Refuse n) = true
+sound tables Leave = true
+sound tables Enter = true
+sound tables Password = true
+sound tables (Read a) = answerable tables a
+sound tables (WriteClock c) = true
+sound tables WriteAccount = true
+sound tables (WriteTable t) = true
 
-pub read-answerable : (mode : ℕ) (h : List ℕ) (mark : Bool) (sum : ℕ) (a : Ask) → verdict mode h mark sum ≡ Read a → answerable a ≡ true
+pub read-answerable : (tables mode : ℕ) (h : List ℕ) (mark : Bool) (sum : ℕ) (a : Ask) → verdict tables mode h mark sum ≡ Read a → answerable tables a ≡ true
 unfolding sound
-read-answerable mode h mark sum a e =
+read-answerable tables mode h mark sum a e =
     let all =
-    verdict-all (λ (v : Verdict). sound v ≡ true) mode h mark sum
+    verdict-all (λ (v : Verdict). sound tables v ≡ true) tables mode h mark sum
     (record {
       refuse = λ n k. refl;
       leave = refl;

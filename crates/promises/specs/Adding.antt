@@ -6,8 +6,9 @@ use Prim.Native.Nat.{ℕ, _%_}
 use lib.Dec.{eqb, leb}
 use lib.ListN.{set}
 use Rattle.clock.specs.declared.Clock.{Clock}
+use Rattle.values.specs.Edition.{tablesOf}
 use Rattle.values.specs.declared.Energy.the-variants.{Total}
-use Rattle.state.specs.Sizes.{tables, counterEnd}
+use Rattle.state.specs.Sizes.{counterEnd}
 use Rattle.state.specs.declared.Receiver.{Receiver}
 use Rattle.state.specs.declared.Facts.{Facts}
 use Rattle.state.specs.declared.Counters.{Counters}
@@ -41,7 +42,7 @@ pub record Bare : Type 0 where
 unfoldable pub bareFormed : Bare → Bool
 bareFormed b =
     (((leb (b .mode) 4 && leb (b .attempts) 3) && speedGood (b .facts .link) (b .mode) (b .speed)) && receiverGood (b .mode) (b .receiver))
-    && (factoryGood (b .facts) (b .account) (b .clock) && (zonesGood (b .zones) && (tablesGood tables (b .tables) && archiveGood (b .archive))))
+    && (factoryGood (b .facts) (b .account) (b .clock) && (zonesGood (b .zones) && (tablesGood (tablesOf (b .facts .edition)) (b .tables) && archiveGood (b .archive))))
 
 -- a state whose total is forgotten, and one whose total is added up
 abbrev pub bare : Meter → Bare

@@ -1,6 +1,6 @@
--- What a character may change in the registers, and what a meter may be asked.
+-- What a character may change in the registers.
 use mathlib.Core.Path.{_≡_}
-use mathlib.Core.Bool.{Bool, true, false, _||_}
+use mathlib.Core.Bool.{true, false, _||_}
 use mathlib.Core.List.{List, [], _∷_, _++_}
 use Prim.Native.Nat.{ℕ, _+_, _-_}
 use lib.ListN.{length, take, drop}
@@ -15,14 +15,11 @@ use Rattle.values.specs.declared.reading.ClockRead.{ClockRead}
 use Rattle.values.specs.declared.reading.TableRead.{TableRead}
 use Rattle.values.specs.Registers.{goodAccount, goodRow, goodTable}
 use Rattle.frames.specs.Session.{closingSignOn}
-use Rattle.state.specs.WellFormed.{marked}
+use Rattle.state.specs.WellFormed.{tablesIn, marked}
 use Rattle.state.specs.Closing.{closing}
-use Rattle.state.specs.Sizes.{tables}
 use Rattle.state.specs.declared.Registers.{Registers}
 use Rattle.state.specs.declared.Meter.{Meter}
 use Rattle.state.specs.Link.{linkOf, isWired}
-use Rattle.replies.specs.declared.Ask.{Ask}
-use Rattle.replies.specs.declared.Ask.the-variants as ask
 use Rattle.state.specs.Setting.{withClock, withAccount, withTables, withRow}
 use Rattle.receiving.specs.declared.Hearing.{Hearing}
 use Rattle.receiving.specs.declared.Hearing.the-variants.{Line, Frame}
@@ -53,7 +50,7 @@ pub record Written (m : Meter) (b : ℕ) (v : Verdict) : Type 0 where
   pub programming : m .mode ≡ 4
   pub completed : hearing (m .mode) (m .receiver .count) (lastHeld (m .receiver)) (symbol b) ≡ Frame
   pub started : take 4 (heldText (m .receiver)) ≡ writeStart
-  pub decided : verdict (m .mode) (heldText (m .receiver)) (marked (m .receiver) || damagedAt b) (symbol b) ≡ v
+  pub decided : verdict (tablesIn (m .registers)) (m .mode) (heldText (m .receiver)) (marked (m .receiver) || damagedAt b) (symbol b) ≡ v
 
 -- [12]: the byte completes an unmarked line `/C!` CR LF, in mode 0
 pub record Called (m : Meter) (b : ℕ) : Type 0 where
@@ -71,15 +68,7 @@ pub data Kept (m : Meter) (b : ℕ) (o : Outcome) : Type 0 where
       → o .next .registers ≡ withClock (m .registers) c → Kept m b o
   account : Written m b WriteAccount → goodAccount (tellsOf m) ≡ true → o .number ≡ 1
       → o .next .registers ≡ withAccount (m .registers) (tellsOf m) → Kept m b o
-  table : (t : TableNo) → Written m b (WriteTable t) → t ≡ tableRead tables (take 2 (tellsOf m)) .table
-      → goodTable tables (t .0) ≡ true → goodRow (drop 3 (tellsOf m)) ≡ true → o .number ≡ 1
+  table : (t : TableNo) → Written m b (WriteTable t) → t ≡ tableRead (tablesIn (m .registers)) (take 2 (tellsOf m)) .table
+      → goodTable (tablesIn (m .registers)) (t .0) ≡ true → goodRow (drop 3 (tellsOf m)) ≡ true → o .number ≡ 1
       → o .next .registers ≡ withTables (m .registers) (withRow (m .registers .tables) (t .0) (drop 3 (tellsOf m))) → Kept m b o
   closed : Called m b → o .number ≡ 1 → o .next .registers ≡ closing (m .registers) → Kept m b o
-
--- what is asked can be answered: a table is one of the 24
-unfoldable pub answerable : Ask → Bool
-answerable (ask.Table t) = goodTable tables (t .0)
-answerable ask.Clock = true
-answerable ask.Serial = true
-answerable ask.Account = true
-answerable (ask.Energy e) = true

@@ -1,28 +1,34 @@
 -- In the block of any well-formed meter the total and the last row are found where they stand, and read back. Assumes nothing.
 use mathlib.Core.Path.{_≡_, refl, sym, ap, subst, _∙_}
-use mathlib.Core.Bool.{true}
+use mathlib.Core.Bool.{Bool, true, false, cond}
 use mathlib.Core.List.{List}
-use Prim.Native.Nat.{ℕ}
+use Prim.Native.Nat.{ℕ, _+_}
+use native.Mathlib.Omega.{arith}
+use borrow.Author.Tests.{le-leb}
+use lib.Dec.{eqb}
 use Rattle.text.specs.Classes.{matching, sameText, between}
 use Rattle.text.specs.DataSet.{DataSet}
 use Rattle.text.specs.Decimal.{decimal}
 use Rattle.text.specs.Layout.{layoutText}
+use Rattle.values.specs.Edition.{tablesOf}
 use Rattle.values.specs.Registers.{goodTable}
+use Rattle.values.proofs.Editions.{tables-least}
 use Rattle.values.specs.Texts.{tableText}
 use Rattle.state.specs.declared.Registers.{Registers}
 use Rattle.state.specs.declared.Meter.{Meter}
-use Rattle.state.specs.WellFormed.{total, registersGood, wellFormed}
+use Rattle.state.specs.WellFormed.{tablesIn, total, registersGood, wellFormed}
 use Rattle.values.specs.declared.Energy.the-variants.{Total}
 use Rattle.values.specs.Registers.{energyNo}
 use Rattle.state.proofs.Parts.{formed}
 use Rattle.replies.specs.Shown.{rowOf}
 use Rattle.replies.specs.Shown as shown
 use Rattle.replies.specs.Block.{factSets, energySets, tableSets, blockSets, blockData}
+use Rattle.datasets.specs.Sets.{tableSet}
 use Rattle.reading.specs.Whole.{Found, readAll}
 use Rattle.finding.specs.Finding.{among, position, firstWith}
 use Rattle.finding.proofs.Promised.{count-is, finds-first}
 use Rattle.recital.specs.Recital.{Register, energy, row, ReadsAs, counts}
-use Rattle.recital.specs.Finding.{FoundAs, totalAddress, lastRowAddress, FoundInBlock}
+use Rattle.recital.specs.Finding.{FoundAs, totalAddress, rowAddress, FoundInBlock}
 use Rattle.recital.proofs.Recital.{block-read}
 use Rattle.recital.proofs.Registers.{own-energy-reads, row-reads}
 
@@ -32,29 +38,53 @@ found-as c a ds n x read h p reads =
     let f = finds-first c a (rw read h) in
     record { number = f .0; count = count-is c a ∙ rw read p; reads = rw (f .1, read) reads }
 
-module _ (g : Registers) (good : registersGood g ≡ true) where
-  total-there : (among totalAddress (blockSets 24 g) ≡ true) × (position totalAddress (blockSets 24 g) ≡ 9)
-  unfolding among position totalAddress sameText matching decimal blockSets factSets energySets
-  total-there = (refl, refl)
+-- 24 tables or 25, by computing
+total-by : (two : Bool) (g : Registers)
+    → (among totalAddress (blockSets (cond two 25 24) g) ≡ true) × (position totalAddress (blockSets (cond two 25 24) g) ≡ 9)
+unfolding among position totalAddress sameText matching decimal blockSets factSets energySets
+total-by true g = (refl, refl)
+total-by false g = (refl, refl)
 
-  total-reads : ReadsAs (energy 0 (total (g .counters))) (firstWith totalAddress (blockSets 24 g))
+last-by : (two : Bool) (g : Registers)
+    → (among (rowAddress (cond two 25 24)) (blockSets (cond two 25 24) g) ≡ true)
+    × (position (rowAddress (cond two 25 24)) (blockSets (cond two 25 24) g) ≡ 9 + cond two 25 24)
+unfolding among position rowAddress sameText matching decimal layoutText tableText blockSets factSets energySets tableSets
+last-by true g = (refl, refl)
+last-by false g = (refl, refl)
+
+first-by : (two : Bool) (g : Registers) (n : ℕ) → cond two 25 24 ≡ n → firstWith (rowAddress n) (blockSets n g) ≡ tableSet n (rowOf (g .tables) n)
+unfolding firstWith rowAddress sameText matching decimal layoutText tableText blockSets factSets energySets tableSets
+first-by true g n e = rw (← e)
+first-by false g n e = rw (← e)
+
+module _ (g : Registers) (good : registersGood g ≡ true) where
+  total-there : (among totalAddress (blockSets (tablesIn g) g) ≡ true) × (position totalAddress (blockSets (tablesIn g) g) ≡ 9)
+  unfolding tablesOf
+  total-there = total-by (eqb (g .facts .edition) 2) g
+
+  total-reads : ReadsAs (energy 0 (total (g .counters))) (firstWith totalAddress (blockSets (tablesIn g) g))
   unfolding firstWith totalAddress sameText matching decimal blockSets factSets energySets shown.energy counts energyNo
   total-reads = own-energy-reads g good Total
 
-  last-there : (among lastRowAddress (blockSets 24 g) ≡ true) × (position lastRowAddress (blockSets 24 g) ≡ 33)
-  unfolding among position lastRowAddress sameText matching decimal layoutText tableText blockSets factSets energySets tableSets
-  last-there = (refl, refl)
+  last-there : (among (rowAddress (tablesIn g)) (blockSets (tablesIn g) g) ≡ true) × (position (rowAddress (tablesIn g)) (blockSets (tablesIn g) g) ≡ 9 + tablesIn g)
+  unfolding tablesOf
+  last-there = last-by (eqb (g .facts .edition) 2) g
 
-  last-reads : ReadsAs (row 24 (rowOf (g .tables) 24)) (firstWith lastRowAddress (blockSets 24 g))
-  unfolding firstWith lastRowAddress sameText matching decimal layoutText tableText blockSets factSets energySets tableSets goodTable between
-  last-reads = row-reads g good 24 refl
+  last-good : goodTable (tablesIn g) (tablesIn g) ≡ true
+  unfolding goodTable between
+  last-good = rw (le-leb 1 (tablesIn g) (omega (arith, tables-least (g .facts .edition))), le-leb (tablesIn g) (tablesIn g) (omega arith))
+
+  last-reads : ReadsAs (row (tablesIn g) (rowOf (g .tables) (tablesIn g))) (firstWith (rowAddress (tablesIn g)) (blockSets (tablesIn g) g))
+  last-reads =
+      rw (first-by (eqb (g .facts .edition) 2) g (tablesIn g) (unfold tablesOf in refl)) (row-reads g good (tablesIn g) last-good)
 
 pub found-in-block : (m : Meter) → wellFormed m ≡ true → FoundInBlock (m .registers)
 found-in-block m f =
     let g = m .registers in
     let good = formed m f .registers in
-    let read : readAll (blockData 24 g) .sets ≡ blockSets 24 g = ap (λ (r : Found). r .sets) (block-read g good) in
+    let n = tablesIn g in
+    let read : readAll (blockData n g) .sets ≡ blockSets n g = ap (λ (r : Found). r .sets) (block-read g good) in
     record {
-      whole = found-as (blockData 24 g) totalAddress (blockSets 24 g) 9 (energy 0 (total (g .counters))) read (total-there g good .0) (total-there g good .1) (total-reads g good);
-      last-row = found-as (blockData 24 g) lastRowAddress (blockSets 24 g) 33 (row 24 (rowOf (g .tables) 24)) read (last-there g good .0) (last-there g good .1) (last-reads g good);
+      whole = found-as (blockData n g) totalAddress (blockSets n g) 9 (energy 0 (total (g .counters))) read (total-there g good .0) (total-there g good .1) (total-reads g good);
+      last-row = found-as (blockData n g) (rowAddress n) (blockSets n g) (9 + n) (row n (rowOf (g .tables) n)) read (last-there g good .0) (last-there g good .1) (last-reads g good);
     }

@@ -6,19 +6,17 @@ use Prim.Native.Nat.{ℕ, zero, suc, _+_, _*_, _≤_}
 use native.Mathlib.Omega.{arith}
 use borrow.Author.Tests.{leb-true, le-leb}
 use lib.Dec.{leb, lit≤}
-use lib.ListN.{length, take, length-append}
+use lib.ListN.{length, take, length-append, length-map}
 use Rattle.line.specs.Runs.{every}
 use Rattle.line.proofs.Runs.{and-left, and-right, every-append, every-weaker}
 use Rattle.text.specs.Classes.{between}
 use Rattle.values.specs.declared.Energy.the-variants.{Total}
-use Rattle.values.specs.Edition.{editionTables}
 use Rattle.values.specs.Registers.{goodTable, energyNo, zoneEnergy}
 use Rattle.frames.specs.Frames.{blockOf}
-use Rattle.state.specs.Sizes.{tables}
 use Rattle.state.specs.declared.Period.{Period}
 use Rattle.state.specs.declared.Registers.{Registers}
 use Rattle.state.specs.declared.Meter.{Meter}
-use Rattle.state.specs.WellFormed.{periodGood, everyPeriod, registersGood, wellFormed}
+use Rattle.state.specs.WellFormed.{periodGood, everyPeriod, registersGood, wellFormed, tablesIn}
 use Rattle.state.specs.Closing.{periodsOf}
 use Rattle.state.proofs.Parts.{formed, formed-registers}
 use Rattle.state.proofs.Archives.{formed-archive}
@@ -28,7 +26,7 @@ use Rattle.replies.specs.declared.Ask.{Ask}
 use Rattle.replies.specs.declared.Ask.the-variants as ask
 use Rattle.replies.specs.Shown.{rowOf}
 use Rattle.replies.specs.Shown as shown
-use Rattle.replies.specs.Answers.{askedSets, askedData}
+use Rattle.replies.specs.Answers.{askedSets, askedData, answerable}
 use Rattle.replies.specs.Block.{factSets, energySets, tableSets, blockSets, blockData}
 use Rattle.replies.specs.Periods.{periodSets, archiveSets, longSets, longData}
 use Rattle.replies.proofs.Good.{asked-good, block-good, long-good, asked-shown, block-shown, long-shown, register-ground}
@@ -40,7 +38,6 @@ use Rattle.readback.proofs.Lines.{sets-read-back, answer-reads-back}
 use Rattle.deciding.specs.declared.Verdict.the-variants.{Read}
 use Rattle.deciding.specs.Verdict.{verdict}
 use Rattle.meter.specs.Acting.{acted}
-use Rattle.promises.specs.Writes.{answerable}
 use Rattle.promises.proofs.Verdicts.{read-answerable}
 use Rattle.recital.specs.Recital.{Register, row, Recites, tableNumbers, rows, blockSays, periodSays, periodsSay, longSays, answerSays, ReadsBack, counts}
 use Rattle.recital.proofs.Registers.{and-then, and-none, period-reads, own-energy-reads, serial-reads, account-reads, date-reads, time-reads, row-reads}
@@ -65,13 +62,13 @@ reads-back c xs ds at shows read h =
     }
 
 -- the rows of tables that are there
-rows-read : (g : Registers) → registersGood g ≡ true → (ns : List ℕ) → every (goodTable editionTables) ns ≡ true
+rows-read : (g : Registers) → registersGood g ≡ true → (ns : List ℕ) → every (goodTable (tablesIn g)) ns ≡ true
     → Recites (map (λ n. tableSet n (rowOf (g .tables) n)) ns) (rows (g .tables) ns)
 unfolding every rows
 rows-read g good [] h = and-none
 rows-read g good (n ∷ ns) h =
     and-then (row n (rowOf (g .tables) n)) (tableSet n (rowOf (g .tables) n)) (rows (g .tables) ns) (map (λ n. tableSet n (rowOf (g .tables) n)) ns)
-    (row-reads g good n (and-left (goodTable editionTables n) (every (goodTable editionTables) ns) h)) (rows-read g good ns (and-right (goodTable editionTables n) (every (goodTable editionTables) ns) h))
+    (row-reads g good n (and-left (goodTable (tablesIn g) n) (every (goodTable (tablesIn g)) ns) h)) (rows-read g good ns (and-right (goodTable (tablesIn g) n) (every (goodTable (tablesIn g)) ns) h))
 
 tables-are : (tables : List ℕ) (n : ℕ) → tableSets tables n ≡ map (λ n. tableSet n (rowOf tables n)) (tableNumbers n)
 unfolding tableSets tableNumbers
@@ -88,10 +85,10 @@ numbers-good tables (suc n) h =
     every-append (goodTable tables) (tableNumbers n) (suc n ∷ []) (numbers-good tables n (omega arith))
     (unfold goodTable between in (rw (le-leb 1 (suc n) (omega arith), le-leb (suc n) tables h)))
 
-block-recites : (g : Registers) → registersGood g ≡ true → Recites (blockSets editionTables g) (blockSays g)
+block-recites : (g : Registers) → registersGood g ≡ true → Recites (blockSets (tablesIn g) g) (blockSays g)
 unfolding blockSets factSets energySets blockSays shown.energy counts energyNo
 block-recites g good =
-    let all = rw (← tables-are (g .tables) editionTables) at (rows-read g good (tableNumbers editionTables) (numbers-good editionTables editionTables (lit≤ tt))) in
+    let all = rw (← tables-are (g .tables) (tablesIn g)) at (rows-read g good (tableNumbers (tablesIn g)) (numbers-good (tablesIn g) (tablesIn g) (omega arith))) in
     and-then _ _ _ _ (serial-reads g good)
     (and-then _ _ _ _ (date-reads g good)
     (and-then _ _ _ _ (time-reads g good)
@@ -118,13 +115,13 @@ periods-recite k (p ∷ ps) h =
     and-all (periodSets k p) (archiveSets (k + 1) ps) (periodSays k p) (periodsSay (k + 1) ps)
     (period-reads k p (and-left (periodGood p) (everyPeriod periodGood ps) h)) (periods-recite (k + 1) ps (and-right (periodGood p) (everyPeriod periodGood ps) h))
 
-long-recites : (g : Registers) → registersGood g ≡ true → Recites (longSets editionTables g) (longSays g)
+long-recites : (g : Registers) → registersGood g ≡ true → Recites (longSets (tablesIn g) g) (longSays g)
 unfolding longSets longSays periodsOf
 long-recites g good =
-    and-all (blockSets editionTables g) (archiveSets 1 (periodsOf (g .archive))) (blockSays g) (periodsSay 1 (periodsOf (g .archive)))
+    and-all (blockSets (tablesIn g) g) (archiveSets 1 (periodsOf (g .archive))) (blockSays g) (periodsSay 1 (periodsOf (g .archive)))
     (block-recites g good) (periods-recite 1 (periodsOf (g .archive)) (formed-archive (g .archive) (formed-registers g good .archive) .good))
 
-answer-recites : (g : Registers) → registersGood g ≡ true → (a : Ask) → answerable a ≡ true → Recites (askedSets g a) (answerSays g a)
+answer-recites : (g : Registers) → registersGood g ≡ true → (a : Ask) → answerable (tablesIn g) a ≡ true → Recites (askedSets g a) (answerSays g a)
 unfolding askedSets answerSays answerable
 answer-recites g good ask.Clock h = and-then _ _ _ _ (time-reads g good) (and-then _ _ _ _ (date-reads g good) and-none)
 answer-recites g good ask.Serial h = and-then _ _ _ _ (serial-reads g good) and-none
@@ -133,49 +130,55 @@ answer-recites g good (ask.Energy e) h = and-then _ _ _ _ (own-energy-reads g go
 answer-recites g good (ask.Table t) h = and-then _ _ _ _ (row-reads g good (t .0) h) and-none
 
 -- the data block reads to its end as its own sets
-pub block-read : (g : Registers) → registersGood g ≡ true → readAll (blockData editionTables g) ≡ record { sets = blockSets editionTables g; number = 0; place = length (linesOf (blockSets editionTables g)) }
+pub block-read : (g : Registers) → registersGood g ≡ true → readAll (blockData (tablesIn g) g) ≡ record { sets = blockSets (tablesIn g) g; number = 0; place = length (linesOf (blockSets (tablesIn g) g)) }
 unfolding blockData lastLine
-block-read g good = sets-read-back (blockSets editionTables g) (block-good editionTables g good)
+block-read g good = sets-read-back (blockSets (tablesIn g) g) (block-good g good)
 
-long-read : (g : Registers) → registersGood g ≡ true → readAll (longData editionTables g) ≡ record { sets = longSets editionTables g; number = 0; place = length (linesOf (longSets editionTables g)) }
+long-read : (g : Registers) → registersGood g ≡ true → readAll (longData (tablesIn g) g) ≡ record { sets = longSets (tablesIn g) g; number = 0; place = length (linesOf (longSets (tablesIn g) g)) }
 unfolding longData lastLine
-long-read g good = sets-read-back (longSets editionTables g) (long-good editionTables g good)
+long-read g good = sets-read-back (longSets (tablesIn g) g) (long-good g good)
 
 module _ (m : Meter) (f : wellFormed m ≡ true) where
-  -- the data block: all 33 data sets in order
-  pub block-reads-back : ReadsBack (blockData editionTables (m .registers)) (blockSays (m .registers))
+  -- the data block: all its data sets in order
+  pub block-reads-back : ReadsBack (blockData (tablesIn (m .registers)) (m .registers)) (blockSays (m .registers))
   block-reads-back =
       let g = m .registers in
       let good = formed m f .registers in
-      reads-back (blockData editionTables g) (blockSays g) (blockSets editionTables g) (length (linesOf (blockSets editionTables g))) (block-shown editionTables g good) (block-read g good)
+      reads-back (blockData (tablesIn g) g) (blockSays g) (blockSets (tablesIn g) g) (length (linesOf (blockSets (tablesIn g) g))) (block-shown g good) (block-read g good)
       (block-recites g good)
 
   -- [12]: the block with the closed periods: those, and every period's time and counters, in order
-  pub long-reads-back : ReadsBack (longData editionTables (m .registers)) (longSays (m .registers))
+  pub long-reads-back : ReadsBack (longData (tablesIn (m .registers)) (m .registers)) (longSays (m .registers))
   long-reads-back =
       let g = m .registers in
       let good = formed m f .registers in
-      reads-back (longData editionTables g) (longSays g) (longSets editionTables g) (length (linesOf (longSets editionTables g))) (long-shown editionTables g good) (long-read g good)
+      reads-back (longData (tablesIn g) g) (longSays g) (longSets (tablesIn g) g) (length (linesOf (longSets (tablesIn g) g))) (long-shown g good) (long-read g good)
       (long-recites g good)
 
   -- and every answer to R1
-  pub answer-block-reads-back : (a : Ask) → answerable a ≡ true → ReadsBack (askedData (m .registers) a) (answerSays (m .registers) a)
+  pub answer-block-reads-back : (a : Ask) → answerable (tablesIn (m .registers)) a ≡ true → ReadsBack (askedData (m .registers) a) (answerSays (m .registers) a)
   unfolding askedData
   answer-block-reads-back a h =
       let g = m .registers in
       let good = formed m f .registers in
-      reads-back (askedData g a) (answerSays g a) (askedSets g a) (length (linesOf (askedSets g a))) (asked-shown g a good) (answer-reads-back (askedSets g a) (asked-good g a good))
+      reads-back (askedData g a) (answerSays g a) (askedSets g a) (length (linesOf (askedSets g a))) (asked-shown g a good h) (answer-reads-back (askedSets g a) (asked-good g a good h))
       (answer-recites g good a h)
 
   -- so whatever frame a meter answers with data, the block that it sends reads back
-  pub every-answer-reads-back : (h : List ℕ) (mark : Bool) (sum : ℕ) (a : Ask) → verdict (m .mode) h mark sum ≡ Read a
-      → (acted m (verdict (m .mode) h mark sum) .reply ≡ blockOf (askedData (m .registers) a)) × ReadsBack (askedData (m .registers) a) (answerSays (m .registers) a)
+  pub every-answer-reads-back : (h : List ℕ) (mark : Bool) (sum : ℕ) (a : Ask) → verdict (tablesIn (m .registers)) (m .mode) h mark sum ≡ Read a
+      → (acted m (verdict (tablesIn (m .registers)) (m .mode) h mark sum) .reply ≡ blockOf (askedData (m .registers) a)) × ReadsBack (askedData (m .registers) a) (answerSays (m .registers) a)
   unfolding acted
-  every-answer-reads-back h mark sum a e = (rw e, answer-block-reads-back a (read-answerable (m .mode) h mark sum a e))
+  every-answer-reads-back h mark sum a e = (rw e, answer-block-reads-back a (read-answerable (tablesIn (m .registers)) (m .mode) h mark sum a e))
 
-pub thirty-three : (g : Registers) → length (blockSays g) ≡ 33
-unfolding blockSays rows tableNumbers
-thirty-three g = refl
+numbers-many : (n : ℕ) → length (tableNumbers n) ≡ n
+unfolding tableNumbers
+numbers-many zero = refl
+numbers-many (suc n) = length-append (tableNumbers n) (suc n ∷ []) ∙ omega (arith, numbers-many n)
+
+-- 33 of them, or 34
+pub nine-and-tables : (g : Registers) → length (blockSays g) ≡ 9 + tablesIn g
+unfolding blockSays rows
+nine-and-tables g = omega (arith, length-map (tableNumbers (tablesIn g)) (λ n. row n (rowOf (g .tables) n)), numbers-many (tablesIn g))
 
 -- and five for each closed period
 five-each : (k : ℕ) (ps : List Period) → length (periodsSay k ps) ≡ length ps * 5
@@ -183,8 +186,8 @@ unfolding periodsSay periodSays
 five-each k [] = refl
 five-each k (p ∷ ps) = length-append (periodSays k p) (periodsSay (k + 1) ps) ∙ omega (arith, five-each (k + 1) ps)
 
-pub thirty-three-and-five : (g : Registers) → registersGood g ≡ true → length (longSays g) ≡ 33 + g .archive .count * 5
+pub nine-and-tables-and-five : (g : Registers) → registersGood g ≡ true → length (longSays g) ≡ 9 + tablesIn g + g .archive .count * 5
 unfolding longSays
-thirty-three-and-five g good =
+nine-and-tables-and-five g good =
     length-append (blockSays g) (periodsSay 1 (periodsOf (g .archive)))
-    ∙ omega (arith, thirty-three g, five-each 1 (periodsOf (g .archive)), kept-many g (register-ground g good .lengths))
+    ∙ omega (arith, nine-and-tables g, five-each 1 (periodsOf (g .archive)), kept-many (tablesIn g) g (register-ground g good .lengths))

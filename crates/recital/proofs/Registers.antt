@@ -6,27 +6,29 @@ use Prim.Native.Nat.{ℕ, zero, suc, _-_, _*_, _≤_, _<_}
 use native.Mathlib.Omega.{arith}
 use borrow.Author.Tests.{leb-true, eqb-true, eq-eqb, ltb-true}
 use lib.Dec.{eqb, leb, ltb, lit≤}
-use lib.ListN.{length, drop, getD}
+use lib.ListN.{length, getD}
 use Rattle.line.specs.Runs.{every}
-use Rattle.line.proofs.Runs.{and-left, and-right, and-both, every-take, every-drop}
+use Rattle.line.proofs.Runs.{and-left, and-right, and-both}
 use Rattle.text.specs.Classes.{between}
 use Rattle.clock.specs.Dates.{realDate, realTime}
 use Rattle.clock.specs.Seconds.{realClock, realStamp}
 use Rattle.values.specs.declared.Energy.{Energy}
 use Rattle.values.specs.declared.Energy.the-variants.{Total, Zone}
 use Rattle.values.specs.Registers.{goodRow, goodTable, energyNo}
+use Rattle.values.proofs.Editions.{tables-most}
 use Rattle.values.proofs.RoundTrip.{date-reads-back, time-reads-back, stamp-reads-back, counter-reads-back}
 use Rattle.values.proofs.Serials.{serial-reads-back, account-reads-back, row-reads-back}
-use Rattle.state.specs.Sizes.{tables, rowLength, counterEnd}
+use Rattle.state.specs.Sizes.{rowLength, counterEnd}
 use Rattle.state.specs.declared.Period.{Period}
 use Rattle.state.specs.declared.Registers.{Registers}
-use Rattle.state.specs.WellFormed.{below, zonesGood, periodGood, tablesGood, registersGood}
-use Rattle.state.specs.Setting.{rowStart, zonePlace, counterOf}
-use Rattle.state.proofs.Parts.{formed-registers, formed-facts, counter-small, total-is-sum, total-small}
+use Rattle.state.specs.WellFormed.{below, zonesGood, periodGood, registersGood, tablesIn}
+use Rattle.state.specs.Setting.{zonePlace, counterOf}
+use Rattle.state.proofs.Parts.{formed-registers, formed-facts, counter-small, total-is-sum, total-small, rows-long, rows-held}
 use Rattle.datasets.specs.Sets.{DataSet, timeSet, dateSet, serialSet, accountSet, energySet, tableSet, closedSet, keptSet}
 use Rattle.replies.specs.Shown.{rowOf}
 use Rattle.replies.specs.Shown as shown
 use Rattle.replies.proofs.Sizes.{row-long}
+use Rattle.replies.proofs.Good.{row-zones}
 use Rattle.replies.specs.Periods.{keptIn, periodSets}
 use Rattle.recital.specs.Recital.{Register, serial, date, time, account, energy, row, closed, kept, ReadsAs, Recites, counts, periodSays}
 
@@ -103,24 +105,17 @@ module _ (g : Registers) (good : registersGood g ≡ true) where
       energy-reads (energyNo (Zone z)) wh (counter-small (g .counters) (formed-registers g good .counters) (z .0))
 
   -- the row of a table that is there
-  pub row-good : (n : ℕ) → goodTable tables n ≡ true → goodRow (rowOf (g .tables) n) ≡ true
-  unfolding goodRow goodTable between tablesGood rowOf
-  row-good n h =
-      let zones = every (between 49 52) in
-      let all = tables * rowLength in
+  pub row-good : (n : ℕ) → goodTable (tablesIn g) n ≡ true → goodRow (rowOf (g .tables) n) ≡ true
+  unfolding goodRow goodTable between
+  row-good zero h = absurd (omega (arith, leb-true 1 0 (and-left (leb 1 0) (leb 0 (tablesIn g)) h)))
+  row-good (suc n) h =
       let s = g .tables in
-      let good-rows = formed-registers g good .tables in
-      let low : 1 ≤ n = leb-true 1 n (and-left (leb 1 n) (leb n tables) h) in
-      let high : n ≤ tables = leb-true n tables (and-right (leb 1 n) (leb n tables) h) in
-      let size : length s ≡ all = eqb-true (length s) all (and-left (eqb (length s) all) (zones s) good-rows) in
-      let whole = and-right (eqb (length s) all) (zones s) good-rows in
-      let part = every-take (between 49 52) rowLength (drop (rowStart n) s) (every-drop (between 49 52) (rowStart n) s whole) in
-      and-both (eqb (length (rowOf s n)) rowLength) (zones (rowOf s n)) (eq-eqb (length (rowOf s n)) rowLength (long s n low (omega arith))) part
-    where
-      long : (s : List ℕ) (n : ℕ) → 1 ≤ n → n * rowLength ≤ length s → length (rowOf s n) ≡ rowLength
-      long s zero l h = absurd (omega arith)
-      long s (suc n) l h = row-long s n h
+      let rows = formed-registers g good .tables in
+      let high : suc n ≤ tablesIn g = leb-true (suc n) (tablesIn g) (and-right (leb 1 (suc n)) (leb (suc n) (tablesIn g)) h) in
+      let room : suc n * rowLength ≤ length s = omega (arith, high, tables-most (g .facts .edition), rows-long (tablesIn g) s rows) in
+      and-both (eqb (length (rowOf s (suc n))) rowLength) (every (between 49 52) (rowOf s (suc n)))
+      (eq-eqb (length (rowOf s (suc n))) rowLength (row-long s n room)) (row-zones (tablesIn g) s (rows-held (tablesIn g) s rows) n high)
 
-  pub row-reads : (n : ℕ) → goodTable tables n ≡ true → ReadsAs (row n (rowOf (g .tables) n)) (tableSet n (rowOf (g .tables) n))
+  pub row-reads : (n : ℕ) → goodTable (tablesIn g) n ≡ true → ReadsAs (row n (rowOf (g .tables) n)) (tableSet n (rowOf (g .tables) n))
   unfolding ReadsAs
   row-reads n h = (refl, row-reads-back (rowOf (g .tables) n) (row-good n h))

@@ -1,10 +1,11 @@
 -- Document 02, [6], end to end: one register of a meter's data block, found by its address.
 use mathlib.Core.Path.{_≡_}
-use mathlib.Core.List.{List}
-use Prim.Native.Nat.{ℕ}
+use mathlib.Core.List.{List, _++_}
+use Prim.Native.Nat.{ℕ, _+_}
 use Rattle.line.specs.Quoted.{chars}
+use Rattle.values.specs.Texts.{tableText}
 use Rattle.state.specs.declared.Registers.{Registers}
-use Rattle.state.specs.WellFormed.{total}
+use Rattle.state.specs.WellFormed.{tablesIn, total}
 use Rattle.replies.specs.Shown.{rowOf}
 use Rattle.replies.specs.Block.{blockData}
 use Rattle.finding.specs.Finding.{lookup, pointedAt}
@@ -20,11 +21,11 @@ pub record FoundAs (content a : List ℕ) (n : ℕ) (x : Register) : Type 0 wher
 unfoldable pub totalAddress : List ℕ
 totalAddress = chars "15.8.0"
 
--- of the last row
-unfoldable pub lastRowAddress : List ℕ
-lastRowAddress = chars "131.0.24"
+-- of a table's row
+unfoldable pub rowAddress : ℕ → List ℕ
+rowAddress n = chars "131.0." ++ tableText n
 
--- the total is the ninth set of the data block, the last row the 33rd
+-- the total is the ninth set of the data block; the row of the last table is the last, the 33rd or the 34th
 pub record FoundInBlock (g : Registers) : Type 0 where
-  pub whole : FoundAs (blockData 24 g) totalAddress 9 (energy 0 (total (g .counters)))
-  pub last-row : FoundAs (blockData 24 g) lastRowAddress 33 (row 24 (rowOf (g .tables) 24))
+  pub whole : FoundAs (blockData (tablesIn g) g) totalAddress 9 (energy 0 (total (g .counters)))
+  pub last-row : FoundAs (blockData (tablesIn g) g) (rowAddress (tablesIn g)) (9 + tablesIn g) (row (tablesIn g) (rowOf (g .tables) (tablesIn g)))

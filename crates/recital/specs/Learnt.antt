@@ -5,15 +5,13 @@ use mathlib.Core.List.{List, [], _∷_}
 use Prim.Native.Nat.{ℕ}
 use lib.Dec.{eqb}
 use Rattle.line.specs.Quoted.{char}
-use Rattle.values.specs.Edition.{editionTables}
 use Rattle.values.specs.Registers.{goodTable, goodZone}
 use Rattle.frames.specs.Frames.{blockOf}
 use Rattle.frames.specs.Session.{goodSpeed}
-use Rattle.state.specs.Sizes.{tables}
 use Rattle.state.specs.declared.Meter.{Meter}
 use Rattle.state.specs.Link.{linkOf}
 use Rattle.state.specs.Setting.{counterOf}
-use Rattle.state.specs.WellFormed.{total}
+use Rattle.state.specs.WellFormed.{total, tablesIn}
 use Rattle.replies.specs.Shown.{rowOf}
 use Rattle.commands.specs.Building.{goodChoice}
 use Rattle.commands.specs.Spoken.{readClock, readSerial, readAccount, readTotal, readZone, readTable}
@@ -37,4 +35,4 @@ pub record Answers (m : Meter) : Type 0 where
   pub own-account : Learns m (command readAccount) (account (m .registers .account) ∷ [])
   pub whole : Learns m (command readTotal) (energy 0 (total (m .registers .counters)) ∷ [])
   pub zone : (n : ℕ) → goodZone n ≡ true → Learns m (command (readZone n)) (energy n (counterOf (m .registers .counters) n) ∷ [])
-  pub table : (n : ℕ) → goodTable editionTables n ≡ true → Learns m (command (readTable n)) (row n (rowOf (m .registers .tables) n) ∷ [])
+  pub table : (n : ℕ) → goodTable (tablesIn (m .registers)) n ≡ true → Learns m (command (readTable n)) (row n (rowOf (m .registers .tables) n) ∷ [])

@@ -10,7 +10,7 @@ use Rattle.text.specs.Writing.{holding}
 use Rattle.clock.specs.declared.Date.{Date}
 use Rattle.clock.specs.declared.Time.{Time}
 use Rattle.clock.specs.declared.Stamp.{Stamp}
-use Rattle.values.specs.Edition.{editionTables, counterDigits, counterDecimals}
+use Rattle.values.specs.Edition.{counterDigits, counterDecimals}
 use Rattle.values.specs.declared.Energy.{Energy}
 use Rattle.values.specs.declared.Energy.the-variants.{Total, Zone}
 use Rattle.values.specs.Registers.{energyNo}
@@ -21,7 +21,7 @@ use Rattle.frames.specs.Frames.{blockOf, onWire}
 use Rattle.state.specs.declared.Counters.{Counters}
 use Rattle.state.specs.declared.Period.{Period}
 use Rattle.state.specs.declared.Registers.{Registers}
-use Rattle.state.specs.WellFormed.{total}
+use Rattle.state.specs.WellFormed.{total, tablesIn}
 use Rattle.state.specs.Setting.{counterOf}
 use Rattle.state.specs.Closing.{periodsOf}
 use Rattle.replies.specs.Periods.{keptIn}
@@ -77,7 +77,7 @@ blockSays g =
     serial (g .facts .serial) ∷ date (g .clock .date) ∷ time (g .clock .time) ∷ account (g .account)
     ∷ energy 1 (counterOf (g .counters) 1) ∷ energy 2 (counterOf (g .counters) 2)
     ∷ energy 3 (counterOf (g .counters) 3) ∷ energy 4 (counterOf (g .counters) 4)
-    ∷ energy 0 (total (g .counters)) ∷ rows (g .tables) (tableNumbers editionTables)
+    ∷ energy 0 (total (g .counters)) ∷ rows (g .tables) (tableNumbers (tablesIn g))
 
 -- [12]: the closed periods, numbered from k on: each one's time and its four counters
 unfoldable pub periodSays : ℕ → Period → List Register

@@ -1,7 +1,7 @@
 -- Of well-formed registers: how long they are, that every answer is good data sets, and which characters it holds.
 -- Each line is good by its kind (`datasets`), and a row of the tables is a part of them. Assumes nothing.
 use mathlib.Core.Path.{_≡_, refl, sym, ap, _∙_}
-use mathlib.Core.Bool.{Bool, true, false, not, _&&_, _||_}
+use mathlib.Core.Bool.{Bool, true, false, cond, not, _&&_, _||_}
 use mathlib.Core.List.{List, [], _∷_, _++_}
 use Prim.Native.Nat.{ℕ, zero, suc, _+_, _-_, _*_, _<_, _≤_}
 use native.Mathlib.Omega.{arith}
@@ -9,20 +9,23 @@ use borrow.Author.Tests.{eqb-true, leb-true, le-leb}
 use lib.Bits.{bitXor}
 use lib.Count.{ones}
 use lib.Dec.{eqb, leb}
-use lib.ListN.{length, take, drop, getD}
+use lib.ListN.{length, take, drop, getD, length-append}
+use lib.Seq.{take-take}
+use Rattle.line.specs.Quoted.{chars}
 use Rattle.line.specs.Runs.{every}
 use Rattle.line.specs.Characters.{seven}
 use Rattle.line.specs.Checksum.{bccOf}
 use Rattle.line.proofs.Runs.{and-left, and-right, and-both, every-append, every-weaker, every-take, every-drop}
 use Rattle.line.proofs.Xor.{bcc-lt}
 use Rattle.text.specs.Classes.{between, isDigit}
-use Rattle.values.specs.Registers.{goodDigits, goodAccount, isAccountCharacter, energyNo}
+use Rattle.values.specs.Registers.{goodDigits, goodAccount, goodTable, isAccountCharacter, energyNo}
+use Rattle.values.proofs.Editions.{tables-most}
 use Rattle.frames.specs.Frames.{closed, frameOf, blockOf}
 use Rattle.frames.specs.Commands.{bracketed}
-use Rattle.state.specs.Sizes.{rowLength, tables}
+use Rattle.state.specs.Sizes.{rowLength}
 use Rattle.state.specs.Setting.{rowStart, counterOf}
-use Rattle.state.specs.WellFormed.{tablesGood, registersGood, wellFormed}
-use Rattle.state.proofs.Parts.{formed, formed-registers, formed-facts}
+use Rattle.state.specs.WellFormed.{tablesIn, registersGood, wellFormed}
+use Rattle.state.proofs.Parts.{formed, formed-registers, formed-facts, rows-long, rows-held}
 use Rattle.state.proofs.Archives.{formed-archive}
 use Rattle.state.specs.declared.Meter.{Meter}
 use Rattle.state.specs.declared.Period.{Period}
@@ -35,7 +38,7 @@ use Rattle.datasets.proofs.Good.{time-good, date-good, serial-good, account-goo
 use Rattle.replies.specs.declared.Ask.{Ask}
 use Rattle.replies.specs.declared.Ask.the-variants as ask
 use Rattle.replies.specs.Shown.{Lengths, rowOf, energy}
-use Rattle.replies.specs.Answers.{askedSets, askedData}
+use Rattle.replies.specs.Answers.{askedSets, askedData, answerable}
 use Rattle.replies.specs.Block.{factSets, energySets, tableSets, blockSets, blockData}
 use Rattle.replies.specs.Periods.{keptIn, periodSets, archiveSets, longSets, longData}
 use Rattle.replies.specs.Fixed.{identification, passwordAsk, accepted, refused}
@@ -43,63 +46,81 @@ use Rattle.replies.proofs.Sizes.{row-short}
 
 -- what the lines of well-formed registers lean on
 pub record Ground (g : Registers) : Type 0 where
-  pub lengths : Lengths tables g
+  pub lengths : Lengths (tablesIn g) g
   pub serial : every isDigit (g .facts .serial) ≡ true
   pub account : every isAccountCharacter (g .account) ≡ true
-  pub tables : every (between 49 52) (g .tables) ≡ true
+  pub tables : every (between 49 52) (take (tablesIn g * rowLength) (g .tables)) ≡ true
 
 pub register-ground : (g : Registers) → registersGood g ≡ true → Ground g
-unfolding goodDigits goodAccount tablesGood
+unfolding goodDigits goodAccount
 register-ground g h =
     let f = formed-registers g h in
     let s = g .facts .serial in
     let hs = formed-facts (g .facts) (f .facts) .serial in
     let serial = eqb (length s) 10 in
     let account = eqb (length (g .account)) 10 in
-    let rows = eqb (length (g .tables)) (tables * rowLength) in
     record {
       lengths = record {
         serial = eqb-true (length s) 10 (and-left serial (every isDigit s) hs);
         account = eqb-true (length (g .account)) 10 (and-left account (every isAccountCharacter (g .account)) (f .account));
-        rows = eqb-true (length (g .tables)) (tables * rowLength) (and-left rows (every (between 49 52) (g .tables)) (f .tables));
+        rows = rows-long (tablesIn g) (g .tables) (f .tables);
+        few = tables-most (g .facts .edition);
         places = formed-archive (g .archive) (f .archive) .long;
         kept = formed-archive (g .archive) (f .archive) .count;
       };
       serial = and-right serial (every isDigit s) hs;
       account = and-right account (every isAccountCharacter (g .account)) (f .account);
-      tables = and-right rows (every (between 49 52) (g .tables)) (f .tables);
+      tables = rows-held (tablesIn g) (g .tables) (f .tables);
     }
 
 pub well-formed-registers : (m : Meter) → wellFormed m ≡ true → registersGood (m .registers) ≡ true
 well-formed-registers m h = formed m h .registers
 
 -- what the writers require
-pub well-formed-lengths : (m : Meter) → wellFormed m ≡ true → Lengths tables (m .registers)
+pub well-formed-lengths : (m : Meter) → wellFormed m ≡ true → Lengths (tablesIn (m .registers)) (m .registers)
 well-formed-lengths m h = register-ground (m .registers) (well-formed-registers m h) .lengths
 
-row-good : (g : Registers) → Ground g → (n : ℕ) → every (between 49 52) (rowOf (g .tables) n) ≡ true
+-- a part of a beginning is that part of the whole
+part-of : (from n all : ℕ) (s : List ℕ) → from + n ≤ all → take n (drop from (take all s)) ≡ take n (drop from s)
+part-of zero n all s h = take-take n all s (omega arith)
+part-of (suc from) n zero s h = absurd (omega arith)
+part-of (suc from) n (suc all) [] h = refl
+part-of (suc from) n (suc all) (c ∷ s) h = part-of from n all s (omega arith)
+
+-- a row of those that are held is zones alone
+pub row-zones : (tables : ℕ) (s : List ℕ) → every (between 49 52) (take (tables * rowLength) s) ≡ true → (n : ℕ) → n < tables
+    → every (between 49 52) (rowOf s (suc n)) ≡ true
 unfolding rowOf
-row-good g f n = every-take (between 49 52) rowLength (drop (rowStart n) (g .tables)) (every-drop (between 49 52) (rowStart n) (g .tables) (f .tables))
+row-zones tables s h n k =
+    let from = rowStart (suc n) in
+    rw (← part-of from rowLength (tables * rowLength) s (omega arith))
+    (every-take (between 49 52) rowLength (drop from (take (tables * rowLength) s)) (every-drop (between 49 52) from (take (tables * rowLength) s) h))
+
+row-good : (g : Registers) → Ground g → (n : ℕ) → goodTable (tablesIn g) n ≡ true → every (between 49 52) (rowOf (g .tables) n) ≡ true
+unfolding goodTable between
+row-good g f zero h = absurd (omega (arith, leb-true 1 0 (and-left (leb 1 0) (leb 0 (tablesIn g)) h)))
+row-good g f (suc n) h = row-zones (tablesIn g) (g .tables) (f .tables) n (omega (arith, leb-true (suc n) (tablesIn g) (and-right (leb 1 (suc n)) (leb (suc n) (tablesIn g)) h)))
 
 -- every answer to R1 is good data sets
-pub asked-good : (g : Registers) (a : Ask) → registersGood g ≡ true → goodSets (askedSets g a) ≡ true
-unfolding askedSets goodSets
-asked-good g ask.Clock h = rw (time-good (g .clock .time), date-good (g .clock .date))
-asked-good g ask.Serial h = let f = register-ground g h in rw (serial-good (g .facts .serial) (f .lengths .serial) (f .serial))
-asked-good g ask.Account h = let f = register-ground g h in rw (account-good (g .account) (f .lengths .account) (f .account))
-asked-good g (ask.Energy e) h = rw (energy-good (energyNo e) (energy (g .counters) e))
-asked-good g (ask.Table t) h =
+pub asked-good : (g : Registers) (a : Ask) → registersGood g ≡ true → answerable (tablesIn g) a ≡ true → goodSets (askedSets g a) ≡ true
+unfolding askedSets goodSets answerable
+asked-good g ask.Clock h k = rw (time-good (g .clock .time), date-good (g .clock .date))
+asked-good g ask.Serial h k = let f = register-ground g h in rw (serial-good (g .facts .serial) (f .lengths .serial) (f .serial))
+asked-good g ask.Account h k = let f = register-ground g h in rw (account-good (g .account) (f .lengths .account) (f .account))
+asked-good g (ask.Energy e) h k = rw (energy-good (energyNo e) (energy (g .counters) e))
+asked-good g (ask.Table t) h k =
     let f = register-ground g h in
     let short = row-short (g .tables) (t .0) in
-    rw (table-good (t .0) (rowOf (g .tables) (t .0)) (omega arith) (row-good g f (t .0)))
+    rw (table-good (t .0) (rowOf (g .tables) (t .0)) (omega arith) (row-good g f (t .0) k))
 
 -- and so is the data block
-tables-good : (g : Registers) → Ground g → (n : ℕ) → goodSets (tableSets (g .tables) n) ≡ true
+tables-good : (g : Registers) → Ground g → (n : ℕ) → n ≤ tablesIn g → goodSets (tableSets (g .tables) n) ≡ true
 unfolding tableSets goodSets
-tables-good g f zero = refl
-tables-good g f (suc n) =
+tables-good g f zero k = refl
+tables-good g f (suc n) k =
     let short = row-short (g .tables) (suc n) in
-    good-append (tableSets (g .tables) n) _ (tables-good g f n) (rw (table-good (suc n) (rowOf (g .tables) (suc n)) (omega arith) (row-good g f (suc n))))
+    good-append (tableSets (g .tables) n) _ (tables-good g f n (omega arith))
+    (rw (table-good (suc n) (rowOf (g .tables) (suc n)) (omega arith) (row-zones (tablesIn g) (g .tables) (f .tables) n (omega arith))))
 
 facts-good : (g : Registers) → Ground g → goodSets (factSets (g .facts .serial) (g .clock) (g .account)) ≡ true
 unfolding factSets goodSets
@@ -123,11 +144,11 @@ energies-good g =
       energy-good 0 (c .total),
     )
 
-pub block-good : (tables : ℕ) (g : Registers) → registersGood g ≡ true → goodSets (blockSets tables g) ≡ true
+pub block-good : (g : Registers) → registersGood g ≡ true → goodSets (blockSets (tablesIn g) g) ≡ true
 unfolding blockSets
-block-good tables g h =
+block-good g h =
     let f = register-ground g h in
-    good-append _ _ (facts-good g f) (good-append _ _ (energies-good g) (tables-good g f tables))
+    good-append _ _ (facts-good g f) (good-append _ _ (energies-good g) (tables-good g f (tablesIn g) (omega arith)))
 
 -- [12]: and so are the closed periods
 period-sets-good : (k : ℕ) (p : Period) → goodSets (periodSets k p) ≡ true
@@ -146,34 +167,39 @@ unfolding archiveSets goodSets
 archive-sets-good k [] = refl
 archive-sets-good k (p ∷ ps) = good-append (periodSets k p) (archiveSets (k + 1) ps) (period-sets-good k p) (archive-sets-good (k + 1) ps)
 
-pub long-good : (tables : ℕ) (g : Registers) → registersGood g ≡ true → goodSets (longSets tables g) ≡ true
+pub long-good : (g : Registers) → registersGood g ≡ true → goodSets (longSets (tablesIn g) g) ≡ true
 unfolding longSets
-long-good tables g h = good-append (blockSets tables g) (archiveSets 1 (periodsOf (g .archive))) (block-good tables g h) (archive-sets-good 1 (periodsOf (g .archive)))
+long-good g h = good-append (blockSets (tablesIn g) g) (archiveSets 1 (periodsOf (g .archive))) (block-good g h) (archive-sets-good 1 (periodsOf (g .archive)))
 
--- the block is the lines of its data sets and `!` CR LF; of 24 tables, 33 data sets
+-- the block is the lines of its data sets and `!` CR LF; nine data sets, and one a table
 pub block-is-lines : (tables : ℕ) (g : Registers) → blockData tables g ≡ linesOf (blockSets tables g) ++ (33 ∷ 13 ∷ 10 ∷ [])
 unfolding blockData
 block-is-lines tables g = refl
 
-pub block-sets : (g : Registers) → length (blockSets tables g) ≡ 33
-unfolding blockSets factSets energySets tableSets
-block-sets g = refl
+table-sets : (rows : List ℕ) (n : ℕ) → length (tableSets rows n) ≡ n
+unfolding tableSets
+table-sets rows zero = refl
+table-sets rows (suc n) = length-append (tableSets rows n) _ ∙ omega (arith, table-sets rows n)
+
+pub block-sets : (tables : ℕ) (g : Registers) → length (blockSets tables g) ≡ 9 + tables
+unfolding blockSets factSets energySets
+block-sets tables g = omega (arith, table-sets (g .tables) tables)
 
 -- printable characters, CR and LF alone
-pub asked-shown : (g : Registers) (a : Ask) → registersGood g ≡ true → every (between 10 126) (askedData g a) ≡ true
+pub asked-shown : (g : Registers) (a : Ask) → registersGood g ≡ true → answerable (tablesIn g) a ≡ true → every (between 10 126) (askedData g a) ≡ true
 unfolding askedData
-asked-shown g a h = lines-shown (askedSets g a) (asked-good g a h)
+asked-shown g a h k = lines-shown (askedSets g a) (asked-good g a h k)
 
-pub block-shown : (tables : ℕ) (g : Registers) → registersGood g ≡ true → every (between 10 126) (blockData tables g) ≡ true
+pub block-shown : (g : Registers) → registersGood g ≡ true → every (between 10 126) (blockData (tablesIn g) g) ≡ true
 unfolding blockData
-block-shown tables g h =
-    every-append (between 10 126) (linesOf (blockSets tables g)) (33 ∷ 13 ∷ 10 ∷ []) (lines-shown (blockSets tables g) (block-good tables g h))
+block-shown g h =
+    every-append (between 10 126) (linesOf (blockSets (tablesIn g) g)) (33 ∷ 13 ∷ 10 ∷ []) (lines-shown (blockSets (tablesIn g) g) (block-good g h))
     (unfold every between in refl)
 
-pub long-shown : (tables : ℕ) (g : Registers) → registersGood g ≡ true → every (between 10 126) (longData tables g) ≡ true
+pub long-shown : (g : Registers) → registersGood g ≡ true → every (between 10 126) (longData (tablesIn g) g) ≡ true
 unfolding longData
-long-shown tables g h =
-    every-append (between 10 126) (linesOf (longSets tables g)) (33 ∷ 13 ∷ 10 ∷ []) (lines-shown (longSets tables g) (long-good tables g h))
+long-shown g h =
+    every-append (between 10 126) (linesOf (longSets (tablesIn g) g)) (33 ∷ 13 ∷ 10 ∷ []) (lines-shown (longSets (tablesIn g) g) (long-good g h))
     (unfold every between in refl)
 
 -- such a content has no ETX, and its block is characters
@@ -203,19 +229,24 @@ block-characters content h =
     rw (character-is 2 (omega arith))
     (every-append (between 0 127) (content ++ (3 ∷ [])) _ e (rw (character-is (bccOf (content ++ (3 ∷ []))) (bcc-lt (content ++ (3 ∷ []))))))
 
-pub asked-characters : (g : Registers) (a : Ask) → registersGood g ≡ true → every (between 0 127) (blockOf (askedData g a)) ≡ true
-asked-characters g a h = block-characters (askedData g a) (asked-shown g a h)
+pub asked-characters : (g : Registers) (a : Ask) → registersGood g ≡ true → answerable (tablesIn g) a ≡ true → every (between 0 127) (blockOf (askedData g a)) ≡ true
+asked-characters g a h k = block-characters (askedData g a) (asked-shown g a h k)
 
-pub data-block-characters : (tables : ℕ) (g : Registers) → registersGood g ≡ true → every (between 0 127) (blockOf (blockData tables g)) ≡ true
-data-block-characters tables g h = block-characters (blockData tables g) (block-shown tables g h)
+pub data-block-characters : (g : Registers) → registersGood g ≡ true → every (between 0 127) (blockOf (blockData (tablesIn g) g)) ≡ true
+data-block-characters g h = block-characters (blockData (tablesIn g) g) (block-shown g h)
 
-pub long-block-characters : (tables : ℕ) (g : Registers) → registersGood g ≡ true → every (between 0 127) (blockOf (longData tables g)) ≡ true
-long-block-characters tables g h = block-characters (longData tables g) (long-shown tables g h)
+pub long-block-characters : (g : Registers) → registersGood g ≡ true → every (between 0 127) (blockOf (longData (tablesIn g) g)) ≡ true
+long-block-characters g h = block-characters (longData (tablesIn g) g) (long-shown g h)
 
 -- the fixed sequences, by computing
-pub identification-characters : every (between 0 127) identification ≡ true
+identified-by : (two : Bool) → every (between 0 127) (cond two (chars "/ZZZ5SUB-VP02.00*\r\n") (chars "/ZZZ5SUB-VP01.00*\r\n")) ≡ true
 unfolding every between
-identification-characters = refl
+identified-by true = refl
+identified-by false = refl
+
+pub identification-characters : (edition : ℕ) → every (between 0 127) (identification edition) ≡ true
+unfolding identification
+identification-characters edition = identified-by (eqb edition 2)
 
 -- its BCC is 60 hex
 pub password-ask-is : passwordAsk ≡ 1 ∷ 80 ∷ 48 ∷ 2 ∷ 40 ∷ 48 ∷ 48 ∷ 48 ∷ 48 ∷ 41 ∷ 3 ∷ 96 ∷ []

@@ -10,7 +10,7 @@ use lib.Seq.{take-suc, length-take-le}
 use Rattle.text.specs.Writing.{stored}
 use Rattle.state.specs.declared.Period.{Period}
 use Rattle.state.specs.declared.Registers.{Registers}
-use Rattle.state.specs.Sizes.{tables, periodPlaces}
+use Rattle.state.specs.Sizes.{periodPlaces}
 use Rattle.state.specs.Closing.{periodsOf}
 use Rattle.frames.specs.Frames.{blockOf}
 use Rattle.frames.proofs.Sealing.{block-length}
@@ -45,20 +45,20 @@ archive-long k (p ∷ ps) =
     rw (lines-append (periodSets k p) (archiveSets (k + 1) ps), length-append (linesOf (periodSets k p)) (linesOf (archiveSets (k + 1) ps)))
     (omega (arith, period-long k p, archive-long (k + 1) ps))
 
-pub kept-many : (g : Registers) → Lengths tables g → length (periodsOf (g .archive)) ≡ g .archive .count
+pub kept-many : (tables : ℕ) (g : Registers) → Lengths tables g → length (periodsOf (g .archive)) ≡ g .archive .count
 unfolding periodsOf
-kept-many g h = length-take-le (g .archive .count) (g .archive .periods) (omega (arith, h .kept, h .places))
+kept-many tables g h = length-take-le (g .archive .count) (g .archive .periods) (omega (arith, h .kept, h .places))
 
-pub long-content : (g : Registers) → Lengths tables g → length (longData tables g) ≡ 1060 + g .archive .count * 134
+pub long-content : (tables : ℕ) (g : Registers) → Lengths tables g → length (longData tables g) ≡ 196 + tables * 36 + g .archive .count * 134
 unfolding longData longSets
-long-content g h =
+long-content tables g h =
     let b = blockSets tables g in
     let p = archiveSets 1 (periodsOf (g .archive)) in
     length-append (linesOf (b ++ p)) (33 ∷ 13 ∷ 10 ∷ [])
-    ∙ rw (lines-append b p, length-append (linesOf b) (linesOf p)) (omega (arith, sets-long tables g h, archive-long 1 (periodsOf (g .archive)), kept-many g h))
+    ∙ rw (lines-append b p, length-append (linesOf b) (linesOf p)) (omega (arith, sets-long tables g h, archive-long 1 (periodsOf (g .archive)), kept-many tables g h))
 
-pub long-block-long : (g : Registers) → Lengths tables g → length (blockOf (longData tables g)) ≡ 1063 + g .archive .count * 134
-long-block-long g h = block-length (longData tables g) ∙ omega (arith, long-content g h)
+pub long-block-long : (tables : ℕ) (g : Registers) → Lengths tables g → length (blockOf (longData tables g)) ≡ 199 + tables * 36 + g .archive .count * 134
+long-block-long tables g h = block-length (longData tables g) ∙ omega (arith, long-content tables g h)
 
 -- one more period at the end has the next number
 archive-more : (k : ℕ) (ps : List Period) (p : Period) → archiveSets k (ps ++ (p ∷ [])) ≡ archiveSets k ps ++ periodSets (k + length ps) p
@@ -87,16 +87,16 @@ next-period ps d buf at i place mid next after h l q e =
     (record { next = omega (arith, q, period-long (i + 1) p); held = e }))
 
 -- the block's lines and then the periods', put in one after the other
-pub all-put-long : (g : Registers) (buf : List ℕ) (at p1 : ℕ) (b1 : List ℕ) (p2 : ℕ) (b2 : List ℕ) → Lengths tables g
-    → p1 ≡ at + 1057 → b1 ≡ stored buf at (linesOf (blockSets tables g))
+pub all-put-long : (tables : ℕ) (g : Registers) (buf : List ℕ) (at p1 : ℕ) (b1 : List ℕ) (p2 : ℕ) (b2 : List ℕ) → Lengths tables g
+    → p1 ≡ at + 193 + tables * 36 → b1 ≡ stored buf at (linesOf (blockSets tables g))
     → p2 ≡ p1 + g .archive .count * 134 → b2 ≡ stored b1 p1 (linesOf (archiveSets 1 (periodsOf (g .archive))))
     → Lines buf at (longSets tables g) p2 b2
 unfolding longSets
-all-put-long g buf at p1 b1 p2 b2 h q1 e1 q2 e2 =
+all-put-long tables g buf at p1 b1 p2 b2 h q1 e1 q2 e2 =
     let kept = periodsOf (g .archive) in
     joined (blockSets tables g) (archiveSets 1 kept) buf at p1 b1 p2 b2
     (record { next = omega (arith, q1, sets-long tables g h); held = e1 })
-    (record { next = omega (arith, q2, archive-long 1 kept, kept-many g h); held = e2 })
+    (record { next = omega (arith, q2, archive-long 1 kept, kept-many tables g h); held = e2 })
 
-pub placed : (end start long more : ℕ) → end ≡ start + 1060 + more → long ≡ 1060 + more → end ≡ start + long
-placed end start long more e n = omega (arith, e, n)
+pub placed : (end start long block more : ℕ) → end ≡ start + 196 + block + more → long ≡ 196 + block + more → end ≡ start + long
+placed end start long block more e n = omega (arith, e, n)

@@ -1,4 +1,4 @@
--- How long each answer is; the data block is 1,063 characters. Sums over the lines. Assumes nothing.
+-- How long each answer is. Sums over the lines. Assumes nothing.
 use mathlib.Core.Path.{_≡_, refl, sym, ap, ap₂, _∙_}
 use mathlib.Core.List.{List, [], _∷_, _++_}
 use Prim.Native.Nat.{ℕ, zero, suc, _+_, _-_, _*_, _≤_, _<_}
@@ -13,7 +13,7 @@ use Rattle.values.specs.declared.Energy.{Energy}
 use Rattle.values.specs.Registers.{energyNo}
 use Rattle.state.specs.declared.Counters.{Counters}
 use Rattle.state.specs.declared.Registers.{Registers}
-use Rattle.state.specs.Sizes.{rowLength, tables}
+use Rattle.state.specs.Sizes.{rowLength}
 use Rattle.state.specs.Setting.{rowStart, counterOf}
 use Rattle.frames.specs.Frames.{blockOf}
 use Rattle.frames.proofs.Sealing.{block-length}
@@ -95,7 +95,7 @@ sets-long tables g h =
       b,
       facts-long (g .facts .serial) (g .clock) (g .account) (h .serial) (h .account),
       energies-long (g .counters),
-      tables-long (g .tables) tables (omega (arith, h .rows)),
+      tables-long (g .tables) tables (omega (arith, h .rows, h .few)),
     )
 
 pub content-long : (tables : ℕ) (g : Registers) → Lengths tables g → length (blockData tables g) ≡ 196 + tables * 36
@@ -103,9 +103,9 @@ unfolding blockData
 content-long tables g h =
     length-append (linesOf (blockSets tables g)) (33 ∷ 13 ∷ 10 ∷ []) ∙ omega (arith, sets-long tables g h)
 
--- document 01: it is 1,063 characters
-pub block-long : (g : Registers) → Lengths tables g → length (blockOf (blockData tables g)) ≡ 1063
-block-long g h = block-length (blockData tables g) ∙ omega (arith, content-long tables g h)
+-- of 24 tables it is 1,063 characters, of 25 tables 1,099
+pub block-long : (tables : ℕ) (g : Registers) → Lengths tables g → length (blockOf (blockData tables g)) ≡ 199 + tables * 36
+block-long tables g h = block-length (blockData tables g) ∙ omega (arith, content-long tables g h)
 
 one-long : (s : DataSet) → length (linesOf (s ∷ [])) ≡ length (lineOf s)
 unfolding linesOf
@@ -115,15 +115,15 @@ pub clock-long : (t : Time) (d : Date) → length (linesOf (timeSet t ∷ dateSe
 clock-long t d = lines-cons (timeSet t) (dateSet d ∷ []) ∙ omega (arith, one-long (dateSet d), time-line t, date-line d)
 
 -- an answer to R1 has at most 36 characters of data
-pub asked-short : (g : Registers) (a : Ask) → Lengths tables g → length (askedData g a) ≤ 36
+pub asked-short : (tables : ℕ) (g : Registers) (a : Ask) → Lengths tables g → length (askedData g a) ≤ 36
 unfolding askedData askedSets linesOf
-asked-short g ask.Clock h = omega (arith, clock-long (g .clock .time) (g .clock .date))
-asked-short g ask.Serial h = omega (arith, one-long (serialSet (g .facts .serial)), serial-line (g .facts .serial) (h .serial))
-asked-short g ask.Account h = omega (arith, one-long (accountSet (g .account)), account-line (g .account) (h .account))
-asked-short g (ask.Energy e) h =
+asked-short tables g ask.Clock h = omega (arith, clock-long (g .clock .time) (g .clock .date))
+asked-short tables g ask.Serial h = omega (arith, one-long (serialSet (g .facts .serial)), serial-line (g .facts .serial) (h .serial))
+asked-short tables g ask.Account h = omega (arith, one-long (accountSet (g .account)), account-line (g .account) (h .account))
+asked-short tables g (ask.Energy e) h =
     let wh = energy (g .counters) e in
     omega (arith, one-long (energySet (energyNo e) wh), energy-line (energyNo e) wh)
-asked-short g (ask.Table t) h =
+asked-short tables g (ask.Table t) h =
     let row = rowOf (g .tables) (t .0) in
     omega (arith, one-long (tableSet (t .0) row), table-line (t .0) row, row-short (g .tables) (t .0))
 
@@ -151,13 +151,13 @@ module _ (g : Registers) (a : Ask) (buf : List ℕ) (at place : ℕ) (after : Li
       asked g a (s ∷ []) buf at place after (ap (askedSets g) told) (single s (12 + length row) buf at place after (table-line (t .0) row) (omega arith) q)
 
 -- facts, energies and tables, put in one after the other, are the block's lines
-pub all-put : (g : Registers) (buf : List ℕ) (at : ℕ) (b1 : List ℕ) (p1 : ℕ) (b2 : List ℕ) (p2 : ℕ) (b3 : List ℕ) (p3 : ℕ)
+pub all-put : (tables : ℕ) (g : Registers) (buf : List ℕ) (at : ℕ) (b1 : List ℕ) (p1 : ℕ) (b2 : List ℕ) (p2 : ℕ) (b3 : List ℕ) (p3 : ℕ)
     → Lengths tables g → p1 ≡ at + 73 → b1 ≡ stored buf at (linesOf (factSets (g .facts .serial) (g .clock) (g .account)))
     → p2 ≡ p1 + 120 → b2 ≡ stored b1 p1 (linesOf (energySets (g .counters)))
-    → p3 ≡ p2 + 864 → b3 ≡ stored b2 p2 (linesOf (tableSets (g .tables) tables))
+    → p3 ≡ p2 + tables * 36 → b3 ≡ stored b2 p2 (linesOf (tableSets (g .tables) tables))
     → Lines buf at (blockSets tables g) p3 b3
 unfolding blockSets
-all-put g buf at b1 p1 b2 p2 b3 p3 h q1 e1 q2 e2 q3 e3 =
+all-put tables g buf at b1 p1 b2 p2 b3 p3 h q1 e1 q2 e2 q3 e3 =
     let f = factSets (g .facts .serial) (g .clock) (g .account) in
     let e = energySets (g .counters) in
     let t = tableSets (g .tables) tables in
@@ -165,8 +165,12 @@ all-put g buf at b1 p1 b2 p2 b3 p3 h q1 e1 q2 e2 q3 e3 =
     record { next = omega (arith, facts-long (g .facts .serial) (g .clock) (g .account) (h .serial) (h .account)); held = e1 } in
     let energies : Lines b1 p1 e p2 b2 = record { next = omega (arith, energies-long (g .counters)); held = e2 } in
     let rows : Lines b2 p2 t p3 b3 =
-    record { next = omega (arith, tables-long (g .tables) tables (omega (arith, h .rows))); held = e3 } in
+    record { next = omega (arith, tables-long (g .tables) tables (omega (arith, h .rows, h .few))); held = e3 } in
     joined f (e ++ t) buf at p1 b1 p3 b3 facts (joined e t b1 p1 p2 b2 p3 b3 energies rows)
+
+-- where the data end, from how long they are
+pub put-at : (end start long rows : ℕ) → end ≡ start + 196 + rows → long ≡ 196 + rows → end ≡ start + long
+put-at end start long rows e n = omega (arith, e, n)
 
 -- lines and the end of them
 pub ended : (sets : List DataSet) (buf : List ℕ) (at place : ℕ) (mid after : List ℕ) → Lines buf at sets place mid
@@ -174,5 +178,5 @@ pub ended : (sets : List DataSet) (buf : List ℕ) (at place : ℕ) (mid after :
 ended sets buf at place mid after l e = and-then buf at (linesOf sets) mid place (33 ∷ 13 ∷ 10 ∷ []) after (l .held) (l .next) e
 
 -- so every answer to R1 fits, with STX, ETX and BCC
-pub asked-fits : (g : Registers) (a : Ask) → Lengths tables g → length (blockOf (askedData g a)) ≤ 39
-asked-fits g a h = rw (block-length (askedData g a)) (omega (arith, asked-short g a h))
+pub asked-fits : (tables : ℕ) (g : Registers) (a : Ask) → Lengths tables g → length (blockOf (askedData g a)) ≤ 39
+asked-fits tables g a h = rw (block-length (askedData g a)) (omega (arith, asked-short tables g a h))

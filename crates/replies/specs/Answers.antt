@@ -1,7 +1,8 @@
 -- Document 01, "Deciding a frame": what is asked by R1, and the data of the answer.
+use mathlib.Core.Bool.{Bool, true}
 use mathlib.Core.List.{List, [], _∷_}
 use Prim.Native.Nat.{ℕ}
-use Rattle.values.specs.Registers.{energyNo}
+use Rattle.values.specs.Registers.{energyNo, goodTable}
 use Rattle.state.specs.declared.Registers.{Registers}
 use Rattle.datasets.specs.Sets.{DataSet, linesOf, timeSet, dateSet, serialSet, accountSet, energySet, tableSet}
 use Rattle.replies.specs.declared.Ask.{Ask}
@@ -19,3 +20,11 @@ askedSets g (Table t) = tableSet (t .0) (rowOf (g .tables) (t .0)) ∷ []
 -- each line ends CR LF
 unfoldable pub askedData : Registers → Ask → List ℕ
 askedData g a = linesOf (askedSets g a)
+
+-- a table that is asked for is one of so many
+unfoldable pub answerable : ℕ → Ask → Bool
+answerable tables (Table t) = goodTable tables (t .0)
+answerable tables Clock = true
+answerable tables Serial = true
+answerable tables Account = true
+answerable tables (Energy e) = true

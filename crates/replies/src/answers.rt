@@ -3,7 +3,7 @@ ghost use mathlib.Core.Path.{_≡_};
 ghost use mathlib.Core.List.{[], _∷_};
 ghost use Prim.Native.Nat.{_+_, _≤_};
 ghost use lib.ListN.{length};
-ghost use Rattle.state.specs.Sizes.{tables};
+ghost use Rattle.state.specs.WellFormed.{tablesIn};
 ghost use Rattle.text.specs.Writing.{stored};
 ghost use Rattle.datasets.specs.Sets.{lineOf, linesOf, timeSet, dateSet, tableSet};
 ghost use Rattle.replies.specs.Shown.{Lengths, energy, rowOf};
@@ -56,7 +56,7 @@ fn put_asked_table(buf: &mut [u8], at: usize, rows: &[u8], t: TableNo) -> usize
 
 // The data that R1 asks for.
 pub fn put_asked(buf: &mut [u8], at: usize, g: Registers, a: Ask) -> usize
-    requires { ⌜ Lengths tables g × (at + 36 ≤ length (now buf)) ⌝ }
+    requires { ⌜ Lengths (tablesIn g) g × (at + 36 ≤ length (now buf)) ⌝ }
     ensures next { λ r. ⌜ r ≡ at + length (askedData g a) ⌝ }
     ensures held { λ _. ⌜ now (buf .exit) ≡ stored (now (buf .entry)) at (askedData g a) ⌝ }
 {

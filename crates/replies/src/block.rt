@@ -3,7 +3,7 @@ ghost use mathlib.Core.Path.{_≡_};
 ghost use Prim.Native.Nat.{_+_, _*_, _≤_};
 ghost use lib.ListN.{length, take};
 ghost use Rattle.text.specs.Writing.{stored};
-ghost use Rattle.state.specs.Sizes.{tables, rowLength, periodPlaces};
+ghost use Rattle.state.specs.Sizes.{tablePlaces, rowLength, periodPlaces};
 ghost use Rattle.datasets.specs.Sets.{linesOf};
 ghost use Rattle.replies.specs.Shown.{Lengths};
 ghost use Rattle.replies.specs.Block.{factSets, energySets, tableSets, blockSets, blockData};
@@ -15,7 +15,6 @@ use state::Period;
 use state::Registers;
 use values::Energy;
 use values::ROW_LENGTH;
-use values::TABLES;
 use values::TableNo;
 use values::ZoneNo;
 
@@ -45,15 +44,15 @@ fn put_energies(buf: &mut [u8], at: usize, c: Counters) -> usize
     datasets::put_energy_set(buf, s, Energy::Total, c.total)
 }
 
-// Tables 01 to 24.
-fn put_tables(buf: &mut [u8], at: usize, rows: &[u8]) -> usize
-    requires { ⌜ (length (now rows) ≡ tables * rowLength) × (at + 864 ≤ length (now buf)) ⌝ }
-    ensures next { λ r. ⌜ r ≡ at + 864 ⌝ }
+// So many tables, from 01 on.
+fn put_tables(buf: &mut [u8], at: usize, rows: &[u8], tables: u8) -> usize
+    requires { ⌜ (length (now rows) ≡ tablePlaces * rowLength) × ((at + tables * 36 ≤ length (now buf)) × (tables ≤ tablePlaces)) ⌝ }
+    ensures next { λ r. ⌜ r ≡ at + tables * 36 ⌝ }
     ensures held { λ _. ⌜ now (buf .exit) ≡ stored (now (buf .entry)) at (linesOf (tableSets (now (rows .entry)) tables)) ⌝ }
 {
     let mut i: u8 = 0;
     let mut place = at;
-    while i < TABLES {
+    while i < tables {
         let from = i as usize * ROW_LENGTH;
         let to = from + ROW_LENGTH;
         place = datasets::put_table_set(buf, place, TableNo(i + 1), &rows[from..to]);
@@ -63,9 +62,9 @@ fn put_tables(buf: &mut [u8], at: usize, rows: &[u8]) -> usize
 }
 
 // All of these.
-fn put_sets(buf: &mut [u8], at: usize, g: Registers) -> usize
-    requires { ⌜ Lengths tables g × (at + 1057 ≤ length (now buf)) ⌝ }
-    ensures next { λ r. ⌜ r ≡ at + 1057 ⌝ }
+fn put_sets(buf: &mut [u8], at: usize, g: Registers, tables: u8) -> usize
+    requires { ⌜ Lengths tables g × (at + 193 + tables * 36 ≤ length (now buf)) ⌝ }
+    ensures next { λ r. ⌜ r ≡ at + 193 + tables * 36 ⌝ }
     ensures held { λ _. ⌜ now (buf .exit) ≡ stored (now (buf .entry)) at (linesOf (blockSets tables g)) ⌝ }
 {
     let f = g.facts;
@@ -74,16 +73,16 @@ fn put_sets(buf: &mut [u8], at: usize, g: Registers) -> usize
     let rows = g.tables;
     let a = put_facts(buf, at, &serial, g.clock, &account);
     let b = put_energies(buf, a, g.counters);
-    put_tables(buf, b, &rows)
+    put_tables(buf, b, &rows, tables)
 }
 
 // And the line that ends them.
-pub fn put_block(buf: &mut [u8], at: usize, g: Registers) -> usize
-    requires { ⌜ Lengths tables g × (at + 1060 ≤ length (now buf)) ⌝ }
-    ensures next { λ r. ⌜ r ≡ at + 1060 ⌝ }
+pub fn put_block(buf: &mut [u8], at: usize, g: Registers, tables: u8) -> usize
+    requires { ⌜ Lengths tables g × (at + 196 + tables * 36 ≤ length (now buf)) ⌝ }
+    ensures next { λ r. ⌜ r ≡ at + 196 + tables * 36 ⌝ }
     ensures held { λ _. ⌜ now (buf .exit) ≡ stored (now (buf .entry)) at (blockData tables g) ⌝ }
 {
-    let a = put_sets(buf, at, g);
+    let a = put_sets(buf, at, g, tables);
     text::put(buf, a, b"!\r\n")
 }
 
@@ -118,14 +117,14 @@ fn put_periods(buf: &mut [u8], at: usize, periods: [Period; PERIODS], count: usi
 }
 
 // The block with the closed periods after its tables.
-pub fn put_long_block(buf: &mut [u8], at: usize, g: Registers) -> usize
-    requires { ⌜ Lengths tables g × (at + 1060 + g .archive .count * 134 ≤ length (now buf)) ⌝ }
-    ensures next { λ r. ⌜ r ≡ at + 1060 + g .archive .count * 134 ⌝ }
+pub fn put_long_block(buf: &mut [u8], at: usize, g: Registers, tables: u8) -> usize
+    requires { ⌜ Lengths tables g × (at + 196 + tables * 36 + g .archive .count * 134 ≤ length (now buf)) ⌝ }
+    ensures next { λ r. ⌜ r ≡ at + 196 + tables * 36 + g .archive .count * 134 ⌝ }
     ensures held { λ _. ⌜ now (buf .exit) ≡ stored (now (buf .entry)) at (longData tables g) ⌝ }
 {
     let archive = g.archive;
     let periods = archive.periods;
-    let a = put_sets(buf, at, g);
+    let a = put_sets(buf, at, g, tables);
     let b = put_periods(buf, a, periods, archive.count as usize);
     text::put(buf, b, b"!\r\n")
 }

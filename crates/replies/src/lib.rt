@@ -6,7 +6,8 @@ ghost use lib.ListN.{length};
 ghost use Rattle.text.specs.Writing.{holding};
 ghost use Rattle.frames.specs.Frames.{blockOf, onWire};
 ghost use Rattle.frames.specs.Session.{wiredAnswer};
-ghost use Rattle.state.specs.Sizes.{tables, replyRoom};
+ghost use Rattle.state.specs.Sizes.{replyRoom};
+ghost use Rattle.state.specs.WellFormed.{tablesIn};
 ghost use Rattle.replies.specs.Shown.{Lengths};
 ghost use Rattle.replies.specs.Answers.{askedData};
 ghost use Rattle.replies.specs.Block.{blockData};
@@ -39,12 +40,15 @@ fn send(buf: &mut [u8], s: &[u8]) -> usize
     n
 }
 
-// The identification, which answers a sign-on.
-pub fn identify(buf: &mut [u8]) -> usize
+// The identification of an edition, which answers a sign-on.
+pub fn identify(buf: &mut [u8], edition: u8) -> usize
     requires { ⌜ 19 ≤ length (now buf) ⌝ }
-    ensures whole { λ r. ⌜ r ≡ 19 ⌝ }
-    ensures held { λ _. ⌜ now (buf .exit) ≡ holding (now (buf .entry)) (onWire identification) ⌝ }
+    ensures whole { λ r. ⌜ r ≡ length (identification edition) ⌝ }
+    ensures held { λ _. ⌜ now (buf .exit) ≡ holding (now (buf .entry)) (onWire (identification edition)) ⌝ }
 {
+    if edition == 2 {
+        return send(buf, b"/ZZZ5SUB-VP02.00*\r\n");
+    }
     send(buf, b"/ZZZ5SUB-VP01.00*\r\n")
 }
 
@@ -88,7 +92,7 @@ pub fn ask_password(buf: &mut [u8]) -> usize
 
 // The answer to R1.
 pub fn answer(buf: &mut [u8], g: Registers, a: Ask) -> usize
-    requires { ⌜ Lengths tables g × (replyRoom ≤ length (now buf)) ⌝ }
+    requires { ⌜ Lengths (tablesIn g) g × (replyRoom ≤ length (now buf)) ⌝ }
     ensures whole { λ r. ⌜ r ≡ length (blockOf (askedData g a)) ⌝ }
     ensures held { λ _. ⌜ now (buf .exit) ≡ holding (now (buf .entry)) (onWire (blockOf (askedData g a))) ⌝ }
 {
@@ -97,24 +101,24 @@ pub fn answer(buf: &mut [u8], g: Registers, a: Ask) -> usize
     frames::seal(buf, end)
 }
 
-// The data block.
-pub fn data_block(buf: &mut [u8], g: Registers) -> usize
+// The data block, with so many tables.
+pub fn data_block(buf: &mut [u8], g: Registers, tables: u8) -> usize
     requires { ⌜ Lengths tables g × (replyRoom ≤ length (now buf)) ⌝ }
-    ensures whole { λ r. ⌜ r ≡ 1063 ⌝ }
+    ensures whole { λ r. ⌜ r ≡ 199 + tables * 36 ⌝ }
     ensures held { λ _. ⌜ now (buf .exit) ≡ holding (now (buf .entry)) (onWire (blockOf (blockData tables g))) ⌝ }
 {
     let start = text::put(buf, 0, b"\x02");
-    let end = block::put_block(buf, start, g);
+    let end = block::put_block(buf, start, g, tables);
     frames::seal(buf, end)
 }
 
 // The data block with the closed periods.
-pub fn long_block(buf: &mut [u8], g: Registers) -> usize
+pub fn long_block(buf: &mut [u8], g: Registers, tables: u8) -> usize
     requires { ⌜ Lengths tables g × (replyRoom ≤ length (now buf)) ⌝ }
-    ensures whole { λ r. ⌜ r ≡ 1063 + g .archive .count * 134 ⌝ }
+    ensures whole { λ r. ⌜ r ≡ 199 + tables * 36 + g .archive .count * 134 ⌝ }
     ensures held { λ _. ⌜ now (buf .exit) ≡ holding (now (buf .entry)) (onWire (blockOf (longData tables g))) ⌝ }
 {
     let start = text::put(buf, 0, b"\x02");
-    let end = block::put_long_block(buf, start, g);
+    let end = block::put_long_block(buf, start, g, tables);
     frames::seal(buf, end)
 }

@@ -10,7 +10,7 @@ use lib.ListN.{length, replicate}
 use Rattle.line.proofs.Runs.{and-left, and-right}
 use Rattle.text.specs.Writing.{holding}
 use Rattle.text.specs.Classes.{between}
-use Rattle.values.specs.Edition.{editionTables}
+use Rattle.values.specs.Edition.{tablesOf}
 use Rattle.values.specs.Registers.{goodSerial, goodPassword, goodZone}
 use Rattle.commands.specs.Spoken.{Command, readTotal, readZone, goodFields}
 use Rattle.values.proofs.Rules.{digits-long}
@@ -26,7 +26,7 @@ module _ (s : Session) (good : sessionGood s ≡ true) where
   placed : placeGood (s .count) (s .sent) ≡ true
   unfolding sessionGood
   placed =
-      let told = sessionTold s && workGood (s .work) (s .access) (s .count) in
+      let told = sessionTold s && workGood (tablesOf (s .edition)) (s .work) (s .access) (s .count) in
       let stands = factGood (s .count) (s .sent) (s .fact) in
       and-left (placeGood (s .count) (s .sent)) stands (and-right told (placeGood (s .count) (s .sent) && stands) good)
 
@@ -82,10 +82,10 @@ module _ (buf command after : List ℕ) (good : Bool) (r : Built) (b : Builds bu
       (e, rw e at held-is)
 
 -- an energy is the total or a zone
-pub energy-good : (n : ℕ) (b : Bool) → (b || goodZone n) ≡ goodFields editionTables (cond b readTotal (readZone n))
+pub energy-good : (tables n : ℕ) (b : Bool) → (b || goodZone n) ≡ goodFields tables (cond b readTotal (readZone n))
 unfolding goodFields
-energy-good n true = refl
-energy-good n false = refl
+energy-good tables n true = refl
+energy-good tables n false = refl
 
 -- a builder with room and good fields
 module _ (buf command after : List ℕ) (good : Bool) (r : Built) (b : Builds buf good command r after) (room : 64 ≤ length buf) (e : good ≡ true) where
@@ -108,13 +108,13 @@ serial-long flag s h e = digits-long 10 s (told-is flag (goodSerial s) h e)
 pub password-long : (flag : ℕ) (s : List ℕ) → toldGood flag (goodPassword s) ≡ true → flag ≡ 1 → length s ≡ 8
 password-long flag s h e = digits-long 8 s (told-is flag (goodPassword s) h e)
 
-call-by : (k : Bool) (flag : ℕ) (serial other : List ℕ) → eqb flag 1 ≡ k → toldGood flag (goodSerial serial) ≡ true
-    → goodMessage editionTables (cond k (callTo (cond k serial other)) call) ≡ true
+call-by : (tables : ℕ) (k : Bool) (flag : ℕ) (serial other : List ℕ) → eqb flag 1 ≡ k → toldGood flag (goodSerial serial) ≡ true
+    → goodMessage tables (cond k (callTo (cond k serial other)) call) ≡ true
 unfolding goodMessage
-call-by true flag serial other e h = told-is flag (goodSerial serial) h (eqb-true flag 1 e)
-call-by false flag serial other e h = refl
+call-by tables true flag serial other e h = told-is flag (goodSerial serial) h (eqb-true flag 1 e)
+call-by tables false flag serial other e h = refl
 
 -- so the sign-on can be built
-pub call-good : (t : Told) (count : ℕ) → toldGood (t .named) (goodSerial (t .serial)) ≡ true → goodMessage editionTables (calling (sessionOf t count)) ≡ true
+pub call-good : (t : Told) (count : ℕ) → toldGood (t .named) (goodSerial (t .serial)) ≡ true → goodMessage (tablesOf (t .edition)) (calling (sessionOf t count)) ≡ true
 unfolding calling sessionOf
-call-good t count h = call-by (eqb (t .named) 1) (t .named) (t .serial) (replicate 10 0) refl h
+call-good t count h = call-by (tablesOf (t .edition)) (eqb (t .named) 1) (t .named) (t .serial) (replicate 10 0) refl h

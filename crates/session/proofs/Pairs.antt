@@ -6,7 +6,6 @@ use Prim.Native.Nat.{ℕ, suc, _+_, _≤_, _<_}
 use native.Mathlib.Omega.{arith}
 use lib.ListN.{length, getD, drop, drop-of-length-le}
 use lib.Seq.{drop-cons}
-use Rattle.values.specs.Edition.{editionTables}
 use Rattle.commands.specs.Spoken.{goodFields}
 use Rattle.session.specs.Messages.{readOf, readsGood}
 
@@ -31,18 +30,18 @@ and-all : (a : Bool) → (a && true) ≡ a
 and-all true = refl
 and-all false = refl
 
-module _ (work : List ℕ) (i : ℕ) (good whole : Bool) (so : (good && readsGood (drop i work)) ≡ whole) where
+module _ (tables : ℕ) (work : List ℕ) (i : ℕ) (good whole : Bool) (so : (good && readsGood tables (drop i work)) ≡ whole) where
   pub reads-turn : i + 2 ≤ length work
-      → ((good && goodFields editionTables (readOf (getD work i 0) (getD work (i + 1) 0))) && readsGood (drop (i + 2) work)) ≡ whole
+      → ((good && goodFields tables (readOf (getD work i 0) (getD work (i + 1) 0))) && readsGood tables (drop (i + 2) work)) ≡ whole
   unfolding readsGood
   reads-turn h =
-      and-assoc good (goodFields editionTables (readOf (getD work i 0) (getD work (i + 1) 0))) (readsGood (drop (i + 2) work))
-      ∙ ap (λ (l : List ℕ). good && readsGood l) (sym (two-more work i h)) ∙ so
+      and-assoc good (goodFields tables (readOf (getD work i 0) (getD work (i + 1) 0))) (readsGood tables (drop (i + 2) work))
+      ∙ ap (λ (l : List ℕ). good && readsGood tables l) (sym (two-more work i h)) ∙ so
 
   pub reads-odd : i < length work → length work < i + 2 → false ≡ whole
   unfolding readsGood
-  reads-odd h k = sym (and-nothing good) ∙ ap (λ (l : List ℕ). good && readsGood l) (sym (one-more work i h k)) ∙ so
+  reads-odd h k = sym (and-nothing good) ∙ ap (λ (l : List ℕ). good && readsGood tables l) (sym (one-more work i h k)) ∙ so
 
   pub reads-end : length work ≤ i → good ≡ whole
   unfolding readsGood
-  reads-end h = sym (and-all good) ∙ ap (λ (l : List ℕ). good && readsGood l) (sym (drop-of-length-le work h)) ∙ so
+  reads-end h = sym (and-all good) ∙ ap (λ (l : List ℕ). good && readsGood tables l) (sym (drop-of-length-le work h)) ∙ so

@@ -6,7 +6,7 @@ use lib.Dec.{eqb, leb}
 use lib.ListN.{getD, take, drop}
 use Rattle.line.specs.Quoted.{char, chars}
 use Rattle.text.specs.Classes.{sameText}
-use Rattle.values.specs.Edition.{editionTables, rowLength}
+use Rattle.values.specs.Edition.{tablesOf, rowLength}
 use Rattle.values.specs.Reading.{tableRead}
 use Rattle.commands.specs.Spoken.{Command, enter, password, readClock, readSerial, readAccount, readTotal, readZone, readTable, writeTable, goodFields}
 use Rattle.commands.specs.Messages.{Message, call, callTo, confirm, command, leave}
@@ -33,26 +33,26 @@ readOf letter n =
 unfoldable pub readAt : List ℕ → ℕ → Command
 readAt work i = readOf (getD work (i * 2) 0) (getD work (i * 2 + 1) 0)
 
--- the reads are such as the head can build
-unfoldable pub readsGood : List ℕ → Bool
-readsGood [] = true
-readsGood (letter ∷ []) = false
-readsGood (letter ∷ n ∷ more) = goodFields editionTables (readOf letter n) && readsGood more
+-- the reads are such as the head can build, of a meter with so many tables
+unfoldable pub readsGood : ℕ → List ℕ → Bool
+readsGood tables [] = true
+readsGood tables (letter ∷ []) = false
+readsGood tables (letter ∷ n ∷ more) = goodFields tables (readOf letter n) && readsGood tables more
 
 -- what stands in a post's line beside its number and its row
 unfoldable pub wholeLine : List ℕ → Bool
 wholeLine s = (sameText (take 6 s) (chars "131.0.") && eqb (getD s 8 0) (char "(")) && sameText (drop 33 s) (chars ")\r\n")
 
 -- its number and its row as a table write; another line asks for a table that is none
-unfoldable pub rowIn : List ℕ → Command
-rowIn s = cond (wholeLine s) (writeTable (tableRead editionTables (take 2 (drop 6 s)) .table .0) (take rowLength (drop 9 s))) (writeTable 0 [])
+unfoldable pub rowIn : ℕ → List ℕ → Command
+rowIn tables s = cond (wholeLine s) (writeTable (tableRead tables (take 2 (drop 6 s)) .table .0) (take rowLength (drop 9 s))) (writeTable 0 [])
 
 -- a post: its lines, 36 characters each
-unfoldable pub rowAt : List ℕ → ℕ → Command
-rowAt work i = rowIn (take 36 (drop (i * 36) work))
+unfoldable pub rowAt : ℕ → List ℕ → ℕ → Command
+rowAt tables work i = rowIn tables (take 36 (drop (i * 36) work))
 
 unfoldable pub workAt : Session → List ℕ → ℕ → Command
-workAt s work i = cond (eqb (s .work) 1) (rowAt work i) (readAt work i)
+workAt s work i = cond (eqb (s .work) 1) (rowAt (tablesOf (s .edition)) work i) (readAt work i)
 
 -- the message of a number, the sign-on being 1
 unfoldable pub messageAt : Session → List ℕ → ℕ → Message

@@ -5,7 +5,7 @@ use Prim.Native.Nat.{ℕ, _+_}
 use lib.Dec.{eqb, leb}
 use Rattle.line.specs.Runs.{every}
 use Rattle.text.specs.Classes.{between}
-use Rattle.values.specs.Edition.{editionTables}
+use Rattle.values.specs.Edition.{isEdition, tablesOf}
 use Rattle.values.specs.Registers.{goodSerial, goodPassword}
 use Rattle.session.specs.declared.Session.{Session}
 
@@ -18,8 +18,8 @@ unfoldable pub keptGood : ℕ → List ℕ → Bool
 keptGood flag s = eqb flag 1 || every (between 0 0) s
 
 -- a post needs a password, and has no more lines than there are tables
-unfoldable pub workGood : ℕ → ℕ → ℕ → Bool
-workGood work access count = eqb work 0 || (eqb work 1 && (eqb access 1 && leb count editionTables))
+unfoldable pub workGood : ℕ → ℕ → ℕ → ℕ → Bool
+workGood tables work access count = eqb work 0 || (eqb work 1 && (eqb access 1 && leb count tables))
 
 -- one to 32 messages of work; one of all messages was sent last
 unfoldable pub placeGood : ℕ → ℕ → Bool
@@ -29,12 +29,13 @@ placeGood count sent = (leb 1 count && leb count 32) && (leb 1 sent && leb sent 
 unfoldable pub factGood : ℕ → ℕ → ℕ → Bool
 factGood count sent fact = leb fact 4 && (not (eqb fact 1) || eqb sent (count + 4))
 
--- the serial and the password where they were told
+-- the edition, and the serial and the password where they were told
 unfoldable pub sessionTold : Session → Bool
 sessionTold s =
-    (toldGood (s .named) (goodSerial (s .serial)) && keptGood (s .named) (s .serial))
-    && (toldGood (s .access) (goodPassword (s .password)) && keptGood (s .access) (s .password))
+    isEdition (s .edition)
+    && ((toldGood (s .named) (goodSerial (s .serial)) && keptGood (s .named) (s .serial))
+    && (toldGood (s .access) (goodPassword (s .password)) && keptGood (s .access) (s .password)))
 
 unfoldable pub sessionGood : Session → Bool
 sessionGood s =
-    (sessionTold s && workGood (s .work) (s .access) (s .count)) && (placeGood (s .count) (s .sent) && factGood (s .count) (s .sent) (s .fact))
+    (sessionTold s && workGood (tablesOf (s .edition)) (s .work) (s .access) (s .count)) && (placeGood (s .count) (s .sent) && factGood (s .count) (s .sent) (s .fact))

@@ -4,7 +4,7 @@ use mathlib.Core.List.{List, []}
 use Prim.Native.Nat.{ℕ, _+_, _-_, _*_}
 use lib.Dec.{eqb, leb, ltb}
 use lib.ListN.{length, getD}
-use Rattle.values.specs.Edition.{editionTables}
+use Rattle.values.specs.Edition.{tablesOf}
 use Rattle.commands.specs.Spoken.{goodFields}
 use Rattle.commands.specs.Messages.{textOf, goodMessage}
 use Rattle.judging.specs.Right.{identifies, asksPassword, accepts, refuses, answers}
@@ -28,7 +28,7 @@ stepOf t = record { number = t .number; fact = t .fact; message = t .message; le
 -- the session with another message sent, or with a fact that ends it
 abbrev pub standing : Session → ℕ → ℕ → Session
 standing s sent fact =
-    record { serial = s .serial; password = s .password; named = s .named; access = s .access; work = s .work; count = s .count; sent = sent; fact = fact }
+    record { serial = s .serial; password = s .password; named = s .named; access = s .access; work = s .work; count = s .count; sent = sent; fact = fact; edition = s .edition }
 
 -- 19, 31: nothing changed
 abbrev pub unturned : ℕ → Session → Turn
@@ -44,17 +44,17 @@ goesOn s work =
     record { number = 1; fact = 0; message = s .sent + 1; text = textOf (messageAt s work (s .sent + 1)); next = standing s (s .sent + 1) 0 }
 
 -- a block with what a read asked for; a read that the head can't build has no right reply
-unfoldable pub rightRead : ℕ → ℕ → List ℕ → Bool
-rightRead letter n reply = goodFields editionTables (readOf letter n) && answers letter n reply
+unfoldable pub rightRead : ℕ → ℕ → ℕ → List ℕ → Bool
+rightRead tables letter n reply = goodFields tables (readOf letter n) && answers letter n reply
 
 -- ACK for a table write; for a read a block with what was asked
 unfoldable pub rightWork : Session → List ℕ → ℕ → List ℕ → Bool
-rightWork s work i reply = cond (eqb (s .work) 1) (accepts reply) (rightRead (getD work (i * 2) 0) (getD work (i * 2 + 1) 0) reply)
+rightWork s work i reply = cond (eqb (s .work) 1) (accepts reply) (rightRead (tablesOf (s .edition)) (getD work (i * 2) 0) (getD work (i * 2 + 1) 0) reply)
 
 -- the right reply to the message of a number
 unfoldable pub rightAt : Session → List ℕ → ℕ → List ℕ → Bool
 rightAt s work n reply =
-    cond (eqb n 1) (identifies reply)
+    cond (eqb n 1) (identifies (s .edition) reply)
     (cond (eqb n 2) (asksPassword reply)
     (cond (eqb n 3) (accepts reply)
     (cond (leb n (s .count + 3)) (rightWork s work (n - 4) reply) (accepts reply))))
@@ -62,7 +62,7 @@ rightAt s work n reply =
 -- after the right reply to the last message it is done; work from which the next message can't be built is not this session's
 unfoldable pub answeredRight : Session → List ℕ → Turn
 answeredRight s work =
-    cond (leb (messages s) (s .sent)) (ends s 1) (cond (goodMessage editionTables (messageAt s work (s .sent + 1))) (goesOn s work) (unturned 31 s))
+    cond (leb (messages s) (s .sent)) (ends s 1) (cond (goodMessage (tablesOf (s .edition)) (messageAt s work (s .sent + 1))) (goesOn s work) (unturned 31 s))
 
 unfoldable pub answered : Session → List ℕ → List ℕ → Turn
 answered s work reply =

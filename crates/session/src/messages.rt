@@ -2,7 +2,7 @@
 ghost use mathlib.Core.Path.{_≡_};
 ghost use mathlib.Core.Bool.{true};
 ghost use Prim.Native.Nat.{_-_, _≤_};
-ghost use Rattle.values.specs.Edition.{editionTables};
+ghost use Rattle.values.specs.Edition.{tablesOf};
 ghost use Rattle.frames.specs.Frames.{onWire};
 ghost use Rattle.commands.specs.Spoken.{goodFields, spoken};
 ghost use Rattle.commands.specs.Messages.{textOf, goodMessage};
@@ -26,7 +26,7 @@ const CLOSING: usize = 33;
 
 // The sign-on.
 pub fn call(s: Session, buf: &mut [u8]) -> Built
-    ensures { λ r. ⌜ Builds (now (buf .entry)) (goodMessage editionTables (calling s)) (onWire (textOf (calling s))) r (now (buf .exit)) ⌝ }
+    ensures { λ r. ⌜ Builds (now (buf .entry)) (goodMessage (tablesOf (s .edition)) (calling s)) (onWire (textOf (calling s))) r (now (buf .exit)) ⌝ }
 {
     if s.named == 1 {
         let serial = s.serial;
@@ -37,7 +37,7 @@ pub fn call(s: Session, buf: &mut [u8]) -> Built
 
 // The password or `()`.
 fn enter(s: Session, buf: &mut [u8]) -> Built
-    ensures { λ r. ⌜ Builds (now (buf .entry)) (goodMessage editionTables (entering s)) (onWire (textOf (entering s))) r (now (buf .exit)) ⌝ }
+    ensures { λ r. ⌜ Builds (now (buf .entry)) (goodMessage (tablesOf (s .edition)) (entering s)) (onWire (textOf (entering s))) r (now (buf .exit)) ⌝ }
 {
     if s.access == 1 {
         let password = s.password;
@@ -47,8 +47,8 @@ fn enter(s: Session, buf: &mut [u8]) -> Built
 }
 
 // R1 of an energy; 0 is the total.
-fn read_energy(n: u8, buf: &mut [u8]) -> Built
-    ensures { λ r. ⌜ Builds (now (buf .entry)) (goodFields editionTables (readOf 69 n)) (onWire (spoken (readOf 69 n))) r (now (buf .exit)) ⌝ }
+fn read_energy(tables: u8, n: u8, buf: &mut [u8]) -> Built
+    ensures { λ r. ⌜ Builds (now (buf .entry)) (goodFields tables (readOf 69 n)) (onWire (spoken (readOf 69 n))) r (now (buf .exit)) ⌝ }
 {
     if n == 0 {
         return commands::read_total(buf);
@@ -57,8 +57,8 @@ fn read_energy(n: u8, buf: &mut [u8]) -> Built
 }
 
 // A read of a letter and its number.
-fn read(letter: u8, n: u8, buf: &mut [u8]) -> Built
-    ensures { λ r. ⌜ Builds (now (buf .entry)) (goodFields editionTables (readOf letter n)) (onWire (spoken (readOf letter n))) r (now (buf .exit)) ⌝ }
+fn read(tables: u8, letter: u8, n: u8, buf: &mut [u8]) -> Built
+    ensures { λ r. ⌜ Builds (now (buf .entry)) (goodFields tables (readOf letter n)) (onWire (spoken (readOf letter n))) r (now (buf .exit)) ⌝ }
 {
     if letter == b'T' {
         return commands::read_clock(buf);
@@ -70,12 +70,12 @@ fn read(letter: u8, n: u8, buf: &mut [u8]) -> Built
         return commands::read_account(buf);
     }
     if letter == b'E' {
-        return read_energy(n, buf);
+        return read_energy(tables, n, buf);
     }
     if letter == b'Z' {
-        return commands::read_table(buf, TableNo(n));
+        return commands::read_table_of(buf, tables, TableNo(n));
     }
-    commands::read_table(buf, TableNo(0))
+    commands::read_table_of(buf, tables, TableNo(0))
 }
 
 // Whether a line has all that a post's line has beside its number and its row.
@@ -87,16 +87,17 @@ fn is_whole(s: &[u8]) -> bool
 }
 
 // The write of a post's line.
-fn write_row(s: &[u8], buf: &mut [u8]) -> Built
-    ensures { λ r. ⌜ Builds (now (buf .entry)) (goodFields editionTables (rowIn (now (s .entry)))) (onWire (spoken (rowIn (now (s .entry))))) r (now (buf .exit)) ⌝ }
+fn write_row(tables: u8, s: &[u8], buf: &mut [u8]) -> Built
+    ensures { λ r. ⌜ Builds (now (buf .entry)) (goodFields tables (rowIn tables (now (s .entry)))) (onWire (spoken (rowIn tables (now (s .entry))))) r (now (buf .exit)) ⌝ }
 {
     if !is_whole(s) {
-        return commands::write_table(buf, TableNo(0), b"");
+        return commands::write_table_of(buf, tables, TableNo(0), b"");
     }
-    let read = values::reading::read_table(text::first(text::rest(s, NUMBER), 2), values::TABLES);
+    let read = values::reading::read_table(text::first(text::rest(s, NUMBER), 2), tables);
     let table = read.table;
-    commands::write_table(
+    commands::write_table_of(
         buf,
+        tables,
         table,
         text::first(text::rest(s, ROW), values::ROW_LENGTH),
     )
@@ -104,19 +105,24 @@ fn write_row(s: &[u8], buf: &mut [u8]) -> Built
 
 // One message of the work.
 fn work_at(s: Session, work: &[u8], i: u8, buf: &mut [u8]) -> Built
-    ensures { λ r. ⌜ Builds (now (buf .entry)) (goodFields editionTables (workAt s (now (work .entry)) i)) (onWire (spoken (workAt s (now (work .entry)) i))) r (now (buf .exit)) ⌝ }
+    ensures { λ r. ⌜ Builds (now (buf .entry)) (goodFields (tablesOf (s .edition)) (workAt s (now (work .entry)) i)) (onWire (spoken (workAt s (now (work .entry)) i))) r (now (buf .exit)) ⌝ }
 {
+    let tables = values::tables_of(s.edition);
     if s.work == 1 {
-        return write_row(text::first(text::rest(work, i as usize * LINE), LINE), buf);
+        return write_row(
+            tables,
+            text::first(text::rest(work, i as usize * LINE), LINE),
+            buf,
+        );
     }
     let at = i as usize * 2;
-    read(text::at(work, at), text::at(work, at + 1), buf)
+    read(tables, text::at(work, at), text::at(work, at + 1), buf)
 }
 
 // The message of a number, the sign-on being 1.
 pub fn build(s: Session, work: &[u8], n: u8, buf: &mut [u8]) -> Built
     requires { ⌜ s .count ≤ 32 ⌝ }
-    ensures { λ r. ⌜ Builds (now (buf .entry)) (goodMessage editionTables (messageAt s (now (work .entry)) n)) (onWire (textOf (messageAt s (now (work .entry)) n))) r (now (buf .exit)) ⌝ }
+    ensures { λ r. ⌜ Builds (now (buf .entry)) (goodMessage (tablesOf (s .edition)) (messageAt s (now (work .entry)) n)) (onWire (textOf (messageAt s (now (work .entry)) n))) r (now (buf .exit)) ⌝ }
 {
     if n == 1 {
         return call(s, buf);

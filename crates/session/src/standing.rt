@@ -18,10 +18,10 @@ fn kept_good(flag: u8, s: &[u8]) -> bool
 }
 
 // A post needs a password, and has no more lines than there are tables.
-fn work_good(work: u8, access: u8, count: u8) -> bool
-    ensures { λ r. ⌜ r ≡ workGood work access count ⌝ }
+fn work_good(tables: u8, work: u8, access: u8, count: u8) -> bool
+    ensures { λ r. ⌜ r ≡ workGood tables work access count ⌝ }
 {
-    (work == 0) | ((work == 1) & ((access == 1) & (count <= values::TABLES)))
+    (work == 0) | ((work == 1) & ((access == 1) & (count <= tables)))
 }
 
 // One to 32 messages of work, and one of all messages sent last.
@@ -38,7 +38,7 @@ fn fact_good(count: u8, sent: u8, fact: u8) -> bool
     (fact <= 4) & (!(fact == 1) | (sent as u16 == count as u16 + 4))
 }
 
-// The serial and the password where they were told.
+// The edition, and the serial and the password where they were told.
 fn is_told(s: Session) -> bool
     ensures { λ r. ⌜ r ≡ sessionTold s ⌝ }
 {
@@ -47,13 +47,14 @@ fn is_told(s: Session) -> bool
     let named = told_good(s.named, values::is_digits(&serial, 10)) & kept_good(s.named, &serial);
     let access = told_good(s.access, values::is_digits(&password, 8))
         & kept_good(s.access, &password);
-    named & access
+    values::is_edition(s.edition) & (named & access)
 }
 
 // Whether a session may stand so.
 pub fn is_good(s: Session) -> bool
     ensures { λ r. ⌜ r ≡ sessionGood s ⌝ }
 {
-    let told = is_told(s) & work_good(s.work, s.access, s.count);
+    let tables = values::tables_of(s.edition);
+    let told = is_told(s) & work_good(tables, s.work, s.access, s.count);
     told & (place_good(s.count, s.sent) & fact_good(s.count, s.sent, s.fact))
 }

@@ -5,7 +5,7 @@ ghost use Prim.Native.Nat.{_≤_};
 ghost use lib.Dec.{eqb};
 ghost use lib.ListN.{length, replicate};
 ghost use Rattle.text.specs.Writing.{holding};
-ghost use Rattle.values.specs.Edition.{editionTables};
+ghost use Rattle.values.specs.Edition.{tablesOf};
 ghost use Rattle.frames.specs.Frames.{onWire};
 ghost use Rattle.commands.specs.Spoken.{goodFields};
 ghost use Rattle.session.specs.Messages.{readOf, readsGood};
@@ -37,13 +37,14 @@ fn refuse(number: u8, place: usize) -> Started
             count: 0,
             sent: 0,
             fact: 0,
+            edition: 0,
         },
     }
 }
 
-// Whether the head can build a read.
-pub fn read_good(letter: u8, n: u8) -> bool
-    ensures { λ r. ⌜ r ≡ goodFields editionTables (readOf letter n) ⌝ }
+// Whether the head can build a read, of a meter with so many tables.
+pub fn read_good(tables: u8, letter: u8, n: u8) -> bool
+    ensures { λ r. ⌜ r ≡ goodFields tables (readOf letter n) ⌝ }
 {
     if letter == b'T' {
         return true;
@@ -58,14 +59,14 @@ pub fn read_good(letter: u8, n: u8) -> bool
         return (n == 0) | values::is_zone(ZoneNo(n));
     }
     if letter == b'Z' {
-        return values::is_table(TableNo(n), values::TABLES);
+        return values::is_table(TableNo(n), tables);
     }
     false
 }
 
 // Whether it can build all of them.
-fn reads_good(work: &[u8]) -> bool
-    ensures { λ r. ⌜ r ≡ readsGood (now (work .entry)) ⌝ }
+fn reads_good(tables: u8, work: &[u8]) -> bool
+    ensures { λ r. ⌜ r ≡ readsGood tables (now (work .entry)) ⌝ }
 {
     let mut good = true;
     let mut i = 0;
@@ -73,7 +74,7 @@ fn reads_good(work: &[u8]) -> bool
         if work.len() - i < 2 {
             return false;
         }
-        good = good & read_good(work[i], work[i + 1]);
+        good = good & read_good(tables, work[i], work[i + 1]);
         i += 2;
     }
     good
@@ -107,6 +108,7 @@ fn password_kept(access: u8, password: &[u8]) -> [u8; 8]
 
 // 9, or the session and its sign-on.
 fn begin(
+    edition: u8,
     named: u8,
     serial: &[u8],
     access: u8,
@@ -117,8 +119,8 @@ fn begin(
     buf: &mut [u8],
 ) -> Started
     requires { ⌜ 64 ≤ length (now buf) ⌝ }
-    ensures result { λ r. ⌜ r ≡ startedOf (opened (toldOf named (now (serial .entry)) access (now (password .entry)) kind) count good) ⌝ }
-    ensures held { λ _. ⌜ now (buf .exit) ≡ holding (now (buf .entry)) (onWire (opened (toldOf named (now (serial .entry)) access (now (password .entry)) kind) count good .text)) ⌝ }
+    ensures result { λ r. ⌜ r ≡ startedOf (opened (toldOf edition named (now (serial .entry)) access (now (password .entry)) kind) count good) ⌝ }
+    ensures held { λ _. ⌜ now (buf .exit) ≡ holding (now (buf .entry)) (onWire (opened (toldOf edition named (now (serial .entry)) access (now (password .entry)) kind) count good .text)) ⌝ }
 {
     let called = told_good(named, values::is_digits(serial, 10));
     let entered = told_good(access, values::is_digits(password, 8));
@@ -134,6 +136,7 @@ fn begin(
         count,
         sent: 1,
         fact: 0,
+        edition,
     };
     let built = messages::call(s, buf);
     Started {
@@ -146,6 +149,7 @@ fn begin(
 
 // Reads: none gives 28, more than 32 give 29.
 fn open_reads(
+    edition: u8,
     named: u8,
     serial: &[u8],
     access: u8,
@@ -155,8 +159,8 @@ fn open_reads(
     buf: &mut [u8],
 ) -> Started
     requires { ⌜ 64 ≤ length (now buf) ⌝ }
-    ensures result { λ r. ⌜ r ≡ startedOf (openedReads (toldOf named (now (serial .entry)) access (now (password .entry)) kind) (now (work .entry))) ⌝ }
-    ensures held { λ _. ⌜ now (buf .exit) ≡ holding (now (buf .entry)) (onWire (openedReads (toldOf named (now (serial .entry)) access (now (password .entry)) kind) (now (work .entry)) .text)) ⌝ }
+    ensures result { λ r. ⌜ r ≡ startedOf (openedReads (toldOf edition named (now (serial .entry)) access (now (password .entry)) kind) (now (work .entry))) ⌝ }
+    ensures held { λ _. ⌜ now (buf .exit) ≡ holding (now (buf .entry)) (onWire (openedReads (toldOf edition named (now (serial .entry)) access (now (password .entry)) kind) (now (work .entry)) .text)) ⌝ }
 {
     let n = work.len();
     if n == 0 {
@@ -165,8 +169,9 @@ fn open_reads(
     if READS < n {
         return refuse(29, 0);
     }
-    let good = reads_good(work);
+    let good = reads_good(values::tables_of(edition), work);
     begin(
+        edition,
         named,
         serial,
         access,
@@ -180,6 +185,7 @@ fn open_reads(
 
 // A post of so many lines: `()` gives 30.
 fn open_post(
+    edition: u8,
     named: u8,
     serial: &[u8],
     access: u8,
@@ -189,17 +195,20 @@ fn open_post(
     buf: &mut [u8],
 ) -> Started
     requires { ⌜ 64 ≤ length (now buf) ⌝ }
-    ensures result { λ r. ⌜ r ≡ startedOf (openedPost (toldOf named (now (serial .entry)) access (now (password .entry)) kind) lines) ⌝ }
-    ensures held { λ _. ⌜ now (buf .exit) ≡ holding (now (buf .entry)) (onWire (openedPost (toldOf named (now (serial .entry)) access (now (password .entry)) kind) lines .text)) ⌝ }
+    ensures result { λ r. ⌜ r ≡ startedOf (openedPost (toldOf edition named (now (serial .entry)) access (now (password .entry)) kind) lines) ⌝ }
+    ensures held { λ _. ⌜ now (buf .exit) ≡ holding (now (buf .entry)) (onWire (openedPost (toldOf edition named (now (serial .entry)) access (now (password .entry)) kind) lines .text)) ⌝ }
 {
     if access == 0 {
         return refuse(30, 0);
     }
-    begin(named, serial, access, password, kind, lines, true, buf)
+    begin(
+        edition, named, serial, access, password, kind, lines, true, buf,
+    )
 }
 
-// Starts a session: whom to call, how to enter, what to do. Nothing is sent where it is refused, and there is no session.
+// Starts a session: the meter's edition, whom to call, how to enter, what to do. Nothing is sent where it is refused, and there is no session.
 pub fn start(
+    edition: u8,
     named: u8,
     serial: &[u8],
     access: u8,
@@ -208,23 +217,29 @@ pub fn start(
     work: &[u8],
     buf: &mut [u8],
 ) -> Started
-    ensures { λ r. ⌜ Starts (toldOf named (now (serial .entry)) access (now (password .entry)) kind) (now (work .entry)) (now (buf .entry)) r (now (buf .exit)) ⌝ }
+    ensures { λ r. ⌜ Starts (toldOf edition named (now (serial .entry)) access (now (password .entry)) kind) (now (work .entry)) (now (buf .entry)) r (now (buf .exit)) ⌝ }
 {
+    if !values::is_edition(edition) {
+        return refuse(commands::NO_EDITION, 0);
+    }
     if buf.len() < commands::ROOM {
         return refuse(commands::SHORT, 0);
     }
     if kind == 0 {
-        return open_reads(named, serial, access, password, kind, work, buf);
+        return open_reads(
+            edition, named, serial, access, password, kind, work, buf,
+        );
     }
     if kind != 1 {
         return refuse(commands::FIELD, 0);
     }
-    let checked = post::check(work);
+    let checked = post::check(edition, work);
     let number = checked.number;
     if number != 1 {
         return refuse(20, checked.place);
     }
     open_post(
+        edition,
         named,
         serial,
         access,

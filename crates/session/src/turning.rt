@@ -49,10 +49,10 @@ pub fn end(s: Session, fact: u8) -> Step
 }
 
 // Whether a reply is right for a read.
-fn is_right_read(letter: u8, n: u8, reply: &[u8]) -> bool
-    ensures { λ r. ⌜ r ≡ rightRead letter n (now (reply .entry)) ⌝ }
+fn is_right_read(tables: u8, letter: u8, n: u8, reply: &[u8]) -> bool
+    ensures { λ r. ⌜ r ≡ rightRead tables letter n (now (reply .entry)) ⌝ }
 {
-    starting::read_good(letter, n) & judging::is_answer(letter, n, reply)
+    starting::read_good(tables, letter, n) & judging::is_answer(letter, n, reply)
 }
 
 // Whether a reply is right for a message of the work.
@@ -63,7 +63,8 @@ fn is_right_work(s: Session, work: &[u8], i: u8, reply: &[u8]) -> bool
         return judging::is_ack(reply);
     }
     let at = i as usize * 2;
-    is_right_read(text::at(work, at), text::at(work, at + 1), reply)
+    let tables = values::tables_of(s.edition);
+    is_right_read(tables, text::at(work, at), text::at(work, at + 1), reply)
 }
 
 // Whether a reply is right for the message of a number.
@@ -72,7 +73,7 @@ fn is_right(s: Session, work: &[u8], n: u8, reply: &[u8]) -> bool
     ensures { λ r. ⌜ r ≡ rightAt s (now (work .entry)) n (now (reply .entry)) ⌝ }
 {
     if n == 1 {
-        return judging::is_identification(reply);
+        return judging::is_identification(s.edition, reply);
     }
     if n == 2 {
         return judging::is_password_ask(reply);

@@ -6,8 +6,9 @@ use native.Mathlib.Omega.{arith}
 use lib.Dec.{eqb}
 use borrow.Author.Tests.{eqb-true}
 use Rattle.line.specs.Characters.{damagedAt}
+use Rattle.values.specs.Edition.{isEdition}
 use Rattle.state.specs.declared.Meter.{Meter}
-use Rattle.state.specs.WellFormed.{wellFormed}
+use Rattle.state.specs.WellFormed.{editionOf, wellFormed}
 use Rattle.receiving.specs.declared.Hearing.{Hearing}
 use Rattle.receiving.specs.declared.Hearing.the-variants.{Drop, Hold, Restart, Empty, Line, Confirm, Frame, TooLong}
 use Rattle.receiving.specs.Hearing.{hearing}
@@ -43,14 +44,16 @@ event-settled m Unknown s = absurd (let z : _≡_ {A = ℕ} 0 1 = cc in omega ar
 
 pub settled-is : (m : Meter) (room : ℕ) (e : Event) → settles m room e .settled ≡ true → met m room e ≡ settledOutcome m (settles m room e)
 unfolding settles
-settled-is m room e s = met-in-order m room e ∙ go (refusal room e) (eqb (refusal room e) 0) (wellFormed m) (happened m e) (heardOf m e) (event-settled m e) s
+settled-is m room e s = met-in-order m room e ∙ go (isEdition (editionOf m)) (refusal room e) (eqb (refusal room e) 0) (wellFormed m) (happened m e) (heardOf m e) (event-settled m e) s
   where
-    go : (n : ℕ) (p q : Bool) (o : Outcome) (h : Heard) → (h .settled ≡ true → o ≡ settledOutcome m h)
-        → cond p (cond q h (refuses 14 (m .receiver))) (refuses n (m .receiver)) .settled ≡ true
-        → cond p (cond q o (unheard 14 m)) (unheard n m) ≡ settledOutcome m (cond p (cond q h (refuses 14 (m .receiver))) (refuses n (m .receiver)))
-    go n true true o h f s = f s
-    go n true false o h f s = refl
-    go n false q o h f s = refl
+    go : (k : Bool) (n : ℕ) (p q : Bool) (o : Outcome) (h : Heard) → (h .settled ≡ true → o ≡ settledOutcome m h)
+        → cond k (cond p (cond q h (refuses 14 (m .receiver))) (refuses n (m .receiver))) (refuses 16 (m .receiver)) .settled ≡ true
+        → cond k (cond p (cond q o (unheard 14 m)) (unheard n m)) (unheard 16 m)
+        ≡ settledOutcome m (cond k (cond p (cond q h (refuses 14 (m .receiver))) (refuses n (m .receiver))) (refuses 16 (m .receiver)))
+    go false n p q o h f s = refl
+    go true n true true o h f s = f s
+    go true n true false o h f s = refl
+    go true n false q o h f s = refl
 
 -- what the meter has to act on
 pub record Left (m : Meter) (room : ℕ) (e : Event) : Type 0 where
@@ -60,10 +63,12 @@ pub record Left (m : Meter) (room : ℕ) (e : Event) : Type 0 where
 
 pub left-is : (m : Meter) (room : ℕ) (e : Event) → settles m room e .settled ≡ false → Left m room e
 unfolding settles
-left-is m room e = go (eqb (refusal room e) 0) refl (wellFormed m) refl (heardOf m e)
+left-is m room e = go (isEdition (editionOf m)) refl (eqb (refusal room e) 0) refl (wellFormed m) refl (heardOf m e)
   where
-    go : (p : Bool) → eqb (refusal room e) 0 ≡ p → (q : Bool) → wellFormed m ≡ q → (h : Heard)
-        → cond p (cond q h (refuses 14 (m .receiver))) (refuses (refusal room e) (m .receiver)) .settled ≡ false → Left m room e
-    go true a true w h s = record { formed = w; unrefused = eqb-true (refusal room e) 0 a; all = met-in-order m room e ∙ rw (a, w) }
-    go true a false w h s = absurd (let z : _≡_ {A = ℕ} 0 1 = cc in omega arith)
-    go false a q w h s = absurd (let z : _≡_ {A = ℕ} 0 1 = cc in omega arith)
+    go : (k : Bool) → isEdition (editionOf m) ≡ k → (p : Bool) → eqb (refusal room e) 0 ≡ p → (q : Bool) → wellFormed m ≡ q → (h : Heard)
+        → cond k (cond p (cond q h (refuses 14 (m .receiver))) (refuses (refusal room e) (m .receiver))) (refuses 16 (m .receiver)) .settled ≡ false
+        → Left m room e
+    go false o p a q w h s = absurd (let z : _≡_ {A = ℕ} 0 1 = cc in omega arith)
+    go true o true a true w h s = record { formed = w; unrefused = eqb-true (refusal room e) 0 a; all = met-in-order m room e ∙ rw (o, a, w) }
+    go true o true a false w h s = absurd (let z : _≡_ {A = ℕ} 0 1 = cc in omega arith)
+    go true o false a q w h s = absurd (let z : _≡_ {A = ℕ} 0 1 = cc in omega arith)

@@ -4,9 +4,10 @@ use mathlib.Core.List.{[]}
 use Prim.Native.Nat.{ℕ}
 use lib.Dec.{eqb}
 use Rattle.line.specs.Characters.{damagedAt}
+use Rattle.values.specs.Edition.{isEdition}
 use Rattle.state.specs.declared.Receiver.{Receiver}
 use Rattle.state.specs.declared.Meter.{Meter}
-use Rattle.state.specs.WellFormed.{wellFormed}
+use Rattle.state.specs.WellFormed.{editionOf, wellFormed}
 use Rattle.state.specs.Making.{emptyReceiver}
 use Rattle.receiving.specs.declared.Hearing.{Hearing}
 use Rattle.receiving.specs.declared.Hearing.the-variants.{Drop, Hold, Restart, Empty, Line, Confirm, Frame, TooLong}
@@ -28,7 +29,7 @@ goesOn speed r = record { settled = true; number = 0; speed = speed; receiver = 
 abbrev pub ends : Receiver → Heard
 ends r = record { settled = false; number = 0; speed = 0; receiver = r }
 
--- 99, 13, 12 or 14: nothing changed, speed 0
+-- 16, 99, 13, 12 or 14: nothing changed, speed 0
 abbrev pub refuses : ℕ → Receiver → Heard
 refuses number r = record { settled = true; number = number; speed = 0; receiver = r }
 
@@ -54,11 +55,13 @@ heardOf m (Pulse wh) = ends (m .receiver)
 heardOf m PowerUp = ends (m .receiver)
 heardOf m Unknown = ends (m .receiver)
 
--- what refuses the event whatever the state, then a malformed state: 14
+-- an edition that there is not: 16; what refuses the event whatever the state; then a malformed state: 14
 unfoldable pub settles : Meter → ℕ → Event → Heard
 settles m room e =
-    cond (eqb (refusal room e) 0) (cond (wellFormed m) (heardOf m e) (refuses 14 (m .receiver)))
-    (refuses (refusal room e) (m .receiver))
+    cond (isEdition (editionOf m))
+    (cond (eqb (refusal room e) 0) (cond (wellFormed m) (heardOf m e) (refuses 14 (m .receiver)))
+    (refuses (refusal room e) (m .receiver)))
+    (refuses 16 (m .receiver))
 
 -- all that comes of a settled event
 abbrev pub settledOutcome : Meter → Heard → Outcome

@@ -93,6 +93,9 @@ pub fn settle(m: Meter, kind: u8, value: u32, room: usize) -> Heard
     ensures { λ r. ⌜ r ≡ settles m room (eventOf kind value) ⌝ }
 {
     let r = m.receiver;
+    if !state::has_edition(m) {
+        return refuse(16, r);
+    }
     let e = events::event_of(kind, value);
     let number = events::refusal_of(e, room);
     if number != 0 {

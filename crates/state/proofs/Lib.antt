@@ -1,4 +1,5 @@
 pub mod Parts
+pub mod Rows
 pub mod Limits
 pub mod Totals
 pub mod Archives

@@ -6,12 +6,13 @@ use Prim.Native.Nat.{ℕ, zero, suc, _*_, _≤_, _<_}
 use native.Mathlib.Omega.{arith}
 use borrow.Author.Tests.{leb-true, le-leb, lt-leb, eqb-true, eq-eqb, ltb-true}
 use lib.Dec.{eqb, leb, ltb}
-use lib.ListN.{length, drop, getD}
+use lib.ListN.{length, take, drop, getD}
 use Rattle.line.specs.Runs.{every}
 use Rattle.line.proofs.Runs.{and-left, and-right, and-assoc, chosen}
 use Rattle.text.specs.Classes.{between}
 use Rattle.clock.specs.Seconds.{realClock}
 use Rattle.clock.specs.declared.Clock.{Clock}
+use Rattle.values.specs.Edition.{isEdition}
 use Rattle.values.specs.Registers.{goodDigits, goodSerial, goodAccount, goodPassword}
 use Rattle.state.specs.declared.Receiver.{Receiver}
 use Rattle.state.specs.declared.Facts.{Facts}
@@ -19,8 +20,8 @@ use Rattle.state.specs.declared.Counters.{Counters}
 use Rattle.state.specs.declared.Archive.{Archive}
 use Rattle.state.specs.declared.Registers.{Registers}
 use Rattle.state.specs.declared.Meter.{Meter}
-use Rattle.state.specs.Sizes.{heldPlaces, rowLength, tables, counterEnd}
-use Rattle.state.specs.WellFormed.{limit, firstGood, markGood, heldGood, receiverGood, below, zonesGood, total, countersGood, tablesGood, archiveGood, editionGood, linkGood, decimalsGood, factsGood, factoryGood, registersGood, wellFormed, speedGood, hurtGood}
+use Rattle.state.specs.Sizes.{heldPlaces, rowLength, tablePlaces, counterEnd}
+use Rattle.state.specs.WellFormed.{limit, firstGood, markGood, heldGood, receiverGood, below, zonesGood, total, countersGood, tablesGood, archiveGood, tablesIn, linkGood, decimalsGood, factsGood, factoryGood, registersGood, wellFormed, speedGood, hurtGood}
 use Rattle.state.specs.Link.{linkOf, isWired, restSpeed}
 use Rattle.state.specs.Setting.{zonePlace, counterOf, speedIn}
 
@@ -110,7 +111,7 @@ pub record FormedRegisters (g : Registers) : Type 0 where
   pub account : goodAccount (g .account) ≡ true
   pub clock : realClock (g .clock) ≡ true
   pub counters : countersGood (g .counters) ≡ true
-  pub tables : tablesGood tables (g .tables) ≡ true
+  pub tables : tablesGood (tablesIn g) (g .tables) ≡ true
   pub archive : archiveGood (g .archive) ≡ true
 
 pub formed-registers : (g : Registers) → registersGood g ≡ true → FormedRegisters g
@@ -120,7 +121,7 @@ formed-registers g h =
     let a = goodAccount (g .account) in
     let k = realClock (g .clock) in
     let c = countersGood (g .counters) in
-    let t = tablesGood tables (g .tables) in
+    let t = tablesGood (tablesIn g) (g .tables) in
     let p = archiveGood (g .archive) in
     let made = and-left (f && (a && k)) (c && (t && p)) h in
     let rest = and-right (f && (a && k)) (c && (t && p)) h in
@@ -141,7 +142,7 @@ registers-good g f = rw (f .facts, f .account, f .clock, f .counters, f .tables,
 pub record FormedFacts (f : Facts) : Type 0 where
   pub serial : goodSerial (f .serial) ≡ true
   pub password : goodPassword (f .password) ≡ true
-  pub edition : editionGood (f .edition) ≡ true
+  pub edition : isEdition (f .edition) ≡ true
   pub link : linkGood (f .link) ≡ true
   pub decimals : decimalsGood (f .decimals) ≡ true
 
@@ -150,7 +151,7 @@ unfolding factsGood
 formed-facts f h =
     let s = goodSerial (f .serial) in
     let p = goodPassword (f .password) in
-    let e = editionGood (f .edition) in
+    let e = isEdition (f .edition) in
     let l = linkGood (f .link) in
     let d = decimalsGood (f .decimals) in
     let texts = and-left (s && p) (e && (l && d)) h in
@@ -204,26 +205,42 @@ pub record Long (m : Meter) : Type 0 where
   pub serial : length (m .registers .facts .serial) ≡ 10
   pub password : length (m .registers .facts .password) ≡ 8
   pub account : length (m .registers .account) ≡ 10
-  pub tables : length (m .registers .tables) ≡ tables * rowLength
+  pub tables : length (m .registers .tables) ≡ tablePlaces * rowLength
 
 digits-long : (n : ℕ) (s : List ℕ) → goodDigits n s ≡ true → length s ≡ n
 unfolding goodDigits
 digits-long n s h = eqb-true (length s) n (and-left (eqb (length s) n) _ h)
 
+-- good tables: 600 characters, the first of them '1' to '4', the others 0
+pub rows-long : (n : ℕ) (s : List ℕ) → tablesGood n s ≡ true → length s ≡ tablePlaces * rowLength
+unfolding tablesGood
+rows-long n s h = eqb-true (length s) (tablePlaces * rowLength) (and-left (eqb (length s) (tablePlaces * rowLength)) _ h)
+
+pub rows-held : (n : ℕ) (s : List ℕ) → tablesGood n s ≡ true → every (between 49 52) (take (n * rowLength) s) ≡ true
+unfolding tablesGood
+rows-held n s h =
+    and-left (every (between 49 52) (take (n * rowLength) s)) (every (between 0 0) (drop (n * rowLength) s))
+    (and-right (eqb (length s) (tablePlaces * rowLength)) _ h)
+
+pub rows-unused : (n : ℕ) (s : List ℕ) → tablesGood n s ≡ true → every (between 0 0) (drop (n * rowLength) s) ≡ true
+unfolding tablesGood
+rows-unused n s h =
+    and-right (every (between 49 52) (take (n * rowLength) s)) (every (between 0 0) (drop (n * rowLength) s))
+    (and-right (eqb (length s) (tablePlaces * rowLength)) _ h)
+
 pub long : (m : Meter) → wellFormed m ≡ true → Long m
-unfolding goodAccount tablesGood
+unfolding goodAccount
 long m h =
     let f = formed m h in
     let g = formed-registers (m .registers) (f .registers) in
     let life = formed-facts (m .registers .facts) (g .facts) in
     let account = length (m .registers .account) in
-    let rows = length (m .registers .tables) in
     record {
       held = held-long (m .mode) (m .receiver) (f .receiver);
       serial = digits-long 10 (m .registers .facts .serial) (life .serial);
       password = digits-long 8 (m .registers .facts .password) (life .password);
       account = eqb-true account 10 (and-left (eqb account 10) _ (g .account));
-      tables = eqb-true rows (tables * rowLength) (and-left (eqb rows (tables * rowLength)) _ (g .tables));
+      tables = rows-long (tablesIn (m .registers)) (m .registers .tables) (g .tables);
     }
 
 -- of good counters each lies below 1,000,000,000, whatever zone is asked for
@@ -246,3 +263,7 @@ total-is-sum c h = eqb-true (c .total) (total c) (and-right (zonesGood (c .zones
 pub total-small : (c : Counters) → countersGood c ≡ true → c .total < counterEnd
 unfolding total
 total-small c h = rw (total-is-sum c h) (omega arith)
+
+-- a well-formed meter is of an edition that there is
+pub edition-good : (m : Meter) → wellFormed m ≡ true → isEdition (m .registers .facts .edition) ≡ true
+edition-good m h = formed-facts (m .registers .facts) (formed-registers (m .registers) (formed m h .registers) .facts) .edition

@@ -1,10 +1,11 @@
 -- Document 01, "The state": a new state, and the blank one.
 use mathlib.Core.Bool.{true, false, cond}
-use mathlib.Core.List.{List}
-use Prim.Native.Nat.{ℕ, _*_}
+use mathlib.Core.List.{List, _++_}
+use Prim.Native.Nat.{ℕ, _-_, _*_}
 use lib.ListN.{replicate}
 use Rattle.clock.specs.Seconds.{dateOf, timeOf}
 use Rattle.clock.specs.declared.Clock.{Clock}
+use Rattle.values.specs.Edition.{isEdition, tablesOf}
 use Rattle.state.specs.declared.Receiver.{Receiver}
 use Rattle.state.specs.declared.Facts.{Facts}
 use Rattle.state.specs.declared.Counters.{Counters}
@@ -14,8 +15,8 @@ use Rattle.state.specs.declared.Registers.{Registers}
 use Rattle.state.specs.declared.Meter.{Meter}
 use Rattle.state.specs.declared.Made.{Made}
 use Rattle.state.specs.Link.{restSpeed}
-use Rattle.state.specs.Sizes.{heldPlaces, rowLength, tables, periodPlaces}
-use Rattle.state.specs.WellFormed.{editionGood, decimalsGood, factoryGood}
+use Rattle.state.specs.Sizes.{heldPlaces, rowLength, tablePlaces, periodPlaces}
+use Rattle.state.specs.WellFormed.{decimalsGood, factoryGood}
 
 abbrev pub emptyReceiver : Receiver
 emptyReceiver = record { held = replicate heldPlaces 0; count = 0; mark = 0; place = 0 }
@@ -33,6 +34,10 @@ emptyArchive = record { periods = replicate periodPlaces noPeriod; count = 0 }
 abbrev pub factsOf : List ℕ → List ℕ → ℕ → ℕ → ℕ → Facts
 factsOf serial password edition link decimals = record { serial = serial; password = password; edition = edition; link = link; decimals = decimals }
 
+-- [3]: a row of '1' for each table of an edition, and 0 in the places behind them
+unfoldable pub newRows : ℕ → List ℕ
+newRows edition = replicate (tablesOf edition * rowLength) 49 ++ replicate ((tablePlaces - tablesOf edition) * rowLength) 0
+
 -- counters 0, attempts 0, all tables '1', no closed period, mode 0 at its speed, empty receiver
 abbrev pub meterOf : Facts → List ℕ → Clock → Meter
 meterOf facts account clock =
@@ -47,7 +52,7 @@ meterOf facts account clock =
             account = account;
             clock = clock;
             counters = noCounters;
-            tables = replicate (tables * rowLength) 49;
+            tables = newRows (facts .edition);
             archive = emptyArchive;
           };
     }
@@ -58,7 +63,7 @@ blankMeter = meterOf (factsOf (replicate 10 48) (replicate 8 48) 1 1 0) (replica
 
 -- 16 for an edition, then 18 for decimals that no meter has, else 15
 unfoldable pub factsRefused : ℕ → ℕ → ℕ
-factsRefused edition decimals = cond (editionGood edition) (cond (decimalsGood decimals) 15 18) 16
+factsRefused edition decimals = cond (isEdition edition) (cond (decimalsGood decimals) 15 18) 16
 
 abbrev pub notMade : ℕ → ℕ → Made
 notMade edition decimals = record { number = factsRefused edition decimals; meter = blankMeter }

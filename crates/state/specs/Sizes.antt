@@ -1,6 +1,6 @@
 -- Document 01's sizes, each named once.
 use Prim.Native.Nat.{ℕ}
-pub use Rattle.values.specs.Edition.{rowLength, editionTables as tables}
+pub use Rattle.values.specs.Edition.{rowLength, tablePlaces}
 
 -- a receiver holds 63 characters at most
 abbrev pub heldPlaces : ℕ

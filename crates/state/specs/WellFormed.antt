@@ -9,6 +9,7 @@ use Rattle.text.specs.Classes.{between}
 use Rattle.clock.specs.Seconds.{realClock, realStamp}
 use Rattle.clock.specs.declared.Clock.{Clock}
 use Rattle.clock.specs.declared.Stamp.{Stamp}
+use Rattle.values.specs.Edition.{isEdition, tablesOf}
 use Rattle.values.specs.Registers.{goodSerial, goodAccount, goodPassword}
 use Rattle.state.specs.declared.Receiver.{Receiver}
 use Rattle.state.specs.declared.Facts.{Facts}
@@ -18,7 +19,7 @@ use Rattle.state.specs.declared.Archive.{Archive}
 use Rattle.state.specs.declared.Registers.{Registers}
 use Rattle.state.specs.declared.Meter.{Meter}
 use Rattle.state.specs.Link.{linkOf, restSpeed}
-use Rattle.state.specs.Sizes.{heldPlaces, rowLength, tables, counterEnd, periodPlaces}
+use Rattle.state.specs.Sizes.{heldPlaces, rowLength, tablePlaces, counterEnd, periodPlaces}
 
 -- at most 31 held in mode 0, 5 in mode 1, 63 in modes 2 to 4
 unfoldable pub limit : ℕ → ℕ
@@ -72,9 +73,17 @@ total c = sumOf (c .zones) % counterEnd
 abbrev pub countersGood : Counters → Bool
 countersGood c = zonesGood (c .zones) && eqb (c .total) (total c)
 
--- so many tables of 24 characters '1' to '4'
+-- [3]: a meter's edition says how many tables it has
+abbrev pub tablesIn : Registers → ℕ
+tablesIn g = tablesOf (g .facts .edition)
+
+abbrev pub editionOf : Meter → ℕ
+editionOf m = m .registers .facts .edition
+
+-- so many tables of 24 characters '1' to '4'; the places behind them hold 0
 unfoldable pub tablesGood : ℕ → List ℕ → Bool
-tablesGood n s = eqb (length s) (n * rowLength) && every (between 49 52) s
+tablesGood n s =
+    eqb (length s) (tablePlaces * rowLength) && (every (between 49 52) (take (n * rowLength) s) && every (between 0 0) (drop (n * rowLength) s))
 
 -- [12]: a closed period has a real time and four counters
 unfoldable pub periodGood : Period → Bool
@@ -105,10 +114,6 @@ archiveGood a =
     (leb (a .count) periodPlaces && eqb (length (a .periods)) periodPlaces)
     && (everyPeriod periodGood (take (a .count) (a .periods)) && everyPeriod unused (drop (a .count) (a .periods)))
 
--- an edition that there is
-unfoldable pub editionGood : ℕ → Bool
-editionGood edition = eqb edition 1
-
 -- a link that there is: 1, the optical one, or 2, the wired one
 unfoldable pub linkGood : ℕ → Bool
 linkGood link = eqb link 1 || eqb link 2
@@ -120,7 +125,7 @@ decimalsGood decimals = eqb decimals 0
 -- what a meter has for life: serial, password, edition, link and decimals
 unfoldable pub factsGood : Facts → Bool
 factsGood f =
-    (goodSerial (f .serial) && goodPassword (f .password)) && (editionGood (f .edition) && (linkGood (f .link) && decimalsGood (f .decimals)))
+    (goodSerial (f .serial) && goodPassword (f .password)) && (isEdition (f .edition) && (linkGood (f .link) && decimalsGood (f .decimals)))
 
 -- what a meter is made from: these, account and clock
 unfoldable pub factoryGood : Facts → List ℕ → Clock → Bool
@@ -128,7 +133,7 @@ factoryGood facts account clock = factsGood facts && (goodAccount account && rea
 
 unfoldable pub registersGood : Registers → Bool
 registersGood g =
-    factoryGood (g .facts) (g .account) (g .clock) && (countersGood (g .counters) && (tablesGood tables (g .tables) && archiveGood (g .archive)))
+    factoryGood (g .facts) (g .account) (g .clock) && (countersGood (g .counters) && (tablesGood (tablesIn g) (g .tables) && archiveGood (g .archive)))
 
 -- speed identifier: on the optical link 0 in modes 0 and 1, 0 or 5 in modes 2 to 4; on the wired one 5
 unfoldable pub speedGood : ℕ → ℕ → ℕ → Bool

@@ -3,15 +3,16 @@ ghost use mathlib.Core.Path.{_≡_};
 ghost use Prim.Native.Nat.{_≤_, _<_};
 ghost use lib.ListN.{length};
 ghost use Rattle.line.specs.Runs.{every};
-ghost use Rattle.state.specs.Sizes.{tables, heldPlaces};
-ghost use Rattle.state.specs.WellFormed.{limit, firstGood, heldGood, receiverGood, below, zonesBelow, zonesGood, total, countersGood, tablesGood, editionGood, linkGood, decimalsGood, factsGood, factoryGood, registersGood, wellFormed, speedGood, hurtGood};
-ghost use Rattle.state.specs.Making.{meterOf, blankMeter, factsRefused, notMade, madeOf};
+ghost use Rattle.values.specs.Edition.{isEdition};
+ghost use Rattle.state.specs.Sizes.{heldPlaces};
+ghost use Rattle.state.specs.WellFormed.{limit, firstGood, heldGood, receiverGood, below, zonesBelow, zonesGood, total, countersGood, tablesGood, linkGood, decimalsGood, factsGood, factoryGood, registersGood, editionOf, wellFormed, speedGood, hurtGood};
+ghost use Rattle.state.specs.Making.{newRows, meterOf, blankMeter, factsRefused, notMade, madeOf};
 use clock::Clock;
 use clock::Date;
 use clock::Stamp;
 use clock::Time;
 use values::ROW_LENGTH;
-use values::TABLES;
+use values::TABLE_PLACES;
 
 pub mod closing;
 pub mod link;
@@ -21,7 +22,7 @@ pub mod setting;
 pub const HELD_PLACES: u8 = 63;
 
 // The rows of all tables, one after the other.
-pub const ALL_ROWS: usize = TABLES as usize * ROW_LENGTH;
+pub const ALL_ROWS: usize = TABLE_PLACES * ROW_LENGTH;
 
 // A counter rolls over here.
 pub const COUNTER_END: u32 = 1_000_000_000;
@@ -213,16 +214,13 @@ fn counters_good(c: Counters) -> bool
     zones_good(&zones) & (c.total == total_of(c))
 }
 
-fn tables_good(s: &[u8]) -> bool
+// Whether so many rows hold '1' to '4', and the places behind them 0.
+fn tables_good(s: &[u8], tables: u8) -> bool
     ensures { λ r. ⌜ r ≡ tablesGood tables (now (s .entry)) ⌝ }
 {
-    (s.len() == ALL_ROWS) & text::all_between(s, 49, 52)
-}
-
-fn edition_good(edition: u8) -> bool
-    ensures { λ r. ⌜ r ≡ editionGood edition ⌝ }
-{
-    edition == 1
+    let end = tables as usize * ROW_LENGTH;
+    let rows = text::all_between(text::first(s, end), 49, 52);
+    (s.len() == ALL_ROWS) & (rows & text::all_between(text::rest(s, end), 0, 0))
 }
 
 fn link_good(link: u8) -> bool
@@ -244,7 +242,7 @@ fn facts_good(f: Facts) -> bool
     let serial = f.serial;
     let password = f.password;
     (values::is_digits(&serial, 10) & values::is_digits(&password, 8))
-        & (edition_good(f.edition) & (link_good(f.link) & decimals_good(f.decimals)))
+        & (values::is_edition(f.edition) & (link_good(f.link) & decimals_good(f.decimals)))
 }
 
 // Whether the facts that a meter is made from are good.
@@ -261,7 +259,8 @@ fn registers_good(g: Registers) -> bool
     let account = g.account;
     if factory_good(g.facts, &account, g.clock) & counters_good(g.counters) {
         let tables = g.tables;
-        return tables_good(&tables) & closing::archive_good(g.archive);
+        let f = g.facts;
+        return tables_good(&tables, values::tables_of(f.edition)) & closing::archive_good(g.archive);
     }
     false
 }
@@ -271,6 +270,15 @@ fn speed_good(link: u8, mode: u8, speed: u8) -> bool
     ensures { λ r. ⌜ r ≡ speedGood link mode speed ⌝ }
 {
     (speed == link::rest_speed(link)) | ((2 <= mode) & (speed == 5))
+}
+
+// Whether a meter is of an edition that there is.
+pub fn has_edition(m: Meter) -> bool
+    ensures { λ r. ⌜ r ≡ isEdition (editionOf m) ⌝ }
+{
+    let g = m.registers;
+    let f = g.facts;
+    values::is_edition(f.edition)
 }
 
 // Whether a state is well-formed.
@@ -286,6 +294,18 @@ pub fn is_well_formed(m: Meter) -> bool
         return registers_good(g);
     }
     false
+}
+
+// A row of '1' for each table of an edition, and 0 in the places behind them.
+fn new_rows(edition: u8) -> [u8; ALL_ROWS]
+    ensures { λ r. ⌜ r ≡ newRows edition ⌝ }
+{
+    if edition == 2 {
+        return [b'1'; ALL_ROWS];
+    }
+    let mut rows = [0u8; ALL_ROWS];
+    text::put(&mut rows, 0, &[b'1'; 576]);
+    rows
 }
 
 // A new meter: counters 0, attempts 0, all tables '1', no closed period, mode 0, an empty receiver.
@@ -305,7 +325,7 @@ fn meter_of(facts: Facts, account: [u8; 10], clock: Clock) -> Meter
                 zones: [0; 4],
                 total: 0,
             },
-            tables: [b'1'; ALL_ROWS],
+            tables: new_rows(facts.edition),
             archive: closing::empty_archive(),
         },
     }
@@ -341,7 +361,7 @@ pub fn blank() -> Meter
 fn facts_refused(edition: u8, decimals: u8) -> u8
     ensures { λ r. ⌜ r ≡ factsRefused edition decimals ⌝ }
 {
-    if edition_good(edition) {
+    if values::is_edition(edition) {
         if decimals_good(decimals) {
             return 15;
         }

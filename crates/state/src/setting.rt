@@ -2,7 +2,7 @@
 ghost use mathlib.Core.Path.{_≡_};
 ghost use Prim.Native.Nat.{_≤_};
 ghost use lib.ListN.{length};
-ghost use Rattle.state.specs.Sizes.{rowLength, tables};
+ghost use Rattle.state.specs.Sizes.{rowLength, tablePlaces};
 ghost use Rattle.state.specs.Making.{emptyReceiver};
 ghost use Rattle.state.specs.Setting.{withHeld, withMark, withReceiver, inMode, withAttempts, withRegisters, withAccount, withClock, withCounters, withTables, withArchive, withZones, withTotal, withRow, rowStart, zonePlace, counterOf, speedIn, withSpeed};
 use crate::ALL_ROWS;
@@ -207,7 +207,7 @@ pub fn row_start(t: TableNo) -> usize
 
 // The tables with one row anew.
 pub fn with_row(rows: [u8; ALL_ROWS], t: TableNo, row: &[u8]) -> [u8; ALL_ROWS]
-    requires { ⌜ ((1 ≤ t .0) × (t .0 ≤ tables)) × (length (now row) ≡ rowLength) ⌝ }
+    requires { ⌜ ((1 ≤ t .0) × (t .0 ≤ tablePlaces)) × (length (now row) ≡ rowLength) ⌝ }
     ensures { λ r. ⌜ r ≡ withRow rows (t .0) (now (row .entry)) ⌝ }
 {
     let mut next = rows;

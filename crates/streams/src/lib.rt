@@ -80,6 +80,23 @@ pub fn read_all(buf: &mut [u8]) -> Input
     }
 }
 
+// The edition that a program is started with, as its one word: 1 without a word, 0 where the words name none.
+pub fn edition_told() -> u8 {
+    let words = os::arg_count();
+    if words < 2 {
+        return 1;
+    }
+    let mut word = [0u8; 2];
+    let n = os::arg(1, &mut word);
+    if (words == 2) & text::same(&word[..n], b"1") {
+        return 1;
+    }
+    if (words == 2) & text::same(&word[..n], b"2") {
+        return 2;
+    }
+    0
+}
+
 // Says that the input was not read.
 pub fn complain() {
     io::write_all(STDERR_FILENO, b"the input can't be read\n");

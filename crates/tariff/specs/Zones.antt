@@ -1,8 +1,8 @@
 -- Document 01, "Other events": Monday to Friday uses table = month, Saturday and Sunday 12 + month; the character for the hour names the zone,
--- whose counter grows modulo 1,000,000,000.
-use mathlib.Core.Bool.{cond}
+-- whose counter grows modulo 1,000,000,000. [3]: edition 2 uses 25 on every Saturday.
+use mathlib.Core.Bool.{Bool, cond, _&&_}
 use Prim.Native.Nat.{ℕ, _+_, _-_, _%_}
-use lib.Dec.{ltb}
+use lib.Dec.{eqb, ltb}
 use lib.ListN.{getD, set}
 use Rattle.clock.specs.Weekday.{weekday}
 use Rattle.clock.specs.declared.Date.{Date}
@@ -11,12 +11,16 @@ use Rattle.state.specs.declared.Registers.{Registers}
 use Rattle.state.specs.Sizes.{counterEnd}
 use Rattle.state.specs.Setting.{rowStart, zonePlace, counterOf, withZones, withTotal}
 
-unfoldable pub tableFor : Date → ℕ
-tableFor d = cond (ltb (weekday d) 5) (d .month) (12 + d .month)
+-- a Saturday of a meter that has a table for it
+unfoldable pub ownDay : ℕ → ℕ → Bool
+ownDay edition day = eqb edition 2 && eqb day 5
+
+unfoldable pub tableFor : ℕ → Date → ℕ
+tableFor edition d = cond (ltb (weekday d) 5) (d .month) (cond (ownDay edition (weekday d)) 25 (12 + d .month))
 
 -- the zone that the character for the hour in the day's table names, '1' to '4'
 unfoldable pub zoneIn : Registers → ℕ
-zoneIn g = getD (g .tables) (rowStart (tableFor (g .clock .date)) + g .clock .time .hour) 0 - 48
+zoneIn g = getD (g .tables) (rowStart (tableFor (g .facts .edition) (g .clock .date)) + g .clock .time .hour) 0 - 48
 
 abbrev pub grown : ℕ → ℕ → ℕ
 grown counter wh = (counter + wh) % counterEnd

@@ -4,7 +4,7 @@ ghost use mathlib.Core.Bool.{true};
 ghost use Prim.Native.Nat.{_-_, _≤_, _<_};
 ghost use Rattle.state.specs.Sizes.{counterEnd};
 ghost use Rattle.state.specs.WellFormed.{countersGood, archiveGood};
-ghost use Rattle.tariff.specs.Zones.{tableFor, zoneIn, grown, counted};
+ghost use Rattle.tariff.specs.Zones.{ownDay, tableFor, zoneIn, grown, counted};
 ghost use Rattle.tariff.specs.Months.{monthStarts, monthClosed, secondLater};
 use clock::Clock;
 use clock::Date;
@@ -14,13 +14,17 @@ use state::Registers;
 use values::TableNo;
 use values::ZoneNo;
 
-// The day's table.
-pub fn table_for(d: Date) -> TableNo
+// The day's table: the month's, that of Saturdays, or that of the month's other days.
+pub fn table_for(edition: u8, d: Date) -> TableNo
     requires { ⌜ d .month ≤ 12 ⌝ }
-    ensures { λ r. ⌜ r .0 ≡ tableFor d ⌝ }
+    ensures { λ r. ⌜ r .0 ≡ tableFor edition d ⌝ }
 {
-    if clock::day_of_week(d) < 5 {
+    let day = clock::day_of_week(d);
+    if day < 5 {
         return TableNo(d.month);
+    }
+    if (edition == 2) & (day == 5) {
+        return TableNo(25);
     }
     TableNo(12 + d.month)
 }
@@ -40,8 +44,9 @@ pub fn zone_in(g: Registers) -> ZoneNo
     let c = g.clock;
     let d = c.date;
     let t = c.time;
+    let f = g.facts;
     let rows = g.tables;
-    let at = state::setting::row_start(table_for(d)) + t.hour as usize;
+    let at = state::setting::row_start(table_for(f.edition, d)) + t.hour as usize;
     ZoneNo(digit(text::at(&rows, at)))
 }
 

@@ -11,10 +11,10 @@ use Rattle.line.specs.Characters.{damagedAt, seven, undamagedAll}
 use Rattle.text.specs.Classes.{sameText, matching}
 use Rattle.text.proofs.Matching.{same-is}
 use Rattle.frames.specs.Session.{confirmation}
-use Rattle.state.specs.Sizes.{tables}
 use Rattle.state.specs.declared.Registers.{Registers}
 use Rattle.state.specs.declared.Meter.{Meter}
 use Rattle.state.specs.Link.{isWired, restSpeed}
+use Rattle.state.specs.WellFormed.{tablesIn}
 use Rattle.state.specs.Setting.{inMode, withSpeed}
 use Rattle.receiving.specs.declared.Hearing.the-variants.{Hold, Confirm}
 use Rattle.receiving.specs.Hearing.{confirming, hearing}
@@ -95,8 +95,8 @@ module _ (failed speed : ℕ) (said : List ℕ) (g : Registers) (b : ℕ) where
       go : (u d p q r : Bool) → (p ≡ true → r ≡ false) → (q ≡ true → r ≡ false)
           → Goal ((u && not d) && r)
           (cond (eqb (cond u 0 1) 1 || d) (silent 2 (inMode m 0))
-          (cond p (readOut m (confirmedSpeed m) (blockData tables g))
-          (cond q (readOut m (confirmedSpeed m) (longData tables g))
+          (cond p (readOut m (confirmedSpeed m) (blockData (tablesIn g) g))
+          (cond q (readOut m (confirmedSpeed m) (longData (tablesIn g) g))
           (cond r (saying 1 (confirmedSpeed m) passwordAsk (withSpeed (inMode m 2) (confirmedSpeed m))) (silent 2 (inMode m 0))))))
       go false d p q r f h = out
       go true true p q r f h = out

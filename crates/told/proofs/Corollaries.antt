@@ -9,6 +9,7 @@ use lib.ListN.{length}
 use Rattle.line.proofs.Runs.{and-left, and-right}
 use Rattle.text.specs.Classes.{sameText}
 use Rattle.clock.specs.declared.Clock.{Clock}
+use Rattle.values.specs.Edition.{tablesOf}
 use Rattle.state.specs.declared.Facts.{Facts}
 use Rattle.state.specs.Link.{isWired}
 use Rattle.state.specs.WellFormed.{factoryGood}
@@ -56,7 +57,7 @@ byte-apart facts s b far never =
     (λ t. choice.either Apart (eqb (s .failed) 3) refl
     (choice.given Apart (sameText (passwordIn (frameBy s b)) (facts .password)) (λ r. untrue (sym never ∙ all two w t r)) refl))
     refl))
-    (choice.either Apart (leaves (frameBy s b)) refl (choice.either Apart (isTaken (s .mode) (frameBy s b)) far fallen)))
+    (choice.either Apart (leaves (frameBy s b)) refl (choice.either Apart (isTaken (tablesOf (facts .edition)) (s .mode) (frameBy s b)) far fallen)))
     (choice.either Apart (isTooMany s b) fallen far)))
   where
     fallen : eqb (refusedIn facts (s .mode)) 4 ≡ false
@@ -105,12 +106,12 @@ past-snoc past [] room e = refl
 past-snoc past ((r, x) ∷ es) room e = past-snoc (cond (happens r x) (x ∷ past) past) es room e
 
 -- a frame tells one write or none
-one-write : (P : List Write → Type 0) (frame : List ℕ) → P [] → ((w : Write) → P (w ∷ [])) → P (writeIn frame)
+one-write : (P : List Write → Type 0) (tables : ℕ) (frame : List ℕ) → P [] → ((w : Write) → P (w ∷ [])) → P (writeIn tables frame)
 unfolding writeIn writeOf
-one-write P frame none one =
+one-write P tables frame none one =
     let d = dataIn frame in
     choice.either P (isFrame (87 ∷ 49 ∷ []) frame)
-    (choice.either P (tells d (clockHere d)) (one _) (choice.either P (tells d (accountHere d)) (one _) (choice.either P (tells d (rowHere d)) (one _) none)))
+    (choice.either P (tells tables d (clockHere d)) (one _) (choice.either P (tells tables d (accountHere d)) (one _) (choice.either P (tells tables d (rowHere tables d)) (one _) none)))
     none
 
 module _ (facts : Facts) (account₀ : List ℕ) (clock₀ : Clock) (good : factoryGood facts account₀ clock₀ ≡ true) where
@@ -152,12 +153,12 @@ module _ (facts : Facts) (account₀ : List ℕ) (clock₀ : Clock) (good : fact
     After = AccountAfter facts account₀ clock₀ es room (Character b)
 
     -- it makes a frame whole while programming mode stands
-    told-then : (eqb (s′ .mode) 4 && isWhole s′) ≡ true → happens room (Character b) ≡ true → (ws : List Write) → writeIn frame ≡ ws
+    told-then : (eqb (s′ .mode) 4 && isWhole s′) ≡ true → happens room (Character b) ≡ true → (ws : List Write) → writeIn (tablesOf (facts .edition)) frame ≡ ws
         → writesOf (deeds facts (cond (happens room (Character b)) (Character b ∷ happened es) (happened es))) ≡ writesOf (wroteAll ws ++ deeds facts (happened es))
     unfolding deeds deedsAt
     told-then k h ws e = rw (h, k, e)
 
-    by-write : (eqb (s′ .mode) 4 && isWhole s′) ≡ true → happens room (Character b) ≡ true → (w : Write) → writeIn frame ≡ w ∷ [] → After
+    by-write : (eqb (s′ .mode) 4 && isWhole s′) ≡ true → happens room (Character b) ≡ true → (w : Write) → writeIn (tablesOf (facts .edition)) frame ≡ w ∷ [] → After
     unfolding wroteAll writesOf accountTold
     by-write k h (clock c) e = same es room (Character b) _ (told-then k h _ e) refl
     by-write k h (account a) e =
@@ -171,7 +172,7 @@ module _ (facts : Facts) (account₀ : List ℕ) (clock₀ : Clock) (good : fact
         go h x false y = idle es room (Character b) (unfold deedsAt in (byte-writes facts s′ b (deeds facts (happened es)) y))
         go false x true y = same es room (Character b) _ (ap (λ (p : Bool). writesOf (deeds facts (cond p (Character b ∷ happened es) (happened es)))) x) refl
         go true x true y =
-            one-write (λ (ws : List Write). writeIn frame ≡ ws → After) frame
+            one-write (λ (ws : List Write). writeIn (tablesOf (facts .edition)) frame ≡ ws → After) (tablesOf (facts .edition)) frame
             (λ e. same es room (Character b) _ (told-then y x [] e) (unfold wroteAll in refl)) (λ w e. by-write y x w e) refl
 
   after-event : (es : List (ℕ × Event)) (room : ℕ) (e : Event) → AccountAfter facts account₀ clock₀ es room e
@@ -200,5 +201,5 @@ module _ (facts : Facts) (account₀ : List ℕ) (clock₀ : Clock) (good : fact
               same-tables = nothing-told es .tables-told ∙ ap (tablesTold (meterOf facts account₀ clock₀ .registers .tables)) e ∙ sym (nothing-told es′ .tables-told);
             };
         last-rows = λ es n good-n.
-            ap (λ (t : List ℕ). rowOf t n) (nothing-told es .tables-told) ∙ rows-told n good-n (writesTold facts es) (told-good facts (happened es));
+            ap (λ (t : List ℕ). rowOf t n) (nothing-told es .tables-told) ∙ rows-told (facts .edition) n good-n (writesTold facts es) (told-good facts (happened es));
       }

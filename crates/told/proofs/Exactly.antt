@@ -2,7 +2,7 @@
 use mathlib.Core.Path.{_≡_, refl, sym, ap, ap₂, _∙_}
 use mathlib.Core.Bool.{true, _&&_}
 use mathlib.Core.List.{List, [], _∷_, _++_, map, append-assoc}
-use Prim.Native.Nat.{ℕ, _-_}
+use Prim.Native.Nat.{ℕ, _-_, _<_}
 use native.Mathlib.Omega.{arith}
 use lib.ListN.{length, take, drop, length-append}
 use lib.Seq.{take-at}
@@ -12,8 +12,9 @@ use Rattle.line.specs.Runs.{every}
 use Rattle.line.proofs.Runs.{and-left, and-right, and-both}
 use Rattle.text.specs.Classes.{isPrintable}
 use Rattle.text.proofs.Matching.{same-is}
-use Rattle.values.specs.Edition.{editionTables}
+use Rattle.values.specs.Edition.{tablesOf}
 use Rattle.values.specs.Registers.{goodTable}
+use Rattle.values.proofs.Editions.{tables-most}
 use Rattle.frames.specs.Frames.{closed, frameOf}
 use Rattle.commands.specs.Spoken.{writeClock, writeAccount, writeTable, goodFields, dataOf}
 use Rattle.readback.proofs.Commands.{command-printable}
@@ -33,57 +34,60 @@ data-back frame x h =
     let long : length frame - 6 ≡ length x = omega (arith, sym (length-map seven frame) ∙ ap length is, length-append (x ++ (3 ∷ [])) (bcc ∷ []), length-append x (3 ∷ [])) in
     ap₂ (λ (n : ℕ) (l : List ℕ). take n (drop 4 l)) long is ∙ ap (take (length x)) (append-assoc x (3 ∷ []) (bcc ∷ [])) ∙ take-at x (3 ∷ bcc ∷ []) (length x) refl
 
-data-printable : (w : Write) → goodWrite w ≡ true → every isPrintable (writeData w) ≡ true
+data-printable : (tables : ℕ) (w : Write) → goodWrite tables w ≡ true → every isPrintable (writeData w) ≡ true
 unfolding goodWrite writeData
-data-printable (clock c) g = unfold dataOf goodFields in (command-printable editionTables (writeClock c) g)
-data-printable (account a) g = unfold dataOf goodFields in (command-printable editionTables (writeAccount a) g)
-data-printable (row n r) g = unfold dataOf goodFields in (command-printable editionTables (writeTable n r) g)
+data-printable tables (clock c) g = unfold dataOf goodFields in (command-printable tables (writeClock c) g)
+data-printable tables (account a) g = unfold dataOf goodFields in (command-printable tables (writeAccount a) g)
+data-printable tables (row n r) g = unfold dataOf goodFields in (command-printable tables (writeTable n r) g)
 
-data-written : (w : Write) → goodWrite w ≡ true → writeOf (writeData w) ≡ w ∷ []
+data-written : (tables : ℕ) (w : Write) → tables < 100 → goodWrite tables w ≡ true → writeOf tables (writeData w) ≡ w ∷ []
 unfolding goodWrite writeData
-data-written (clock c) g = clock-written c g
-data-written (account a) g = account-written a g
-data-written (row n r) g = row-written n r (and-left (goodTable editionTables n) _ g) (and-right (goodTable editionTables n) _ g)
+data-written tables (clock c) few g = clock-written tables c g
+data-written tables (account a) few g = account-written tables a g
+data-written tables (row n r) few g = row-written tables n r few (and-left (goodTable tables n) _ g) (and-right (goodTable tables n) _ g)
 
 -- the first of a list
 first : Write → List Write → Write
 first w [] = w
 first w (x ∷ xs) = x
 
-module _ (frame : List ℕ) (w : Write) where
+module _ (edition : ℕ) (frame : List ℕ) (w : Write) where
+  abbrev tables : ℕ
+  tables = tablesOf edition
+
   abbrev Built : Write → Type 0
-  Built v = (goodWrite v && says frame (frameOf (87 ∷ 49 ∷ []) (writeData v))) ≡ true
+  Built v = (goodWrite tables v && says frame (frameOf (87 ∷ 49 ∷ []) (writeData v))) ≡ true
 
   none : [] ≡ w ∷ [] → Built w
   none e = absurd (omega (arith, ap length e))
 
-  one : isFrame (87 ∷ 49 ∷ []) frame ≡ true → (v : Write) → tells (dataIn frame) v ≡ true → v ∷ [] ≡ w ∷ [] → Built w
+  one : isFrame (87 ∷ 49 ∷ []) frame ≡ true → (v : Write) → tells tables (dataIn frame) v ≡ true → v ∷ [] ≡ w ∷ [] → Built w
   unfolding first isFrame tells
   one f v t e =
       let same : v ≡ w = ap (first w) e in
       let said = and-left (says frame (frameOf (87 ∷ 49 ∷ []) (dataIn frame))) _ f in
-      let d = same-is (dataIn frame) (writeData v) (and-right (goodWrite v) _ t) in
-      rw same at (and-both (goodWrite v) (says frame (frameOf (87 ∷ 49 ∷ []) (writeData v))) (and-left (goodWrite v) _ t) (rw d at said))
+      let d = same-is (dataIn frame) (writeData v) (and-right (goodWrite tables v) _ t) in
+      rw same at (and-both (goodWrite tables v) (says frame (frameOf (87 ∷ 49 ∷ []) (writeData v))) (and-left (goodWrite tables v) _ t) (rw d at said))
 
-  as-built-is : writeIn frame ≡ w ∷ [] → Built w
+  as-built-is : writeIn tables frame ≡ w ∷ [] → Built w
   unfolding writeIn writeOf
   as-built-is =
       let d = dataIn frame in
       choice.given P (isFrame (87 ∷ 49 ∷ []) frame)
-      (λ f. choice.given P (tells d (clockHere d)) (one f (clockHere d))
-      (choice.given P (tells d (accountHere d)) (one f (accountHere d))
-      (choice.given P (tells d (rowHere d)) (one f (rowHere d)) none)))
+      (λ f. choice.given P (tells tables d (clockHere d)) (one f (clockHere d))
+      (choice.given P (tells tables d (accountHere d)) (one f (accountHere d))
+      (choice.given P (tells tables d (rowHere tables d)) (one f (rowHere tables d)) none)))
       none
     where
       P : List Write → Type 0
       P ws = ws ≡ w ∷ [] → Built w
 
-  when-built-is : Built w → writeIn frame ≡ w ∷ []
+  when-built-is : Built w → writeIn tables frame ≡ w ∷ []
   unfolding writeIn isFrame
   when-built-is h =
-      let good = and-left (goodWrite w) _ h in
-      let said = and-right (goodWrite w) _ h in
-      rw (data-back frame (writeData w) said, said, data-printable w good) (data-written w good)
+      let good = and-left (goodWrite tables w) _ h in
+      let said = and-right (goodWrite tables w) _ h in
+      rw (data-back frame (writeData w) said, said, data-printable tables w good) (data-written tables w (omega (arith, tables-most edition)) good)
 
-  pub exactly : Exactly frame w
+  pub exactly : Exactly edition frame w
   exactly = record { as-built = as-built-is; when-built = when-built-is }

@@ -16,7 +16,6 @@ use Rattle.text.specs.Classes.{sameText, isPrintable, between}
 use Rattle.text.specs.Layout.{fits}
 use Rattle.text.proofs.Matching.{same-is, same-self, same-snoc}
 use Rattle.line.specs.Quoted.{chars}
-use Rattle.values.specs.Edition.{editionTables}
 use Rattle.values.specs.Reading.{tableRead}
 use Rattle.frames.specs.Commands.{askClock, askSerial, askAccount, askEnergy}
 use Rattle.frames.specs.Frames.{closed, frameOf, bareFrame}
@@ -133,21 +132,21 @@ pub data Refused : Verdict → Type 0 where
   refused : (n : ℕ) → Refused (Refuse n)
 
 -- what R1 may ask, and all else
-pub data Asks (d : List ℕ) : Verdict → Type 0 where
-  asks-it : (a : Ask) → isAsk d ≡ true → Asks d (Read a)
-  asks-nothing : isAsk d ≡ false → Asks d (Refuse 9)
+pub data Asks (tables : ℕ) (d : List ℕ) : Verdict → Type 0 where
+  asks-it : (a : Ask) → isAsk tables d ≡ true → Asks tables d (Read a)
+  asks-nothing : isAsk tables d ≡ false → Asks tables d (Refuse 9)
 
-pub asked-asks : (d : List ℕ) → Asks d (asked d)
+pub asked-asks : (tables : ℕ) (d : List ℕ) → Asks tables d (asked tables d)
 unfolding asked energyAsked tableAsked isAsk
-asked-asks d =
+asked-asks tables d =
     go (sameText d askClock) refl (sameText d askSerial) refl (sameText d askAccount) refl
     (sameText d (askEnergy 0)) refl (sameText d (askEnergy 1)) refl (sameText d (askEnergy 2)) refl (sameText d (askEnergy 3)) refl (sameText d (askEnergy 4)) refl
-    (fits (chars "Z(##)") d) refl (tableRead editionTables (take 2 (drop 2 d)) .ok) refl
+    (fits (chars "Z(##)") d) refl (tableRead tables (take 2 (drop 2 d)) .ok) refl
   where
     go : (c : Bool) → sameText d askClock ≡ c → (s : Bool) → sameText d askSerial ≡ s → (a : Bool) → sameText d askAccount ≡ a
         → (e0 : Bool) → sameText d (askEnergy 0) ≡ e0 → (e1 : Bool) → sameText d (askEnergy 1) ≡ e1 → (e2 : Bool) → sameText d (askEnergy 2) ≡ e2
         → (e3 : Bool) → sameText d (askEnergy 3) ≡ e3 → (e4 : Bool) → sameText d (askEnergy 4) ≡ e4
-        → (z : Bool) → fits (chars "Z(##)") d ≡ z → (k : Bool) → tableRead editionTables (take 2 (drop 2 d)) .ok ≡ k → Asks d (asked d)
+        → (z : Bool) → fits (chars "Z(##)") d ≡ z → (k : Bool) → tableRead tables (take 2 (drop 2 d)) .ok ≡ k → Asks tables d (asked tables d)
     go true x0 s x1 a x2 e0 x3 e1 x4 e2 x5 e3 x6 e4 x7 z x8 k x9 = rw x0 (asks-it _ (rw x0))
     go false x0 true x1 a x2 e0 x3 e1 x4 e2 x5 e3 x6 e4 x7 z x8 k x9 = rw (x0, x1) (asks-it _ (rw (x0, x1)))
     go false x0 false x1 true x2 e0 x3 e1 x4 e2 x5 e3 x6 e4 x7 z x8 k x9 = rw (x0, x1, x2) (asks-it _ (rw (x0, x1, x2)))
@@ -214,9 +213,9 @@ module _ (run : List ℕ) (b : ℕ) where
   unfolding isFrame
   frame-unmarked command h = says-unmarked _ (and-left (says frame (frameOf command (dataIn frame))) _ h)
 
-  module _ (mode : ℕ) where
+  module _ (tables mode : ℕ) where
     -- the frame is one with these letters
-    pub framed-decided : (x y : ℕ) → isPrintable x ≡ true → isPrintable y ≡ true → isFrame (x ∷ y ∷ []) frame ≡ true → verdict mode held mark (symbol b) ≡ framedVerdict mode x y (content held)
+    pub framed-decided : (x y : ℕ) → isPrintable x ≡ true → isPrintable y ≡ true → isFrame (x ∷ y ∷ []) frame ≡ true → verdict tables mode held mark (symbol b) ≡ framedVerdict tables mode x y (content held)
     unfolding isFrame
     framed-decided x y px py h =
         let e = frame-unmarked (x ∷ y ∷ []) (unfold isFrame in h) in
@@ -226,7 +225,7 @@ module _ (run : List ℕ) (b : ℕ) where
         let same : sameText (held ++ (symbol b ∷ [])) (frameOf (x ∷ y ∷ []) (content held)) ≡ true =
         sym (says-held (frameOf (x ∷ y ∷ []) (content held)) e) ∙ ap (λ (d : List ℕ). says frame (frameOf (x ∷ y ∷ []) d)) (sym here) ∙ said in
         let two = apart x y (content held) same in
-        rw e (ap₂ (λ (l : List ℕ) (n : ℕ). verdict mode l false n) (two .0) (two .1) ∙ verdict-is x y (content held) px py printable mode)
+        rw e (ap₂ (λ (l : List ℕ) (n : ℕ). verdict tables mode l false n) (two .0) (two .1) ∙ verdict-is x y (content held) px py printable tables mode)
       where
         apart : (x y : ℕ) (d : List ℕ) → sameText (held ++ (symbol b ∷ [])) (frameOf (x ∷ y ∷ []) d) ≡ true
             → (held ≡ heldFrame x y d) × (symbol b ≡ bccOf (x ∷ y ∷ 2 ∷ (d ++ (3 ∷ []))))
@@ -235,24 +234,24 @@ module _ (run : List ℕ) (b : ℕ) where
             (same-is held (heldFrame x y d) (and-left (sameText held (heldFrame x y d)) _ both), eqb-true (symbol b) _ (and-right (sameText held (heldFrame x y d)) _ both)))
 
     -- it is B0
-    pub leaves-decided : (leb 2 mode && leb mode 4) ≡ true → leaves frame ≡ true → verdict mode held mark (symbol b) ≡ Leave
+    pub leaves-decided : (leb 2 mode && leb mode 4) ≡ true → leaves frame ≡ true → verdict tables mode held mark (symbol b) ≡ Leave
     unfolding leaves
     leaves-decided session h =
         let e = says-unmarked _ h in
         let two = apart (sym (says-held (bareFrame (66 ∷ 48 ∷ [])) e) ∙ h) in
-        rw e (ap₂ (λ (l : List ℕ) (n : ℕ). verdict mode l false n) (two .0) (two .1) ∙ bare mode session)
+        rw e (ap₂ (λ (l : List ℕ) (n : ℕ). verdict tables mode l false n) (two .0) (two .1) ∙ bare mode session)
       where
         apart : sameText (held ++ (symbol b ∷ [])) (bareFrame (66 ∷ 48 ∷ [])) ≡ true → (held ≡ 1 ∷ 66 ∷ 48 ∷ 3 ∷ []) × (symbol b ≡ bccOf (66 ∷ 48 ∷ 3 ∷ []))
         apart h = unfold bareFrame closed in (
             let both = sym (same-snoc held (1 ∷ 66 ∷ 48 ∷ 3 ∷ []) (symbol b) (bccOf (66 ∷ 48 ∷ 3 ∷ []))) ∙ h in
             (same-is held (1 ∷ 66 ∷ 48 ∷ 3 ∷ []) (and-left (sameText held (1 ∷ 66 ∷ 48 ∷ 3 ∷ [])) _ both), eqb-true (symbol b) _ (and-right (sameText held (1 ∷ 66 ∷ 48 ∷ 3 ∷ [])) _ both)))
 
-        bare : (mode : ℕ) → (leb 2 mode && leb mode 4) ≡ true → verdict mode (1 ∷ 66 ∷ 48 ∷ 3 ∷ []) false (bccOf (66 ∷ 48 ∷ 3 ∷ [])) ≡ Leave
+        bare : (mode : ℕ) → (leb 2 mode && leb mode 4) ≡ true → verdict tables mode (1 ∷ 66 ∷ 48 ∷ 3 ∷ []) false (bccOf (66 ∷ 48 ∷ 3 ∷ [])) ≡ Leave
         bare mode k = unfold verdict shapeVerdict bareShape startGood isPrintable between bareVerdict in (rw (eq-eqb (bccOf (66 ∷ 48 ∷ 3 ∷ [])) _ refl, k))
 
     -- it is none that does anything
     pub other-decided : leaves frame ≡ false → isFrame (80 ∷ 49 ∷ []) frame ≡ false → isFrame (82 ∷ 49 ∷ []) frame ≡ false → isFrame (87 ∷ 49 ∷ []) frame ≡ false
-        → Refused (verdict mode held mark (symbol b))
+        → Refused (verdict tables mode held mark (symbol b))
     unfolding verdict shapeVerdict bareVerdict framedVerdict
     other-decided none no-entry no-ask no-write =
         choice.told Refused mark (λ e. refused 3)

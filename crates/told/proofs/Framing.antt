@@ -2,7 +2,7 @@
 use mathlib.Core.Path.{_≡_, refl, sym, ap, _∙_}
 use mathlib.Core.Bool.{Bool, true, false, cond, not, _&&_, _||_, and-true, and-false}
 use mathlib.Core.List.{List, [], _∷_, _++_, map}
-use Prim.Native.Nat.{ℕ, _+_, _-_}
+use Prim.Native.Nat.{ℕ, _+_, _-_, _<_}
 use native.Mathlib.Omega.{arith}
 use borrow.Author.Tests.{leb-true, leb-false, eqb-true, eqb-false}
 use lib.Dec.{eqb, leb}
@@ -14,13 +14,14 @@ use Rattle.text.specs.Classes.{sameText, isPrintable, between}
 use Rattle.text.specs.Layout.{fits}
 use Rattle.text.proofs.Matching.{same-is}
 use Rattle.values.proofs.Fields.{fits-long}
+use Rattle.values.proofs.Editions.{tables-most}
 use Rattle.frames.specs.Frames.{closed, frameOf, bareFrame}
 use Rattle.frames.specs.Session.{enterData}
-use Rattle.state.specs.Sizes.{tables}
 use Rattle.state.specs.declared.Receiver.{Receiver}
 use Rattle.state.specs.declared.Registers.{Registers}
 use Rattle.state.specs.declared.Meter.{Meter}
 use Rattle.state.specs.Link.{isWired}
+use Rattle.state.specs.WellFormed.{tablesIn}
 use Rattle.state.specs.Making.{emptyReceiver}
 use Rattle.state.specs.Setting.{meterIn, inMode, withAttempts, withClock, withAccount, withTables, withRow}
 use Rattle.receiving.specs.declared.Hearing.{Hearing}
@@ -151,7 +152,7 @@ module _ (failed speed : ℕ) (said run : List ℕ) (g : Registers) (b : ℕ) wh
       go false false k = refused-2 9
 
   abbrev decided2 : Verdict
-  decided2 = verdict 2 (held run b) (mark run b) (symbol b)
+  decided2 = verdict (tablesIn g) 2 (held run b) (mark run b) (symbol b)
 
   frame-2 : Goal2 (told.entered (g .facts) s2 f2) decided2
   frame-2 = go (leaves f2) refl (isFrame (80 ∷ 49 ∷ []) f2) refl (isFrame (82 ∷ 49 ∷ []) f2) refl (isFrame (87 ∷ 49 ∷ []) f2) refl
@@ -162,13 +163,13 @@ module _ (failed speed : ℕ) (said run : List ℕ) (g : Registers) (b : ℕ) wh
       go : (l : Bool) → leaves f2 ≡ l → (p : Bool) → isFrame (80 ∷ 49 ∷ []) f2 ≡ p → (r : Bool) → isFrame (82 ∷ 49 ∷ []) f2 ≡ r → (w : Bool) → isFrame (87 ∷ 49 ∷ []) f2 ≡ w
           → Goal2 (told.entered (g .facts) s2 f2) decided2
       go true e true f r j w k = absurd (omega (arith, leave-letter f2 e, frame-letter f2 80 49 f))
-      go true e false f r j w k = rw (no-more f, leaves-decided run b 2 refl e) (unfold acted in (begins 0 failed _ g))
-      go false e true f r j w k = rw (framed-decided run b 2 80 49 (unfold isPrintable between in refl) (unfold isPrintable between in refl) f) (unfold framedVerdict in (entry-2 f))
+      go true e false f r j w k = rw (no-more f, leaves-decided run b (tablesIn g) 2 refl e) (unfold acted in (begins 0 failed _ g))
+      go false e true f r j w k = rw (framed-decided run b (tablesIn g) 2 80 49 (unfold isPrintable between in refl) (unfold isPrintable between in refl) f) (unfold framedVerdict in (entry-2 f))
       go false e false f true j w k =
-          rw (no-more f, framed-decided run b 2 82 49 (unfold isPrintable between in refl) (unfold isPrintable between in refl) j) (unfold framedVerdict in (refused-2 8))
+          rw (no-more f, framed-decided run b (tablesIn g) 2 82 49 (unfold isPrintable between in refl) (unfold isPrintable between in refl) j) (unfold framedVerdict in (refused-2 8))
       go false e false f false j true k =
-          rw (no-more f, framed-decided run b 2 87 49 (unfold isPrintable between in refl) (unfold isPrintable between in refl) k) (unfold framedVerdict in (refused-2 8))
-      go false e false f false j false k = rw (no-more f) (idle-2 decided2 (other-decided run b 2 e f j k))
+          rw (no-more f, framed-decided run b (tablesIn g) 2 87 49 (unfold isPrintable between in refl) (unfold isPrintable between in refl) k) (unfold framedVerdict in (refused-2 8))
+      go false e false f false j false k = rw (no-more f) (idle-2 decided2 (other-decided run b (tablesIn g) 2 e f j k))
 
 -- ---- a frame in modes 3 and 4
 
@@ -197,36 +198,39 @@ module _ (mode failed speed : ℕ) (said run : List ℕ) (g : Registers) (b : �
   to3 taken = cond taken (anew s3 mode) (anew s3 (refusedIn (g .facts) mode))
 
   -- the data of a question
-  ask-3 : Goal3 (to3 (isAsk (content (held run b)))) [] (asked (content (held run b)))
+  ask-3 : Goal3 (to3 (isAsk (tablesIn g) (content (held run b)))) [] (asked (tablesIn g) (content (held run b)))
   unfolding acted doneAll
-  ask-3 = go (asked (content (held run b))) (asked-asks (content (held run b)))
+  ask-3 = go (asked (tablesIn g) (content (held run b))) (asked-asks (tablesIn g) (content (held run b)))
     where
-      go : (v : Verdict) → Asks (content (held run b)) v → Goal3 (to3 (isAsk (content (held run b)))) [] v
+      go : (v : Verdict) → Asks (tablesIn g) (content (held run b)) v → Goal3 (to3 (isAsk (tablesIn g) (content (held run b)))) [] v
       go v (asks-it a e) = rw e (begins mode failed speed g)
       go v (asks-nothing e) = rw e (refused-3 9)
 
   -- the data of a write
-  write-3 : Goal3 (to3 (someWrite (writeOf (content (held run b))))) (wroteAll (writeOf (content (held run b)))) (telling.told (content (held run b)))
+  write-3 : Goal3 (to3 (someWrite (writeOf (tablesIn g) (content (held run b))))) (wroteAll (writeOf (tablesIn g) (content (held run b)))) (telling.told (tablesIn g) (content (held run b)))
   unfolding acted wroteAll doneAll done written someWrite
-  write-3 = go (telling.told d) refl (told-tells d)
+  write-3 = go (telling.told (tablesIn g) d) refl (told-tells (tablesIn g) d)
     where
       d : List ℕ
       d = content (held run b)
 
-      go : (v : Verdict) → telling.told d ≡ v → Tells d v → Goal3 (to3 (someWrite (writeOf d))) (wroteAll (writeOf d)) v
-      go v e (the-clock c real is) = rw (ap writeOf is ∙ clock-written c real) (begins mode failed speed (withClock g c))
+      few : tablesIn g < 100
+      few = omega (arith, tables-most (g .facts .edition))
+
+      go : (v : Verdict) → telling.told (tablesIn g) d ≡ v → Tells (tablesIn g) d v → Goal3 (to3 (someWrite (writeOf (tablesIn g) d))) (wroteAll (writeOf (tablesIn g) d)) v
+      go v e (the-clock c real is) = rw (ap (writeOf (tablesIn g)) is ∙ clock-written (tablesIn g) c real) (begins mode failed speed (withClock g c))
       go v e (the-account good is) =
-          rw (ap writeOf is ∙ account-written (inner d) good, account-told (filled run .count) (filled run .held) good)
+          rw (ap (writeOf (tablesIn g)) is ∙ account-written (tablesIn g) (inner d) good, account-told (filled run .count) (filled run .held) good)
           (begins mode failed speed (withAccount g (take 10 (drop 6 (filled run .held)))))
       go v e (the-row t good-t good is) =
-          rw (ap writeOf is ∙ row-written (t .0) (drop 3 (inner d)) good-t good, good-t, row-told (filled run .count) (filled run .held) good)
+          rw (ap (writeOf (tablesIn g)) is ∙ row-written (tablesIn g) (t .0) (drop 3 (inner d)) few good-t good, good-t, row-told (filled run .count) (filled run .held) good)
           (begins mode failed speed (withTables g (withRow (g .tables) (t .0) (take 24 (drop 9 (filled run .held))))))
-      go v e nothing = rw (none-written d e) (refused-3 9)
+      go v e nothing = rw (none-written (tablesIn g) d few e) (refused-3 9)
 
   abbrev decided3 : Verdict
-  decided3 = verdict mode (held run b) (mark run b) (symbol b)
+  decided3 = verdict (tablesIn g) mode (held run b) (mark run b) (symbol b)
 
-  frame-3 : (leb 2 mode && leb mode 4) ≡ true → Goal3 (cond (leaves f3) (anew s3 0) (to3 (isTaken mode f3))) (cond (eqb mode 4) (wroteAll (writeIn f3)) []) decided3
+  frame-3 : (leb 2 mode && leb mode 4) ≡ true → Goal3 (cond (leaves f3) (anew s3 0) (to3 (isTaken (tablesIn g) mode f3))) (cond (eqb mode 4) (wroteAll (writeIn (tablesIn g) f3)) []) decided3
   unfolding writeIn isTaken asks someWrite
   frame-3 session = go (leaves f3) refl (isFrame (80 ∷ 49 ∷ []) f3) refl (isFrame (82 ∷ 49 ∷ []) f3) refl (isFrame (87 ∷ 49 ∷ []) f3) refl
     where
@@ -248,27 +252,27 @@ module _ (mode failed speed : ℕ) (said run : List ℕ) (g : Registers) (b : �
               absurd (omega (arith, eqb-false mode 2 later, eqb-false mode 3 e, eqb-false mode 4 f, leb-true 2 mode (and-left (leb 2 mode) _ session), leb-true mode 4 (and-right (leb 2 mode) _ session)))
 
       -- a write is taken in mode 4 alone
-      told-3 : (p : Bool) → Goal3 (to3 (p && someWrite (writeOf (content (held run b))))) (cond p (wroteAll (writeOf (content (held run b)))) []) (cond p (telling.told (content (held run b))) (Refuse 8))
+      told-3 : (p : Bool) → Goal3 (to3 (p && someWrite (writeOf (tablesIn g) (content (held run b))))) (cond p (wroteAll (writeOf (tablesIn g) (content (held run b)))) []) (cond p (telling.told (tablesIn g) (content (held run b))) (Refuse 8))
       told-3 true = write-3
       told-3 false = refused-3 8
 
       go : (l : Bool) → leaves f3 ≡ l → (p : Bool) → isFrame (80 ∷ 49 ∷ []) f3 ≡ p → (r : Bool) → isFrame (82 ∷ 49 ∷ []) f3 ≡ r → (w : Bool) → isFrame (87 ∷ 49 ∷ []) f3 ≡ w
-          → Goal3 (cond l (anew s3 0) (to3 ((r && isAsk (dataIn f3)) || (eqb mode 4 && someWrite (cond w (writeOf (dataIn f3)) [])))))
-          (cond (eqb mode 4) (wroteAll (cond w (writeOf (dataIn f3)) [])) []) decided3
+          → Goal3 (cond l (anew s3 0) (to3 ((r && isAsk (tablesIn g) (dataIn f3)) || (eqb mode 4 && someWrite (cond w (writeOf (tablesIn g) (dataIn f3)) [])))))
+          (cond (eqb mode 4) (wroteAll (cond w (writeOf (tablesIn g) (dataIn f3)) [])) []) decided3
       go true e p f r j true k = absurd (omega (arith, leave-letter f3 e, frame-letter f3 87 49 k))
-      go true e p f r j false k = rw (none (eqb mode 4), leaves-decided run b mode session e) (unfold acted doneAll in (begins 0 failed _ g))
+      go true e p f r j false k = rw (none (eqb mode 4), leaves-decided run b (tablesIn g) mode session e) (unfold acted doneAll in (begins 0 failed _ g))
       go false e true f true j w k = absurd (omega (arith, frame-letter f3 80 49 f, frame-letter f3 82 49 j))
       go false e true f false j true k = absurd (omega (arith, frame-letter f3 80 49 f, frame-letter f3 87 49 k))
       go false e true f false j false k =
-          rw (none (eqb mode 4), and-false (eqb mode 4), framed-decided run b mode 80 49 (printable .0) (printable .1 .1 .1) f) (unfold framedVerdict in (rw later (refused-3 8)))
+          rw (none (eqb mode 4), and-false (eqb mode 4), framed-decided run b (tablesIn g) mode 80 49 (printable .0) (printable .1 .1 .1) f) (unfold framedVerdict in (rw later (refused-3 8)))
       go false e false f true j true k = absurd (omega (arith, frame-letter f3 82 49 j, frame-letter f3 87 49 k))
       go false e false f true j false k =
-          rw (none (eqb mode 4), and-false (eqb mode 4), or-false (isAsk (dataIn f3)), data-is run b (frame-unmarked run b (82 ∷ 49 ∷ []) j), framed-decided run b mode 82 49 (printable .1 .0) (printable .1 .1 .1) j)
+          rw (none (eqb mode 4), and-false (eqb mode 4), or-false (isAsk (tablesIn g) (dataIn f3)), data-is run b (frame-unmarked run b (82 ∷ 49 ∷ []) j), framed-decided run b (tablesIn g) mode 82 49 (printable .1 .0) (printable .1 .1 .1) j)
           (unfold framedVerdict in (rw reads ask-3))
       go false e false f false j true k =
-          rw (data-is run b (frame-unmarked run b (87 ∷ 49 ∷ []) k), framed-decided run b mode 87 49 (printable .1 .1 .0) (printable .1 .1 .1) k)
+          rw (data-is run b (frame-unmarked run b (87 ∷ 49 ∷ []) k), framed-decided run b (tablesIn g) mode 87 49 (printable .1 .1 .0) (printable .1 .1 .1) k)
           (unfold framedVerdict in (told-3 (eqb mode 4)))
-      go false e false f false j false k = rw (none (eqb mode 4), and-false (eqb mode 4)) (idle-3 decided3 (other-decided run b mode e f j k))
+      go false e false f false j false k = rw (none (eqb mode 4), and-false (eqb mode 4)) (idle-3 decided3 (other-decided run b (tablesIn g) mode e f j k))
 
 -- ---- a byte
 
@@ -282,16 +286,16 @@ module _ (mode failed speed : ℕ) (said : List ℕ) (g : Registers) (b : ℕ) (
   abbrev m : Meter
   m = meterIn mode failed speed (filled run) g
 
-  whole-framed : Follows (told.framed (g .facts) s (run ++ (b ∷ []))) (doneAll (cond (eqb mode 4) (wroteAll (writeIn (run ++ (b ∷ [])))) []) g)
-      (acted m (verdict mode (held run b) (mark run b) (symbol b)) .next)
+  whole-framed : Follows (told.framed (g .facts) s (run ++ (b ∷ []))) (doneAll (cond (eqb mode 4) (wroteAll (writeIn (tablesIn g) (run ++ (b ∷ [])))) []) g)
+      (acted m (verdict (tablesIn g) mode (held run b) (mark run b) (symbol b)) .next)
   whole-framed = go (eqb mode 2) refl
     where
-      two : mode ≡ 2 → Follows (told.entered (g .facts) s (run ++ (b ∷ []))) (doneAll (cond (eqb mode 4) (wroteAll (writeIn (run ++ (b ∷ [])))) []) g)
-          (acted m (verdict mode (held run b) (mark run b) (symbol b)) .next)
+      two : mode ≡ 2 → Follows (told.entered (g .facts) s (run ++ (b ∷ []))) (doneAll (cond (eqb mode 4) (wroteAll (writeIn (tablesIn g) (run ++ (b ∷ [])))) []) g)
+          (acted m (verdict (tablesIn g) mode (held run b) (mark run b) (symbol b)) .next)
       two e = rw e (unfold doneAll in (frame-2 failed speed said run g b))
 
-      go : (p : Bool) → eqb mode 2 ≡ p → Follows (cond p (told.entered (g .facts) s (run ++ (b ∷ []))) (cond (leaves (run ++ (b ∷ []))) (anew s 0) (cond (isTaken mode (run ++ (b ∷ []))) (anew s mode) (anew s (refusedIn (g .facts) mode)))))
-          (doneAll (cond (eqb mode 4) (wroteAll (writeIn (run ++ (b ∷ [])))) []) g) (acted m (verdict mode (held run b) (mark run b) (symbol b)) .next)
+      go : (p : Bool) → eqb mode 2 ≡ p → Follows (cond p (told.entered (g .facts) s (run ++ (b ∷ []))) (cond (leaves (run ++ (b ∷ []))) (anew s 0) (cond (isTaken (tablesIn g) mode (run ++ (b ∷ []))) (anew s mode) (anew s (refusedIn (g .facts) mode)))))
+          (doneAll (cond (eqb mode 4) (wroteAll (writeIn (tablesIn g) (run ++ (b ∷ [])))) []) g) (acted m (verdict (tablesIn g) mode (held run b) (mark run b) (symbol b)) .next)
       go true e = two (eqb-true mode 2 e)
       go false e = frame-3 mode failed speed said run g b e session
 
@@ -311,7 +315,7 @@ module _ (mode failed speed : ℕ) (said : List ℕ) (g : Registers) (b : ℕ) (
 
       go : (w p : Bool) → carries 1 b ≡ p → (q : Bool) → eqb (length run) 0 ≡ q → (f : Bool) → leb 63 (length run) ≡ f
           → Follows (cond w (told.framed (g .facts) s (run ++ (b ∷ []))) (cond (f && not p) (anew s (refusedIn (g .facts) mode)) (saidMore s b)))
-          (doneAll (cond (eqb mode 4 && w) (wroteAll (writeIn (run ++ (b ∷ [])))) []) g) (heard m (symbol b) (damagedAt b) (meant w p q f) .next)
+          (doneAll (cond (eqb mode 4 && w) (wroteAll (writeIn (tablesIn g) (run ++ (b ∷ [])))) []) g) (heard m (symbol b) (damagedAt b) (meant w p q f) .next)
       go true p e q h f l = rw (and-true (eqb mode 4)) whole-framed
       go false true e q h f l = rw (and-false f, and-false (eqb mode 4)) (stays (restartedReceiver (symbol b)) (restarts 1 b e ∙ ap filled (sym (then ∙ rw e))))
       go false false e true h true l = untrue (ap (λ (x : List ℕ). leb 63 (length x)) (sym (none-is run h)) ∙ l)

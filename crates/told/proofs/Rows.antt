@@ -6,14 +6,16 @@ use Prim.Native.Nat.{ℕ, zero, suc, _+_, _-_, _*_, _≤_}
 use native.Mathlib.Omega.{arith}
 use borrow.Author.Tests.{leb-true, eqb-true, eqb-false}
 use lib.Dec.{eqb, leb}
-use lib.ListN.{length, take, drop, replicate, length-replicate}
+use lib.ListN.{length, take, drop, replicate, length-append, length-replicate}
+use lib.Seq.{take-append-le, drop-append-le}
 use Rattle.line.proofs.Runs.{and-left, and-right, and-both}
 use Rattle.text.specs.Classes.{between}
 use Rattle.text.proofs.Writing.{length-stored}
-use Rattle.values.specs.Edition.{editionTables}
+use Rattle.values.specs.Edition.{tablesOf}
 use Rattle.values.specs.Registers.{goodTable, goodRow}
 use Rattle.values.proofs.Rules.{row-long}
 use Rattle.state.specs.declared.Facts.{Facts}
+use Rattle.state.specs.Making.{newRows}
 use Rattle.replies.specs.Shown.{rowOf}
 use Rattle.meter.specs.declared.Event.{Event}
 use Rattle.meter.specs.declared.Event.the-variants.{Character, Silence, Tick, Pulse, PowerUp, Unknown}
@@ -27,35 +29,35 @@ use Rattle.told.specs.Corollaries.{rowTold}
 
 -- ---- only good writes are told
 
-unfoldable pub allGood : List Write → Bool
-allGood [] = true
-allGood (w ∷ ws) = goodWrite w && allGood ws
+unfoldable pub allGood : ℕ → List Write → Bool
+allGood tables [] = true
+allGood tables (w ∷ ws) = goodWrite tables w && allGood tables ws
 
 -- what a frame tells, and then the writes before it
-frame-good : (frame : List ℕ) (ds : List Deed) → allGood (writesOf ds) ≡ true → allGood (writesOf (wroteAll (writeIn frame) ++ ds)) ≡ true
+frame-good : (tables : ℕ) (frame : List ℕ) (ds : List Deed) → allGood tables (writesOf ds) ≡ true → allGood tables (writesOf (wroteAll (writeIn tables frame) ++ ds)) ≡ true
 unfolding writeIn writeOf wroteAll writesOf allGood tells
-frame-good frame ds h =
+frame-good tables frame ds h =
     let d = dataIn frame in
     choice.either P (isFrame (87 ∷ 49 ∷ []) frame)
-    (choice.given P (tells d (clockHere d)) (λ e. one (clockHere d) (and-left (goodWrite (clockHere d)) _ e))
-    (choice.given P (tells d (accountHere d)) (λ e. one (accountHere d) (and-left (goodWrite (accountHere d)) _ e))
-    (choice.given P (tells d (rowHere d)) (λ e. one (rowHere d) (and-left (goodWrite (rowHere d)) _ e)) h)))
+    (choice.given P (tells tables d (clockHere d)) (λ e. one (clockHere d) (and-left (goodWrite tables (clockHere d)) _ e))
+    (choice.given P (tells tables d (accountHere d)) (λ e. one (accountHere d) (and-left (goodWrite tables (accountHere d)) _ e))
+    (choice.given P (tells tables d (rowHere tables d)) (λ e. one (rowHere tables d) (and-left (goodWrite tables (rowHere tables d)) _ e)) h)))
     h
   where
     P : List Write → Type 0
-    P ws = allGood (writesOf (wroteAll ws ++ ds)) ≡ true
+    P ws = allGood tables (writesOf (wroteAll ws ++ ds)) ≡ true
 
-    one : (w : Write) → goodWrite w ≡ true → (goodWrite w && allGood (writesOf ds)) ≡ true
-    one w g = and-both (goodWrite w) (allGood (writesOf ds)) g h
+    one : (w : Write) → goodWrite tables w ≡ true → (goodWrite tables w && allGood tables (writesOf ds)) ≡ true
+    one w g = and-both (goodWrite tables w) (allGood tables (writesOf ds)) g h
 
-pub told-good : (facts : Facts) (past : List Event) → allGood (writesOf (deeds facts past)) ≡ true
+pub told-good : (facts : Facts) (past : List Event) → allGood (tablesOf (facts .edition)) (writesOf (deeds facts past)) ≡ true
 unfolding deeds deedsAt writesOf allGood
 told-good facts [] = refl
 told-good facts (Character b ∷ past) =
     let s = standing facts past in
     let before = told-good facts past in
-    choice.either (λ (xs : List Deed). allGood (writesOf (xs ++ deeds facts past)) ≡ true) (eqb (s .mode) 4 && isWhole s) (frame-good (frameBy s b) (deeds facts past) before)
-    (choice.either (λ (xs : List Deed). allGood (writesOf (xs ++ deeds facts past)) ≡ true) (eqb (s .mode) 0 && closesPeriod facts (s .said ++ (b ∷ []))) before before)
+    choice.either (λ (xs : List Deed). allGood (tablesOf (facts .edition)) (writesOf (xs ++ deeds facts past)) ≡ true) (eqb (s .mode) 4 && isWhole s) (frame-good (tablesOf (facts .edition)) (frameBy s b) (deeds facts past) before)
+    (choice.either (λ (xs : List Deed). allGood (tablesOf (facts .edition)) (writesOf (xs ++ deeds facts past)) ≡ true) (eqb (s .mode) 0 && closesPeriod facts (s .said ++ (b ∷ []))) before before)
 told-good facts (Silence ∷ past) = told-good facts past
 told-good facts (Tick ∷ past) = told-good facts past
 told-good facts (Pulse wh ∷ past) = told-good facts past
@@ -83,33 +85,51 @@ tables-long factory (row n r ∷ ws) = length-stored (tablesTold factory ws) ((n
 tables-long factory (clock c ∷ ws) = tables-long factory ws
 tables-long factory (account a ∷ ws) = tables-long factory ws
 
-pub rows-told : (n : ℕ) → goodTable editionTables n ≡ true → (ws : List Write) → allGood ws ≡ true → rowOf (tablesTold (replicate 576 49) ws) n ≡ rowTold n ws
+-- the factory's rows are all '1'
+rows-room : (edition : ℕ) → tablesOf edition * 24 ≤ length (newRows edition)
+unfolding newRows
+rows-room edition =
+    let used = replicate {A = ℕ} (tablesOf edition * 24) 49 in
+    let unused = replicate {A = ℕ} ((25 - tablesOf edition) * 24) 0 in
+    omega (arith, length-append used unused, length-replicate {A = ℕ} (tablesOf edition * 24) 49)
+
+row-new : (edition n : ℕ) → n ≤ tablesOf edition → 1 ≤ n → rowOf (newRows edition) n ≡ replicate 24 49
+unfolding rowOf newRows
+row-new edition n most least =
+    let all = tablesOf edition * 24 in
+    let at = (n - 1) * 24 in
+    let unused = replicate {A = ℕ} ((25 - tablesOf edition) * 24) 0 in
+    ap (take 24)
+    (drop-append-le at (replicate all 49) unused (omega (arith, most, least, length-replicate {A = ℕ} all 49)) ∙ ap (λ (l : List ℕ). l ++ unused) (drop-same at all 49))
+    ∙ take-append-le 24 (replicate (all - at) 49) unused (omega (arith, most, least, length-replicate {A = ℕ} (all - at) 49))
+    ∙ take-same 24 (all - at) 49 (omega (arith, most, least))
+
+pub rows-told : (edition n : ℕ) → goodTable (tablesOf edition) n ≡ true → (ws : List Write) → allGood (tablesOf edition) ws ≡ true → rowOf (tablesTold (newRows edition) ws) n ≡ rowTold n ws
 unfolding tablesTold rowTold allGood goodWrite goodTable between
-rows-told n good [] h = unfold rowOf in (
-    let most = leb-true n 24 (and-right (leb 1 n) _ good) in
-    ap (take 24) (drop-same ((n - 1) * 24) 576 49) ∙ take-same 24 (576 - (n - 1) * 24) 49 (omega (arith, most)))
-rows-told n good (row k r ∷ ws) h = go (eqb k n) refl (rows-told n good ws (and-right (goodWrite (row k r)) (allGood ws) h))
+rows-told edition n good [] h =
+    row-new edition n (leb-true n (tablesOf edition) (and-right (leb 1 n) _ good)) (leb-true 1 n (and-left (leb 1 n) (leb n (tablesOf edition)) good))
+rows-told edition n good (row k r ∷ ws) h = go (eqb k n) refl (rows-told edition n good ws (and-right (goodWrite (tablesOf edition) (row k r)) (allGood (tablesOf edition) ws) h))
   where
-    fits : goodWrite (row k r) ≡ true
-    fits = and-left (goodWrite (row k r)) (allGood ws) h
+    fits : goodWrite (tablesOf edition) (row k r) ≡ true
+    fits = and-left (goodWrite (tablesOf edition) (row k r)) (allGood (tablesOf edition) ws) h
 
     long : length r ≡ 24
-    long = row-long r (and-right (goodTable editionTables k) (goodRow r) fits)
+    long = row-long r (and-right (goodTable (tablesOf edition) k) (goodRow r) fits)
 
     low : 1 ≤ k
-    low = leb-true 1 k (and-left (leb 1 k) (leb k 24) (and-left (goodTable editionTables k) (goodRow r) fits))
+    low = leb-true 1 k (and-left (leb 1 k) (leb k (tablesOf edition)) (and-left (goodTable (tablesOf edition) k) (goodRow r) fits))
 
     least : 1 ≤ n
-    least = leb-true 1 n (and-left (leb 1 n) (leb n 24) good)
+    least = leb-true 1 n (and-left (leb 1 n) (leb n (tablesOf edition)) good)
 
-    most : n ≤ 24
-    most = leb-true n 24 (and-right (leb 1 n) (leb n 24) good)
+    most : n ≤ tablesOf edition
+    most = leb-true n (tablesOf edition) (and-right (leb 1 n) (leb n (tablesOf edition)) good)
 
-    room : (n - 1) * 24 + 24 ≤ length (tablesTold (replicate 576 49) ws)
-    room = omega (arith, most, least, tables-long (replicate 576 49) ws, length-replicate {A = ℕ} 576 49)
+    room : (n - 1) * 24 + 24 ≤ length (tablesTold (newRows edition) ws)
+    room = omega (arith, most, least, tables-long (newRows edition) ws, rows-room edition)
 
-    go : (p : Bool) → eqb k n ≡ p → rowOf (tablesTold (replicate 576 49) ws) n ≡ rowTold n ws → rowOf (tablesTold (replicate 576 49) (row k r ∷ ws)) n ≡ cond p r (rowTold n ws)
-    go true e before = ap (λ (i : ℕ). rowOf (tablesTold (replicate 576 49) (row i r ∷ ws)) n) (eqb-true k n e) ∙ row-here (tablesTold (replicate 576 49) ws) n r long room
-    go false e before = row-apart (tablesTold (replicate 576 49) ws) n k r long least low (eqb-false k n e) ∙ before
-rows-told n good (clock c ∷ ws) h = rows-told n good ws (and-right (goodWrite (clock c)) (allGood ws) h)
-rows-told n good (account a ∷ ws) h = rows-told n good ws (and-right (goodWrite (account a)) (allGood ws) h)
+    go : (p : Bool) → eqb k n ≡ p → rowOf (tablesTold (newRows edition) ws) n ≡ rowTold n ws → rowOf (tablesTold (newRows edition) (row k r ∷ ws)) n ≡ cond p r (rowTold n ws)
+    go true e before = ap (λ (i : ℕ). rowOf (tablesTold (newRows edition) (row i r ∷ ws)) n) (eqb-true k n e) ∙ row-here (tablesTold (newRows edition) ws) n r long room
+    go false e before = row-apart (tablesTold (newRows edition) ws) n k r long least low (eqb-false k n e) ∙ before
+rows-told edition n good (clock c ∷ ws) h = rows-told edition n good ws (and-right (goodWrite (tablesOf edition) (clock c)) (allGood (tablesOf edition) ws) h)
+rows-told edition n good (account a ∷ ws) h = rows-told edition n good ws (and-right (goodWrite (tablesOf edition) (account a)) (allGood (tablesOf edition) ws) h)

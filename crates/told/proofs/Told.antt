@@ -15,7 +15,7 @@ use Rattle.state.specs.declared.Meter.{Meter}
 use Rattle.state.specs.WellFormed.{factoryGood, wellFormed}
 use Rattle.state.specs.Making.{meterOf}
 use Rattle.state.specs.Setting.{inMode}
-use Rattle.state.proofs.Parts.{formed, formed-registers, formed-facts}
+use Rattle.state.proofs.Parts.{formed, formed-registers, formed-facts, edition-good}
 use Rattle.tariff.specs.Zones.{zoneIn}
 use Rattle.meter.specs.Outcomes.{silent, saying}
 use Rattle.meter.specs.Character.{taken, character}
@@ -100,9 +100,9 @@ module _ (factory : Registers) where
     by-byte room b = go (leb replyRoom room) refl
       where
         go : (p : Bool) → leb replyRoom room ≡ p → Held (cond p (Character b ∷ past) past) (met m room (Character b) .next)
-        go true e = rw (le-ltb room replyRoom (leb-true replyRoom room e), good)
+        go true e = rw (edition-good m good, le-ltb room replyRoom (leb-true replyRoom room e), good)
             (deed-follows _ (Character b) past _ (unfold standing deedsAt in (byte-follows s g m b good f)))
-        go false e = rw (lt-ltb room replyRoom (leb-false replyRoom room e)) f
+        go false e = rw (edition-good m good, lt-ltb room replyRoom (leb-false replyRoom room e)) f
 
     by-silence : (room : ℕ) → Held (then room Silence) (met m room Silence .next)
     unfolding happens met silence standing deeds deedsAt
@@ -120,12 +120,12 @@ module _ (factory : Registers) where
             three false false = ended
 
         go : (p : Bool) → leb replyRoom room ≡ p → Held (cond p (Silence ∷ past) past) (met m room Silence .next)
-        go true e = rw (le-ltb room replyRoom (leb-true replyRoom room e), good) after
-        go false e = rw (lt-ltb room replyRoom (leb-false replyRoom room e)) f
+        go true e = rw (edition-good m good, le-ltb room replyRoom (leb-true replyRoom room e), good) after
+        go false e = rw (edition-good m good, lt-ltb room replyRoom (leb-false replyRoom room e)) f
 
     by-tick : (room : ℕ) → Held (then room Tick) (met m room Tick .next)
     unfolding happens met tick standing
-    by-tick room = rw (good, f .is) (deed-follows s Tick past _ (unfold deedsAt doneAll done in (record { speed = f .speed; is = refl })))
+    by-tick room = rw (edition-good m good, good, f .is) (deed-follows s Tick past _ (unfold deedsAt doneAll done in (record { speed = f .speed; is = refl })))
 
     by-pulse : (room wh : ℕ) → Held (then room (Pulse wh)) (met m room (Pulse wh) .next)
     unfolding happens met pulse standing zoneIn
@@ -133,13 +133,13 @@ module _ (factory : Registers) where
       where
         go : (p : Bool) → leb wh 1000000 ≡ p → Held (cond p (Pulse wh ∷ past) past) (met m room (Pulse wh) .next)
         go true e =
-            rw (le-ltb 1000000 wh (leb-true wh 1000000 e), good, f .is)
+            rw (edition-good m good, le-ltb 1000000 wh (leb-true wh 1000000 e), good, f .is)
             (deed-follows s (Pulse wh) past _ (unfold deedsAt doneAll done in (record { speed = f .speed; is = refl })))
-        go false e = rw (lt-ltb 1000000 wh (leb-false wh 1000000 e)) f
+        go false e = rw (edition-good m good, lt-ltb 1000000 wh (leb-false wh 1000000 e)) f
 
     by-power : (room : ℕ) → Held (then room PowerUp) (met m room PowerUp .next)
     unfolding happens met powerUp standing deeds deedsAt
-    by-power room = rw (good, f .is) (record { speed = restSpeed (facts .link); is = rw (fresh 0) })
+    by-power room = rw (edition-good m good, good, f .is) (record { speed = restSpeed (facts .link); is = rw (fresh 0) })
 
     met-follows : (room : ℕ) (e : Event) → Held (then room e) (met m room e .next)
     met-follows room (Character b) = by-byte room b
@@ -147,7 +147,7 @@ module _ (factory : Registers) where
     met-follows room Tick = by-tick room
     met-follows room (Pulse wh) = by-pulse room wh
     met-follows room PowerUp = by-power room
-    met-follows room Unknown = unfold happens met in f
+    met-follows room Unknown = unfold happens met in (rw (edition-good m good) f)
 
   -- ---- all of them
 

@@ -8,7 +8,7 @@ use lib.ListN.{replicate}
 use Rattle.line.specs.Quoted.{char}
 use Rattle.text.specs.Classes.{sameText}
 use Rattle.clock.specs.declared.Clock.{Clock}
-use Rattle.values.specs.Edition.{editionTables, rowLength}
+use Rattle.values.specs.Edition.{tablesOf, rowLength}
 use Rattle.values.specs.Registers.{goodTable}
 use Rattle.state.specs.declared.Facts.{Facts}
 use Rattle.state.specs.declared.Registers.{Registers}
@@ -47,7 +47,7 @@ pub data AccountAfter (facts : Facts) (account₀ : List ℕ) (clock₀ : Clock)
       → AccountAfter facts account₀ clock₀ es room e
   written : (b : ℕ) (a : List ℕ) → e ≡ Character b → happens room e ≡ true
       → standing facts (happened es) .mode ≡ 4 → isWhole (standing facts (happened es)) ≡ true
-      → writeIn (frameBy (standing facts (happened es)) b) ≡ account a ∷ []
+      → writeIn (tablesOf (facts .edition)) (frameBy (standing facts (happened es)) b) ≡ account a ∷ []
       → lived (meterOf facts account₀ clock₀) (es ++ ((room, e) ∷ [])) .registers .account ≡ a
       → AccountAfter facts account₀ clock₀ es room e
 
@@ -68,5 +68,5 @@ pub record Corollaries (facts : Facts) (account₀ : List ℕ) (clock₀ : Clock
   pub same-writes : (es es′ : List (ℕ × Event)) → writesTold facts es ≡ writesTold facts es′
       → SameSettings (lived (meterOf facts account₀ clock₀) es .registers) (lived (meterOf facts account₀ clock₀) es′ .registers)
   -- each table holds the last row that was told of it, or the factory's
-  pub last-rows : (es : List (ℕ × Event)) (n : ℕ) → goodTable editionTables n ≡ true
+  pub last-rows : (es : List (ℕ × Event)) (n : ℕ) → goodTable (tablesOf (facts .edition)) n ≡ true
       → rowOf (lived (meterOf facts account₀ clock₀) es .registers .tables) n ≡ rowTold n (writesTold facts es)

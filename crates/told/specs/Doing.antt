@@ -17,7 +17,7 @@ written (row n r) g = withTables g (withRow (g .tables) n r)
 unfoldable pub done : Deed → Registers → Registers
 done (wrote w) g = written w g
 done second g = secondLater g
-done (energy wh) g = withCounters g (counted (g .counters) (zoneAt (g .tables) (g .clock)) wh)
+done (energy wh) g = withCounters g (counted (g .counters) (zoneAt (g .facts .edition) (g .tables) (g .clock)) wh)
 done closed g = closing g
 
 -- the newest first

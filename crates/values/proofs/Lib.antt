@@ -1,3 +1,4 @@
+pub mod Editions
 pub mod Fields
 pub mod RoundTrip
 pub mod Rules

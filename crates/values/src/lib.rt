@@ -3,6 +3,7 @@ ghost use mathlib.Core.Path.{_≡_};
 ghost use Prim.Native.Nat.{_+_, _≤_};
 ghost use lib.ListN.{length};
 ghost use Rattle.text.specs.Decimal.{valueOf};
+ghost use Rattle.values.specs.Edition.{isEdition, tablesOf};
 ghost use Rattle.values.specs.Registers.{goodDigits, isAccountCharacter, goodAccount, goodRow, goodTable, goodZone, energyNo};
 
 pub mod characters;
@@ -22,11 +23,29 @@ pub enum Energy {
     Zone(ZoneNo),
 }
 
-// How many tables a meter of edition 1 holds.
-pub const TABLES: u8 = 24;
+// Every meter has room for the rows of so many tables.
+pub const TABLE_PLACES: usize = 25;
 
 // How many characters a table's row has, one an hour.
 pub const ROW_LENGTH: usize = 24;
+
+// Whether there is such an edition: 1 or 2.
+pub fn is_edition(edition: u8) -> bool
+    ensures { λ r. ⌜ r ≡ isEdition edition ⌝ }
+{
+    (1 <= edition) & (edition <= 2)
+}
+
+// How many tables a meter of an edition holds.
+pub fn tables_of(edition: u8) -> u8
+    ensures { λ r. ⌜ r ≡ tablesOf edition ⌝ }
+    ensures few { λ r. ⌜ (24 ≤ r) × (r ≤ 25) ⌝ }
+{
+    if edition == 2 {
+        return 25;
+    }
+    24
+}
 
 // The number that stands for an energy in asks and addresses: 0 is the total.
 pub fn energy_no(e: Energy) -> u8

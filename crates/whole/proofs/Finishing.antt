@@ -24,6 +24,7 @@ use Rattle.meter.specs.Outcomes.{Outcome}
 use Rattle.meter.specs.Character.{symbol, heard, taken, character}
 use Rattle.meter.specs.Life.{eventOf, refusal, happened}
 use Rattle.promises.proofs.Answering.{answered-all}
+use Rattle.state.proofs.Parts.{edition-good}
 use Rattle.promises.proofs.Formed.{character-stays}
 use Rattle.promises.proofs.Hurt.{hearing-is}
 use Rattle.promises.proofs.Verdicts.{never-zero}
@@ -92,7 +93,7 @@ module _ (m : Meter) (room : ℕ) (session : 2 ≤ m .mode) (large : replyRoom �
 
   taken-is : (k : Meter) (b : ℕ) → wellFormed k ≡ true → character k room b ≡ taken k b
   unfolding character
-  taken-is k b f = rw (le-ltb room replyRoom large, f)
+  taken-is k b f = rw (edition-good k f, le-ltb room replyRoom large, f)
 
   record Holds (run : List ℕ) (before : ℕ) : Type 0 where
     some : 1 ≤ length run

@@ -9,7 +9,8 @@ use lib.Dec.{eqb, ltb}
 use lib.ListN.{length}
 use Rattle.state.specs.Sizes.{replyRoom}
 use Rattle.state.specs.declared.Meter.{Meter}
-use Rattle.state.specs.WellFormed.{wellFormed}
+use Rattle.values.specs.Edition.{isEdition}
+use Rattle.state.specs.WellFormed.{editionOf, wellFormed}
 use Rattle.meter.specs.Outcomes.{Outcome, unheard}
 use Rattle.meter.specs.Character.{character}
 use Rattle.promises.proofs.Choices as choice
@@ -32,6 +33,9 @@ module _ (m : Meter) (room : ℕ) (formed : wellFormed m ≡ true) where
   short-good : Good (unheard 12 m)
   short-good = record { stays = formed; never = λ e. omega (arith, e); keeps = λ other. refl }
 
+  other-good : Good (unheard 16 m)
+  other-good = record { stays = formed; never = λ e. omega (arith, e); keeps = λ other. refl }
+
   -- the bytes one after the other, from a meter with the same registers
   last-good : (bytes : List ℕ) (k : Meter) → wellFormed k ≡ true → k .registers ≡ m .registers → Good (atTheLast m k room bytes)
   unfolding atTheLast
@@ -47,9 +51,11 @@ module _ (m : Meter) (room : ℕ) (formed : wellFormed m ≡ true) where
   all-good : (bytes : List ℕ) → Good (frameAt m room bytes)
   unfolding frameAt frameTaken
   all-good bytes =
-      choice.either Good (ltb room replyRoom) short-good
+      choice.either Good (isEdition (editionOf m))
+      (choice.either Good (ltb room replyRoom) short-good
       (choice.told Good (wellFormed m) (λ is. choice.either Good (awaits m && startsAnew bytes) (last-good bytes m formed refl) none-good)
-      (λ is. absurd (omega (arith, flip is))))
+      (λ is. absurd (omega (arith, flip is)))))
+      other-good
     where
       flip : wellFormed m ≡ false → _≡_ {A = ℕ} 0 1
       flip is = differ (sym is ∙ formed)

@@ -12,7 +12,7 @@ use Rattle.receiving.specs.declared.Hearing.{Hearing}
 use Rattle.receiving.specs.declared.Hearing.the-variants.{Drop, Hold, Restart, Empty, Line, Confirm, Frame, TooLong}
 use Rattle.receiving.specs.Hearing.{hearing}
 use Rattle.receiving.specs.Receivers.{lastHeld}
-use Rattle.meter.specs.Outcomes.{Outcome, silent, unheard}
+use Rattle.meter.specs.Outcomes.{Outcome, silent, unheard, ofEdition}
 use Rattle.meter.specs.Character.{symbol, character}
 
 -- a frame is finished: it is whole, or answered 5
@@ -53,6 +53,6 @@ startsAnew bytes = eqb (symbol (getD bytes 0 0)) SOH
 unfoldable pub frameTaken : Meter → ℕ → List ℕ → Outcome
 frameTaken m room bytes = cond (awaits m && startsAnew bytes) (atTheLast m m room bytes) (noFrame m)
 
--- a reply buffer under 2,048 gives 12, then a malformed state 14, then any other slice, mode or receiver 17
+-- an edition that there is not gives 16, a reply buffer under 4,096 12, then a malformed state 14, then any other slice, mode or receiver 17
 unfoldable pub frameAt : Meter → ℕ → List ℕ → Outcome
-frameAt m room bytes = cond (ltb room replyRoom) (unheard 12 m) (cond (wellFormed m) (frameTaken m room bytes) (unheard 14 m))
+frameAt m room bytes = ofEdition m (cond (ltb room replyRoom) (unheard 12 m) (cond (wellFormed m) (frameTaken m room bytes) (unheard 14 m)))

@@ -217,6 +217,9 @@ pub fn receive_frame(m: Meter, frame: &[u8], reply: &mut [u8]) -> Answer
     ensures result { λ r. ⌜ r ≡ answerOf (frameAt m (length (now (reply .entry))) (now (frame .entry))) ⌝ }
     ensures held { λ _. ⌜ now (reply .exit) ≡ holding (now (reply .entry)) (onWire (frameAt m (length (now (reply .entry))) (now (frame .entry)) .reply)) ⌝ }
 {
+    if !state::has_edition(m) {
+        return unheard_with(16, m);
+    }
     if reply.len() < REPLY_ROOM {
         return unheard_with(12, m);
     }

@@ -64,6 +64,7 @@ extern "C" {
         length: *mut usize,
     ) -> u8;
     fn dirgemist_head_read_table(
+        edition: u8,
         table: u8,
         out: *mut u8,
         out_length: usize,
@@ -88,6 +89,7 @@ extern "C" {
         length: *mut usize,
     ) -> u8;
     fn dirgemist_head_write_table(
+        edition: u8,
         table: u8,
         row: *const u8,
         row_length: usize,
@@ -306,9 +308,13 @@ pub fn read_zone(zone: u8, out: &mut [u8]) -> (u8, usize) {
     numbered(dirgemist_head_read_zone, zone, out)
 }
 
-/// Asks for a table.
-pub fn read_table(table: u8, out: &mut [u8]) -> (u8, usize) {
-    numbered(dirgemist_head_read_table, table, out)
+/// Asks a meter of an edition for a table.
+pub fn read_table(edition: u8, table: u8, out: &mut [u8]) -> (u8, usize) {
+    let mut length = UNWRITTEN;
+    let (to, room) = (out.as_mut_ptr(), out.len());
+    // SAFETY: see above.
+    let number = unsafe { dirgemist_head_read_table(edition, table, to, room, &mut length) };
+    (number, length)
 }
 
 /// Sets the clock to `[month, day, hour, minute, second]` of a year.
@@ -338,13 +344,13 @@ pub fn write_account(account: &[u8], out: &mut [u8]) -> (u8, usize) {
     lettered(dirgemist_head_write_account, account, out)
 }
 
-/// Sets a table to a row of 24 characters.
-pub fn write_table(table: u8, row: &[u8], out: &mut [u8]) -> (u8, usize) {
+/// Sets a table of a meter of an edition to a row of 24 characters.
+pub fn write_table(edition: u8, table: u8, row: &[u8], out: &mut [u8]) -> (u8, usize) {
     let mut length = UNWRITTEN;
     let (to, room) = (out.as_mut_ptr(), out.len());
     // SAFETY: see above.
     let number = unsafe {
-        dirgemist_head_write_table(table, row.as_ptr(), row.len(), to, room, &mut length)
+        dirgemist_head_write_table(edition, table, row.as_ptr(), row.len(), to, room, &mut length)
     };
     (number, length)
 }

@@ -128,7 +128,8 @@ pub struct Registers {
     pub account: [u8; 10],
     pub clock: Clock,
     pub counters: Counters,
-    pub tables: [[u8; 24]; 24],
+    /// The 25th row is of edition 2; of edition 1 it is zeros.
+    pub tables: [[u8; 24]; 25],
     pub archive: Archive,
 }
 
@@ -146,9 +147,9 @@ pub struct Meter {
 }
 
 // The layout is C's; include/dirgemist_meter.h has the same figures.
-const _: () = assert!(size_of::<Receiver>() == 66 && size_of::<Registers>() == 928);
+const _: () = assert!(size_of::<Receiver>() == 66 && size_of::<Registers>() == 952);
 const _: () = assert!(size_of::<Period>() == 24 && size_of::<Archive>() == 292);
-const _: () = assert!(size_of::<Meter>() == 1000);
+const _: () = assert!(size_of::<Meter>() == 1024);
 
 /// What can happen to a meter.
 #[derive(Clone, Copy, Debug, PartialEq, Eq)]

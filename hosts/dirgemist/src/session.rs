@@ -30,6 +30,8 @@
 use crate::{UNWRITTEN, UNWRITTEN_BYTE};
 use std::mem::MaybeUninit;
 
+/// The number of an edition that there is not.
+pub const NO_EDITION: u8 = 16;
 /// The number of a session that was started, or that heard.
 pub const DONE: u8 = 1;
 /// The number of a serial, a password or a read that no message can be built from.
@@ -74,15 +76,18 @@ pub struct Session {
     pub count: u8,
     pub sent: u8,
     pub fact: u8,
+    pub edition: u8,
 }
 
 // The layout is C's; hosts/c/sessionlink.c holds the header to the same figures.
-const _: () = assert!(size_of::<Session>() == 24 && align_of::<Session>() == 1);
+const _: () = assert!(size_of::<Session>() == 25 && align_of::<Session>() == 1);
 
 /// What a session is told: whom to call, how to enter, and what to do. The flags are 0 or 1; any
 /// others are refused.
 #[derive(Clone, Copy, Debug, PartialEq, Eq)]
 pub struct Told<'a> {
+    /// The edition of the meters that are called, 1 or 2.
+    pub edition: u8,
     /// 1 calls the meter of the serial, 0 any.
     pub named: u8,
     pub serial: &'a [u8],
@@ -116,6 +121,7 @@ pub struct Turn {
 extern "C" {
     fn dirgemist_session_start(
         session: *mut Session,
+        edition: u8,
         named: u8,
         serial: *const u8,
         serial_length: usize,
@@ -147,9 +153,10 @@ extern "C" {
 
 impl<'a> Told<'a> {
     /// Reads, two bytes each: `'T'`, `'L'`, `'K'`, `'E'` or `'Z'`, and the number of the energy or the
-    /// table. Any meter, with `()`.
+    /// table. Any meter of edition 1, with `()`.
     pub fn reads(work: &'a [u8]) -> Told<'a> {
         Told {
+            edition: 1,
             named: 0,
             serial: &[],
             access: 0,
@@ -165,6 +172,11 @@ impl<'a> Told<'a> {
             kind: 1,
             ..Told::reads(work)
         }
+    }
+
+    /// The same, to meters of an edition.
+    pub fn of(self, edition: u8) -> Told<'a> {
+        Told { edition, ..self }
     }
 
     /// The same, to the meter of a serial.
@@ -209,6 +221,7 @@ impl<'a> Told<'a> {
         let number = unsafe {
             dirgemist_session_start(
                 session.as_mut_ptr(),
+                self.edition,
                 self.named,
                 self.serial.as_ptr(),
                 self.serial.len(),

@@ -10,19 +10,20 @@ use Rattle.delivery.proofs.deliver.Tie as tie
 
 returns : tie.Need-returns
 returns c =
-    let a = (c .before .before .before .before .before .args) in
-    not-delivered (a .m) (a .text .now) _ _ _ _ _ (omega arith) (c .if1 .taken) (c .before .before .export .ensures)
+    let of = c .before .before .before .before .tables-of .ensures .0 in
+    let a = (c .before .before .before .before .before .before .before .before .args) in
+    not-delivered (a .m) (a .text .now) _ _ _ _ _ (omega arith) (c .if1 .taken) (rw of at (c .before .before .export-of .ensures))
 
 array-share-prefix-out : tie.Need-array-share-prefix-out
-array-share-prefix-out c = omega (arith, frames-bound 24 _ _ _ _ _ _ (c .before .before .export .ensures))
+array-share-prefix-out c = omega (arith, frames-bound _ _ _ _ _ _ _ (c .before .before .export-of .ensures), c .before .before .before .before .tables-of .ensures .1)
 
 slice-aggregate-feed : tie.Need-slice-aggregate-feed
-slice-aggregate-feed c = sym (length-take-le _ _ (omega (arith, frames-bound 24 _ _ _ _ _ _ (c .before .before .before .export .ensures))))
+slice-aggregate-feed c = sym (length-take-le _ _ (omega (arith, frames-bound _ _ _ _ _ _ _ (c .before .before .before .export-of .ensures), c .before .before .before .before .before .tables-of .ensures .1)))
 
 returns-2 : tie.Need-returns-2
-returns-2 c = let c5 = c .before .before .before .before .before in let c8 = c5 .before .before .before in let a = (c8 .args) in
+returns-2 c = let c5 = c .before .before .before .before .before in let of = c5 .before .before .tables-of .ensures .0 in let a = (c5 .before .before .before .before .before .before .args) in
     let f = c .before .feed in
-    was-delivered (a .m) (a .text .now) _ _ _ _ _ (omega arith) (f .result .acknowledged) (f .result .next) (omega arith) (f .ensures .0) (f .ensures .1) (c5 .export .ensures)
+    was-delivered (a .m) (a .text .now) _ _ _ _ _ (omega arith) (f .result .acknowledged) (f .result .next) (omega arith) (f .ensures .0) (f .ensures .1) (rw of at (c5 .export-of .ensures))
 
 pub deliver-spec : {M : Type 1} → statement M
-deliver-spec = tie.close (tie.spec (λ c. search needs) (λ c κs. search needs) returns array-share-prefix-out slice-aggregate-feed (λ c κs. search needs) returns-2)
+deliver-spec = tie.close (tie.spec (λ c κs. search needs) (λ c. search needs) (λ c κs. search needs) returns array-share-prefix-out slice-aggregate-feed (λ c κs. search needs) returns-2)

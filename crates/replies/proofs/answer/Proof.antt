@@ -3,6 +3,7 @@ use mathlib.Core.Path.{refl, sym, ap, _∙_}
 use mathlib.Core.List.{[], _∷_}
 use native.Mathlib.Omega.{arith}
 use lib.ListN.{length}
+use Rattle.state.specs.WellFormed.{tablesIn}
 use Rattle.text.proofs.Writing.{length-stored}
 use Rattle.frames.proofs.Sealing.{blocking, block-length}
 use Rattle.replies.specs.Answers.{askedData}
@@ -16,7 +17,7 @@ seal-requires c κs = let c3 = c .before .before .before in let c7 = c3 .before 
     let a = start .args in
     let first = c7 .put .ensures in
     let shown = c3 .put-asked .ensures in
-    let short = asked-short (a .g) (a .a) (start .pre .0) in
+    let short = asked-short (tablesIn (a .g)) (a .g) (a .a) (start .pre .0) in
     (omega (arith, first .0, shown .0), rw (shown .1, length-stored (c7 .put .last .0) (c7 .put .result) (askedData (a .g) (a .a)), first .1, length-stored (a .buf .now) 0 (2 ∷ [])) (omega (arith, first .0, shown .0, short, start .pre .1)))
 
 returns : tie.Need-returns
@@ -30,7 +31,7 @@ returns c =
     let first = c10 .put .ensures in
     let shown = c6 .put-asked .ensures in
     let shut = c .before .before .seal .ensures in
-    let short = asked-short (a .g) (a .a) (start .pre .0) in
+    let short = asked-short (tablesIn (a .g)) (a .g) (a .a) (start .pre .0) in
     (omega (arith, first .0, shown .0, shut .0, block-length content), blocking (a .buf .now) content _ _ _ _ _ (omega (arith, short, start .pre .1)) (first .0) (first .1) (shown .0) (shown .1) (shut .1))
 
 pub answer-spec : {M : Type 1} → statement M

@@ -1,11 +1,8 @@
 -- `replies::data_block` meets its contract: STX, the data, and then closed. Assumes nothing.
 use native.Mathlib.Omega.{arith}
-use mathlib.Core.Path.{sym, ap, _∙_}
-use Prim.Native.Nat.{_+_}
-use Rattle.state.specs.Sizes.{tables}
 use Rattle.frames.proofs.Sealing.{blocking}
 use Rattle.replies.specs.Block.{blockData}
-use Rattle.replies.proofs.Sizes.{content-long}
+use Rattle.replies.proofs.Sizes.{content-long, put-at}
 use borrow.Author.Needs.{needs}
 use Rattle.replies.proofs.data_block.Statement.{statement}
 use Rattle.replies.proofs.data_block.Tie as tie
@@ -20,9 +17,9 @@ returns c =
     let first = c10 .put .ensures in
     let shown = c6 .put-block .ensures in
     let shut = c .before .before .seal .ensures in
-    let long = content-long tables (a .g) (start .pre .0) in (
+    let long = content-long (a .tables) (a .g) (start .pre .0) in (
       omega (arith, first .0, shown .0, shut .0),
-      blocking (a .buf .now) (blockData tables (a .g)) _ _ _ _ _ (omega (arith, long, start .pre .1)) (first .0) (first .1) (shown .0 ∙ ap (_+_ _) (sym long)) (shown .1) (shut .1),
+      blocking (a .buf .now) (blockData (a .tables) (a .g)) _ _ _ _ _ (omega (arith, long, start .pre .0 .few, start .pre .1)) (first .0) (first .1) (put-at _ _ _ _ (shown .0) long) (shown .1) (shut .1),
     )
 
 pub data-block-spec : {M : Type 1} → statement M

@@ -24,7 +24,7 @@ opening-is = refl
 
 returns : tie.Need-returns
 unfolding openedMeter bytes
-returns c = c .before .feed .ensures .1 ∙ ap (λ (m : Meter). left m full bytes) (c .before .before .before .blank .ensures) ∙ ap (left _ full) opening-is
+returns c = c .before .feed .ensures .1 ∙ ap (λ (m : Meter). left m full bytes) (c .before .before .before .new-meter .ensures) ∙ ap (left _ full) opening-is
 
 pub opened-spec : {M : Type 1} → statement M
 opened-spec = tie.close (tie.spec (λ c κs. search needs) (λ c. search needs) (λ c κs. search needs) returns)

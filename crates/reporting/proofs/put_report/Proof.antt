@@ -17,7 +17,7 @@ put-rows-requires c κs =
     let start = c4 .before .before .before in
     let a = start .args in
     let line = c4 .put-line in
-    (omega (arith, start .pre, line .ensures .0, line .kept .0, line-few (a .number) (a .behind)), search needs)
+    (omega (arith, start .pre .0, start .pre .1, line .ensures .0, line .kept .0, line-few (a .number) (a .behind)), search needs, start .pre .1)
 
 returns : tie.Need-returns
 returns c =

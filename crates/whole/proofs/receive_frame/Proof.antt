@@ -3,31 +3,51 @@ use mathlib.Core.Path.{sym, _∙_}
 use native.Mathlib.Omega.{arith}
 use Rattle.text.specs.Writing.{holding}
 use Rattle.whole.specs.Whole.{frameAt}
-use borrow.Author.Tests.{le-ltb, lt-ltb}
+use borrow.Author.Tests.{not-true, not-false, lt-ltb, le-ltb}
 use borrow.Author.Needs.{needs}
 use Rattle.whole.proofs.receive_frame.Statement.{statement}
 use Rattle.whole.proofs.receive_frame.Tie as tie
 
 returns : tie.Need-returns
 unfolding frameAt holding
-returns c = (rw (lt-ltb _ _ (c .before .if1 .taken), c .unheard-with .ensures), rw (lt-ltb _ _ (c .before .if1 .taken)))
-
-take-frame-requires : tie.Need-take-frame-requires
-take-frame-requires c κs = (sym (c .before .before .is-well-formed .ensures) ∙ c .before .if2 .taken, omega arith)
+returns c =
+    let known = c .before .before in
+    let none = not-true (known .has-edition .result) (c .before .if1 .taken) in
+    (rw (← known .has-edition .ensures, none, c .unheard-with .ensures), rw (← known .has-edition .ensures, none))
 
 returns-2 : tie.Need-returns-2
 unfolding frameAt holding
 returns-2 c =
-    let c2 = c .before .before in
-    let c4 = c2 .before .before in
-    let c5 = c4 .before in
-    let c6 = c5 .before in
-    let done = c2 .take-frame .ensures in
-    (rw (le-ltb _ _ (c6 .if1 .left), ← c5 .is-well-formed .ensures, c4 .if2 .taken, done .0), rw (le-ltb _ _ (c6 .if1 .left), ← c5 .is-well-formed .ensures, c4 .if2 .taken) (done .1))
+    let known = c .before .before in
+    let is = not-false (known .before .has-edition .result) (known .if1 .left) in
+    let short = lt-ltb _ _ (c .before .if2 .taken) in
+    (rw (← known .before .has-edition .ensures, is, short, c .unheard-with2 .ensures), rw (← known .before .has-edition .ensures, is, short))
+
+take-frame-requires : tie.Need-take-frame-requires
+take-frame-requires c κs = (sym (c .before .before .is-well-formed .ensures) ∙ c .before .if3 .taken, omega arith)
 
 returns-3 : tie.Need-returns-3
 unfolding frameAt holding
-returns-3 c = (rw (le-ltb _ _ (c .before .before .before .if1 .left), ← c .before .before .is-well-formed .ensures, c .before .if2 .left, c .unheard-with2 .ensures), rw (le-ltb _ _ (c .before .before .before .if1 .left), ← c .before .before .is-well-formed .ensures, c .before .if2 .left))
+returns-3 c =
+    let formed = c .before .before .before .before .before in
+    let room = formed .before in
+    let known = room .before in
+    let is = not-false (known .before .has-edition .result) (known .if1 .left) in
+    let long = le-ltb _ _ (room .if2 .left) in
+    let good = c .before .before .before .before .if3 .taken in
+    let done = c .before .before .take-frame .ensures in
+    (rw (← known .before .has-edition .ensures, is, long, ← formed .is-well-formed .ensures, good, done .0), rw (← known .before .has-edition .ensures, is, long, ← formed .is-well-formed .ensures, good) (done .1))
+
+returns-4 : tie.Need-returns-4
+unfolding frameAt holding
+returns-4 c =
+    let formed = c .before .before in
+    let room = formed .before in
+    let known = room .before in
+    let is = not-false (known .before .has-edition .result) (known .if1 .left) in
+    let long = le-ltb _ _ (room .if2 .left) in
+    let bad = c .before .if3 .left in
+    (rw (← known .before .has-edition .ensures, is, long, ← formed .is-well-formed .ensures, bad, c .unheard-with3 .ensures), rw (← known .before .has-edition .ensures, is, long, ← formed .is-well-formed .ensures, bad))
 
 pub receive-frame-spec : {M : Type 1} → statement M
-receive-frame-spec = tie.close (tie.spec (λ c κs. search needs) returns (λ c κs. search needs) take-frame-requires (λ c. search needs) returns-2 (λ c κs. search needs) returns-3)
+receive-frame-spec = tie.close (tie.spec (λ c κs. search needs) (λ c κs. search needs) returns (λ c κs. search needs) returns-2 (λ c κs. search needs) take-frame-requires (λ c. search needs) returns-3 (λ c κs. search needs) returns-4)

@@ -19,15 +19,16 @@ returns c =
 
 returns-2 : tie.Need-returns-2
 unfolding holding
-returns-2 c = let c4 = c .before .before .before .before in let c5 = c4 .before in let c8 = c5 .before .before .before in let start = c8 in
+returns-2 c = let c4 = c .before .before .before .before in let c5 = c4 .before in let of = c5 .before .before .before in let start = of .before .before .before in
     let a = start .before .before .before .before .before .args in
     let whole = whole-frame (a .m) (a .c) (a .damaged) (start .if1 .left) in
     let chosen = c4 .decide .ensures in
     let shown = c5 .first .ensures .1 in
+    let tables = of .tables-of .ensures .0 in
     let done = c .before .before .act .ensures in (
-      (rw (chosen, shown) at (done .0)) ∙ ap answerOf (sym whole),
-      (rw (chosen, shown) at (done .1)) ∙ ap (λ (o : Outcome). holding (a .reply .now) (onWire (o .reply))) (sym whole),
+      (rw (chosen, tables, shown) at (done .0)) ∙ ap answerOf (sym whole),
+      (rw (chosen, tables, shown) at (done .1)) ∙ ap (λ (o : Outcome). holding (a .reply .now) (onWire (o .reply))) (sym whole),
     )
 
 pub act-on-frame-spec : {M : Type 1} → statement M
-act-on-frame-spec = tie.close (tie.spec (λ c κs. search needs) (λ c κs. search needs) (λ c. search needs) returns (λ c. search needs) (λ c. search needs) (λ c κs. search needs) (λ c κs. search needs) (λ c κs. search needs) (λ c. search needs) returns-2)
+act-on-frame-spec = tie.close (tie.spec (λ c κs. search needs) (λ c κs. search needs) (λ c. search needs) returns (λ c κs. search needs) (λ c. search needs) (λ c. search needs) (λ c κs. search needs) (λ c κs. search needs) (λ c κs. search needs) (λ c. search needs) returns-2)

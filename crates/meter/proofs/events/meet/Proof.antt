@@ -1,7 +1,7 @@
 -- `meter::events::meet` meets its contract: each way out is the case of the definition that its tests name. Assumes nothing.
 use Rattle.text.specs.Writing.{holding}
 use Rattle.meter.specs.Life.{met}
-use Rattle.meter.proofs.Tests.{tick-quiet, pulse-quiet, power-up-quiet}
+use Rattle.meter.proofs.Tests.{tick-quiet, pulse-quiet, power-up-quiet, unknown-quiet}
 use borrow.Author.Needs.{needs}
 use Rattle.meter.proofs.events.meet.Statement.{statement}
 use Rattle.meter.proofs.events.meet.Tie as tie
@@ -28,7 +28,7 @@ returns-5 c = (rw (c .before .enum-told3 .given .1, c .power-up .ensures), rw (c
 
 returns-6 : tie.Need-returns-6
 unfolding met holding
-returns-6 c = (rw (c .before .enum-told4 .given .1, c .unheard-with .ensures), rw (c .before .enum-told4 .given .1))
+returns-6 c = (rw (c .before .enum-told4 .given .1, c .unknown .ensures), rw (c .before .enum-told4 .given .1, unknown-quiet (c .before .before .before .before .args .m)))
 
 pub meet-spec : {M : Type 1} → statement M
 meet-spec = tie.close (tie.spec (λ c. search needs) (λ c κs. search needs) (λ c. search needs) (λ c κs. search needs) (λ c. search needs) (λ c κs. search needs) (λ c. search needs) (λ c κs. search needs) (λ c. search needs) (λ c κs. search needs) (λ c. search needs) (λ c κs. search needs) (λ c. search needs) returns (λ c. search needs) returns-2 returns-3 returns-4 returns-5 returns-6)

@@ -1,6 +1,5 @@
 -- `replies::block::put_block` meets its contract: the lines, and the end of them. Assumes nothing.
 use native.Mathlib.Omega.{arith}
-use Rattle.state.specs.Sizes.{tables}
 use Rattle.replies.specs.Block.{blockSets, blockData}
 use Rattle.replies.proofs.Sizes.{sets-long, ended}
 use borrow.Author.Needs.{needs}
@@ -13,9 +12,9 @@ returns c = let c7 = c .before .before .before .before .before .before .before i
     let a = start .args in
     let lines = c7 .put-sets .ensures in
     let end = c .before .before .put .ensures in
-    let long = sets-long tables (a .g) (start .pre .0) in (
+    let long = sets-long (a .tables) (a .g) (start .pre .0) in (
       omega (arith, lines .0, end .0),
-      ended (blockSets tables (a .g)) (a .buf .now) (a .at) _ _ _ (record { next = omega (arith, lines .0, long); held = lines .1 }) (end .1),
+      ended (blockSets (a .tables) (a .g)) (a .buf .now) (a .at) _ _ _ (record { next = omega (arith, lines .0, long); held = lines .1 }) (end .1),
     )
 
 pub put-block-spec : {M : Type 1} → statement M

@@ -1,6 +1,5 @@
 -- `replies::block::put_long_block` meets its contract: the lines, the periods' lines, and the end of them. Assumes nothing.
 use native.Mathlib.Omega.{arith}
-use Rattle.state.specs.Sizes.{tables}
 use Rattle.state.specs.Closing.{periodsOf}
 use Rattle.replies.specs.Periods.{longSets, longData}
 use Rattle.replies.proofs.Sizes.{ended}
@@ -25,8 +24,8 @@ returns c =
     let more = c7 .put-periods .ensures in
     let end = c .before .before .put .ensures in (
       omega (arith, lines .0, more .0, end .0),
-      ended (longSets tables (a .g)) (a .buf .now) (a .at) _ _ _
-          (all-put-long (a .g) (a .buf .now) (a .at) _ _ _ _ (start .pre .0) (lines .0) (lines .1) (more .0) (more .1)) (end .1),
+      ended (longSets (a .tables) (a .g)) (a .buf .now) (a .at) _ _ _
+          (all-put-long (a .tables) (a .g) (a .buf .now) (a .at) _ _ _ _ (start .pre .0) (lines .0) (lines .1) (more .0) (more .1)) (end .1),
     )
 
 pub put-long-block-spec : {M : Type 1} → statement M

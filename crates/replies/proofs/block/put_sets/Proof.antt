@@ -16,7 +16,7 @@ returns c =
     let energies = energies-put .put-energies .ensures in
     let rows = rows-put .put-tables .ensures in (
       omega (arith, facts .0, energies .0, rows .0),
-      all-put (a .g) (a .buf .now) (a .at) _ _ _ _ _ _ (start .pre .0) (facts .0) (facts .1) (energies .0) (energies .1) (rows .0) (rows .1) .held,
+      all-put (a .tables) (a .g) (a .buf .now) (a .at) _ _ _ _ _ _ (start .pre .0) (facts .0) (facts .1) (energies .0) (energies .1) (rows .0) (rows .1) .held,
     )
 
 pub put-sets-spec : {M : Type 1} → statement M

@@ -7,11 +7,11 @@ use Rattle.session.proofs.messages.work_at.Tie as tie
 
 returns : tie.Need-returns
 unfolding workAt rowAt
-returns c = let c4 = c .before .before .before .before in let c5 = c4 .before in let c6 = c5 .before in rw (eq-eqb _ _ (c6 .if1 .taken), ← c5 .rest .ensures .1, ← c4 .first .ensures .1) (c .before .before .write-row .ensures)
+returns c = let c4 = c .before .before .before .before in let c5 = c4 .before in let c6 = c5 .before in rw (← c6 .before .before .tables-of .ensures .0, eq-eqb _ _ (c6 .if1 .taken), ← c5 .rest .ensures .1, ← c4 .first .ensures .1) (c .before .before .write-row .ensures)
 
 returns-2 : tie.Need-returns-2
 unfolding workAt readAt
-returns-2 c = let c4 = c .before .before .before .before in let c5 = c4 .before in let c6 = c5 .before in rw (ne-eqb _ _ (c6 .if1 .left), ← c5 .at .ensures, ← c4 .at2 .ensures) (c .before .before .read .ensures)
+returns-2 c = let c4 = c .before .before .before .before in let c5 = c4 .before in let c6 = c5 .before in rw (← c6 .before .before .tables-of .ensures .0, ne-eqb _ _ (c6 .if1 .left), ← c5 .at .ensures, ← c4 .at2 .ensures) (c .before .before .read .ensures)
 
 pub work-at-spec : {M : Type 1} → statement M
-work-at-spec = tie.close (tie.spec (λ c. search needs) (λ c κs. search needs) (λ c κs. search needs) (λ c κs. search needs) (λ c. search needs) returns (λ c. search needs) (λ c κs. search needs) (λ c. search needs) (λ c κs. search needs) (λ c κs. search needs) (λ c. search needs) returns-2)
+work-at-spec = tie.close (tie.spec (λ c κs. search needs) (λ c. search needs) (λ c κs. search needs) (λ c κs. search needs) (λ c κs. search needs) (λ c. search needs) returns (λ c. search needs) (λ c κs. search needs) (λ c. search needs) (λ c κs. search needs) (λ c κs. search needs) (λ c. search needs) returns-2)

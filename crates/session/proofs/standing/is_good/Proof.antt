@@ -6,7 +6,7 @@ use Rattle.session.proofs.standing.is_good.Tie as tie
 
 returns : tie.Need-returns
 unfolding sessionGood
-returns c = rw (c .before .before .before .is-told .ensures, c .before .before .work-good .ensures, c .before .place-good .ensures, c .fact-good .ensures)
+returns c = rw (c .before .before .before .is-told .ensures, c .before .before .work-good .ensures, c .before .before .before .before .tables-of .ensures .0, c .before .place-good .ensures, c .fact-good .ensures)
 
 pub is-good-spec : {M : Type 1} → statement M
-is-good-spec = tie.close (tie.spec (λ c κs. search needs) (λ c κs. search needs) (λ c κs. search needs) (λ c κs. search needs) returns)
+is-good-spec = tie.close (tie.spec (λ c κs. search needs) (λ c κs. search needs) (λ c κs. search needs) (λ c κs. search needs) (λ c κs. search needs) returns)

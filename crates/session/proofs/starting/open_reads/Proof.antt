@@ -16,7 +16,7 @@ returns-2 c = (rw (ne-eqb _ _ (c .before .before .if1 .left), lt-ltb _ _ (c .bef
 
 returns-3 : tie.Need-returns-3
 unfolding openedReads
-returns-3 c = let c4 = c .before .before .before .before in let c5 = c4 .before in let c6 = c5 .before in (rw (ne-eqb _ _ (c6 .if1 .left), le-ltb _ _ (c5 .if2 .left), ← c4 .reads-good .ensures, c .before .before .begin .ensures .0), rw (ne-eqb _ _ (c6 .if1 .left), le-ltb _ _ (c5 .if2 .left), ← c4 .reads-good .ensures) (c .before .before .begin .ensures .1))
+returns-3 c = let c4 = c .before .before .before .before in let c5 = c4 .before in let c6 = c5 .before .before in let c7 = c5 .before in (rw (ne-eqb _ _ (c6 .if1 .left), le-ltb _ _ (c7 .if2 .left), ← c5 .tables-of .ensures .0, ← c4 .reads-good .ensures, c .before .before .begin .ensures .0), rw (ne-eqb _ _ (c6 .if1 .left), le-ltb _ _ (c7 .if2 .left), ← c5 .tables-of .ensures .0, ← c4 .reads-good .ensures) (c .before .before .begin .ensures .1))
 
 pub open-reads-spec : {M : Type 1} → statement M
-open-reads-spec = tie.close (tie.spec (λ c κs. search needs) returns (λ c κs. search needs) returns-2 (λ c κs. search needs) (λ c. search needs) (λ c κs. search needs) (λ c. search needs) returns-3)
+open-reads-spec = tie.close (tie.spec (λ c κs. search needs) returns (λ c κs. search needs) returns-2 (λ c κs. search needs) (λ c κs. search needs) (λ c. search needs) (λ c κs. search needs) (λ c. search needs) returns-3)

@@ -24,7 +24,7 @@ returns-3 c = rw (ne-eqb _ _ (c .before .before .if1 .left), ne-eqb _ _ (c .befo
 
 returns-4 : tie.Need-returns-4
 unfolding readOf goodFields
-returns-4 c = let c3 = c .before .before .before in let c4 = c3 .before in let c5 = c4 .before in rw (ne-eqb _ _ (c4 .if1 .left), ne-eqb _ _ (c3 .if2 .left), ne-eqb _ _ (c .before .before .if3 .left), eq-eqb _ _ (c .before .if4 .taken), c .is-zone .ensures) (energy-good (c5 .args .n) (eqb (c5 .args .n) 0))
+returns-4 c = let c3 = c .before .before .before in let c4 = c3 .before in let c5 = c4 .before in rw (ne-eqb _ _ (c4 .if1 .left), ne-eqb _ _ (c3 .if2 .left), ne-eqb _ _ (c .before .before .if3 .left), eq-eqb _ _ (c .before .if4 .taken), c .is-zone .ensures) (energy-good (c5 .args .tables) (c5 .args .n) (eqb (c5 .args .n) 0))
 
 returns-5 : tie.Need-returns-5
 unfolding readOf goodFields
