@@ -21,9 +21,9 @@ pub const PULSE_MOST: u32 = 1_000_000;
 pub const COUNTER_END: u32 = 1_000_000_000;
 /// The number of a slice that is no frame.
 pub const NO_FRAME: u8 = 17;
-/// Characters of the data block of edition 1; edition 2 has a table's line more.
+/// Characters of the data block of edition 1; a table more adds a line.
 pub const BLOCK: usize = 1_063;
-pub const TABLE_LINE: usize = 36;
+const TABLE_LINE: usize = 36;
 /// The number of an edition that there is not.
 pub const NO_EDITION: u8 = 16;
 /// Rows that there is room for.
@@ -356,7 +356,7 @@ impl Meter {
     }
 
     /// Whether it is of an edition that there is.
-    fn has_edition(&self) -> bool {
+    pub fn has_edition(&self) -> bool {
         tables_of(self.edition).is_some()
     }
 
@@ -848,6 +848,11 @@ impl Meter {
 
     fn table_line(&self, table: usize) -> String {
         format!("131.0.{:02}({})\r\n", table + 1, text(&self.tables[table]))
+    }
+
+    /// Characters of the data block.
+    pub fn block_length(&self) -> usize {
+        BLOCK + TABLE_LINE * (self.table_count() - 24)
     }
 
     /// The data block, BCC included.

@@ -1112,7 +1112,7 @@ fn calendar(chance: &mut Chance, player: &mut Player) {
                         day: day + 1,
                         ..clock
                     };
-                    clock.weekend() && next.weekend()
+                    clock.saturday() && next.sunday()
                 })
                 .expect("each week has a Saturday");
             for hour in 0..24 {
