@@ -18,6 +18,7 @@ use Rattle.values.specs.Registers.{goodTable}
 use Rattle.state.specs.Sizes.{replyRoom}
 use Rattle.values.proofs.Editions.{tables-most}
 use Rattle.state.specs.declared.Meter.{Meter}
+use Rattle.state.specs.Link.{linkOf, isWired}
 use Rattle.state.specs.WellFormed.{tablesIn, editionOf}
 use Rattle.state.proofs.Parts.{formed, long}
 use Rattle.frames.specs.Frames.{frameOf}
@@ -69,17 +70,17 @@ module _ (m : Meter) (r : Ready m) where
       subst (λ (s : List Said). Delivered m es s (left m rooms (framesOf es))) (sym (f .0))
       (subst (λ (x : Meter). Delivered m es (acknowledgedOnce (m .speed) es) x) (sym (f .1)) (entries-delivered es h))
 
-  -- [3]: a post for meters of another edition: each line of a table that this meter has is acknowledged and taken, each other one is refused with 9,
-  -- and nothing else changes
-  pub other-edition : (tables : ℕ) → tables < 100 → (text : List ℕ) (p : IsPost tables text) (rooms : ℕ → ℕ) → ((i : ℕ) → replyRoom ≤ rooms i)
+  -- [3]: a post for meters of another edition, on the optical link: each line of a table that this meter has is acknowledged and taken, each other
+  -- one is refused with 9, and nothing else changes. On the wired link a refusal ends the session
+  pub other-edition : isWired (linkOf m) ≡ false → (tables : ℕ) → tables < 100 → (text : List ℕ) (p : IsPost tables text) (rooms : ℕ → ℕ) → ((i : ℕ) → replyRoom ≤ rooms i)
       → (answered m rooms (framesOf (p .entries)) ≡ answeredOnce (tablesIn (m .registers)) (m .speed) (p .entries))
       × (left m rooms (framesOf (p .entries)) ≡ deliveredTo m (takenOf (tablesIn (m .registers)) (p .entries)))
-  other-edition tables few text p rooms room =
+  other-edition optical tables few text p rooms room =
       let es = p .entries in
       let own = tablesIn (m .registers) in
       fed-in m rooms (framesOf es) (answeredOnce own (m .speed) es) (deliveredTo m (takenOf own es)) room
       (subst (λ (x : Meter). Fed x (framesOf es) (answeredOnce own (m .speed) es) (deliveredTo x (takenOf own es))) (sym ready-is)
-      (others-fed tables few (m .attempts) (m .speed) (m .registers) 0 es fit-four (good-rising tables es (p .good))))
+      (others-fed tables few (m .attempts) (m .speed) (m .registers) 0 es fit-four optical (good-rising tables es (p .good))))
 
 length-frames : (tables above : ℕ) (es : List Entry) → rising tables above es ≡ true → length (framesOf es) ≡ 36 * length es
 unfolding framesOf entryFrame

@@ -31,7 +31,7 @@ use Rattle.state.specs.Setting.{withAccount, withTables, withRow}
 use Rattle.deciding.specs.Verdict.{framedVerdict, entry, verdict}
 use Rattle.deciding.specs.Asking.{asked}
 use Rattle.deciding.specs.Telling.{told}
-use Rattle.meter.specs.Outcomes.{ack, nak, fallen}
+use Rattle.meter.specs.Outcomes.{ack, nak}
 use Rattle.meter.specs.Acting.{acted, tried}
 use Rattle.reading.proofs.Leading.{or-cases}
 use Rattle.commands.specs.Spoken.{Command, enter, password, readClock, readSerial, readAccount, readTotal, readZone, readTable, writeClock, writeAccount, writeTable, goodFields, lettersOf, dataOf, spoken}
@@ -160,8 +160,8 @@ command-fed mode a s g c fit h k =
 
 -- [3]: a write of a table that the meter has not is refused with 9, and nothing else comes of it
 pub other-fed : (a s : ℕ) (g : Registers) (n : ℕ) (row : List ℕ) → Fit 4 a s g → 1 ≤ n → n < 100 → goodTable (tablesIn g) n ≡ false → goodRow row ≡ true
-    → Fed (idle 4 a s g) (onWire (spoken (writeTable n row))) (atLast (suc (suc (length (bodyOf (writeTable n row))))) s (saidIn (nak 9 (idle 4 a s g)))) (idle 4 a s g)
-unfolding spoken frameOf acted fallen goodFields goodTable between lettersOf dataOf setTable
+    → Fed (idle 4 a s g) (onWire (spoken (writeTable n row))) (atLast (suc (suc (length (bodyOf (writeTable n row))))) s (saidIn (nak 9 (idle 4 a s g)))) (nak 9 (idle 4 a s g) .next)
+unfolding spoken frameOf acted goodFields goodTable between lettersOf dataOf setTable
 other-fed a s g n row fit low small none good =
     let c = writeTable n row in
     let fields : goodFields 99 c ≡ true = rw (le-leb 1 n low, le-leb n 99 (omega arith)) good in

@@ -1,4 +1,5 @@
 -- What a call answers: the number, the reply as characters, its speed, the place of the first damaged character with 3, and the next state.
+use mathlib.Core.Bool.{cond}
 use mathlib.Core.List.{List, []}
 use Prim.Native.Nat.{ℕ}
 use lib.ListN.{length}

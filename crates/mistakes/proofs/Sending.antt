@@ -48,6 +48,8 @@ computed = (
     is-well-formed-place = (flag refl, flag refl);
     is-well-formed-total = (flag refl, flag refl);
     is-well-formed-archive = (flag refl, flag refl);
+    «has_edition» = (flag refl, flag refl);
+    «not_made» = (seen (λ (r : Made). r .number) refl, seen (λ (r : Made). r .number) refl);
     blank = (seen (λ (m : Meter). m .attempts) refl, seen (λ (m : Meter). getD (m .registers .account) 0 0) refl);
     make = (seen (λ (r : Made). r .number) refl, seen (λ (r : Made). getD (r .meter .registers .facts .serial) 0 0) refl);
   },

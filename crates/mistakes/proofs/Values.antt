@@ -21,6 +21,7 @@ use Rattle.values.specs.declared.reading.TableRead.{TableRead}
 use Rattle.values.specs.declared.characters.SerialRead.{SerialRead}
 use Rattle.values.specs.declared.characters.AccountRead.{AccountRead}
 use Rattle.values.specs.declared.characters.RowRead.{RowRead}
+use Rattle.values.specs.Edition.{isEdition, tablesOf}
 use Rattle.values.specs.Registers.{goodDigits, isAccountCharacter, goodAccount, goodRow, goodTable, goodZone, energyNo}
 use Rattle.values.specs.Texts.{serialText, tableText, dateText, timeText, clockText, stampText, counterText}
 use Rattle.values.specs.Reading.{dateRead, timeRead, clockRead, stampRead, counterRead, tableRead}
@@ -45,9 +46,11 @@ clock =
     }
 
 pub rules : Rules
-unfolding every between isDigit isLetter goodDigits isAccountCharacter goodAccount goodRow goodTable goodZone energyNo
+unfolding every between isDigit isLetter isEdition tablesOf goodDigits isAccountCharacter goodAccount goodRow goodTable goodZone energyNo
 rules =
     record {
+      «is_edition» = (flag refl, flag refl);
+      «tables_of» = (number refl, number refl);
       «is_digits» = (flag refl, flag refl);
       «is_account_character» = (flag refl, flag refl);
       «is_account» = (flag refl, flag refl);

@@ -6,13 +6,14 @@ use lib.ListN.{replicate}
 use Rattle.line.specs.Quoted.{chars}
 use Rattle.text.specs.Writing.{holding}
 use Rattle.clock.specs.Seconds.{realClock}
+use Rattle.values.specs.Edition.{tablesOf}
 use Rattle.values.specs.Registers.{goodSerial, goodPassword, goodAccount, goodRow, goodTable, goodZone}
 use Rattle.frames.specs.Frames.{frameOf, bareFrame, onWire}
 use Rattle.frames.specs.Commands.{B0, P0, P1, R1, W1, bracketed, askClock, askSerial, askAccount, askEnergy, askTable, setClock, setAccount, setTable}
 use Rattle.values.specs.Texts.{serialText}
 use Rattle.frames.specs.Session.{signOn, closingSignOn, signOnTo, wiredSignOn, confirmation, goodSpeed, enterData, passwordData}
 use Rattle.commands.specs.declared.Built.{Built}
-use Rattle.commands.specs.Building.{goodChoice, Builds}
+use Rattle.commands.specs.Building.{goodChoice, Builds, BuildsFor}
 use Rattle.mistakes.specs.Samples.{clockAt, serial, password}
 
 -- a builder never answers so, whatever it leaves in the buffer
@@ -22,6 +23,10 @@ NotAnswered buf ok command number size = (after : List ℕ) → Builds buf ok co
 -- a builder never leaves this, whatever it answers
 abbrev pub NotLeft : List ℕ → Bool → List ℕ → List ℕ → Type 0
 NotLeft buf ok command wrong = (r : Built) → Builds buf ok command r wrong → ⊥
+
+-- [3]: one of an edition never answers so
+abbrev pub NotFor : ℕ → List ℕ → Bool → List ℕ → ℕ → ℕ → Type 0
+NotFor edition buf ok command number size = (after : List ℕ) → BuildsFor edition buf ok command (record { number = number; length = size }) after → ⊥
 
 abbrev pub room : List ℕ
 room = replicate 64 0
@@ -71,8 +76,11 @@ pub record Commands : Type 0 where
   pub «read_zone» : NotAnswered room (goodZone 0) (onWire (frameOf R1 (askEnergy 0))) 1 10
       × NotLeft room (goodZone 2) (onWire (frameOf R1 (askEnergy 2))) (holding room (onWire (frameOf R1 (askEnergy 1))))
   -- table 25; one digit for a number below 10
-  pub «read_table» : NotAnswered room (goodTable 24 25) (onWire (frameOf R1 (askTable 25))) 1 11
+  pub «read_table_of» : NotAnswered room (goodTable 24 25) (onWire (frameOf R1 (askTable 25))) 1 11
       × NotLeft room (goodTable 24 7) (onWire (frameOf R1 (askTable 7))) (holding room (onWire (frameOf R1 (90 ∷ bracketed (chars "7")))))
+  -- [3]: edition 2 without its table 25; 9 for edition 3
+  pub «read_table» : NotFor 2 room (goodTable (tablesOf 2) 25) (onWire (frameOf R1 (askTable 25))) 9 0
+      × NotFor 3 room (goodTable (tablesOf 3) 25) (onWire (frameOf R1 (askTable 25))) 9 0
   -- 29-02-2001 taken; the month first
   pub «write_clock» : NotAnswered room (realClock (clockAt 2001 2 29 0 0 0)) (onWire (frameOf W1 (setClock (clockAt 2001 2 29 0 0 0)))) 1 28
       × NotLeft room (realClock (clockAt 2001 2 3 0 0 0)) (onWire (frameOf W1 (setClock (clockAt 2001 2 3 0 0 0))))
@@ -81,7 +89,10 @@ pub record Commands : Type 0 where
   pub «write_account» : NotAnswered room (goodAccount (replicate 9 65)) (onWire (frameOf W1 (setAccount (replicate 9 65)))) 1 18
       × NotLeft room (goodAccount (replicate 10 45)) (onWire (frameOf W1 (setAccount (replicate 10 45)))) (holding room (onWire (frameOf W1 (setAccount (replicate 10 45)))))
   -- a row with a bracket; a refused row written all the same
-  pub «write_table» : NotAnswered room (goodTable 24 7 && goodRow broken) (onWire (frameOf W1 (setTable 7 broken))) 1 36
+  pub «write_table_of» : NotAnswered room (goodTable 24 7 && goodRow broken) (onWire (frameOf W1 (setTable 7 broken))) 1 36
       × NotLeft room (goodTable 24 7 && goodRow broken) (onWire (frameOf W1 (setTable 7 broken))) (holding room (onWire (frameOf W1 (setTable 7 broken))))
+  -- [3]: table 25 in edition 1; a table of edition 3
+  pub «write_table» : NotFor 1 room (goodTable (tablesOf 1) 25 && goodRow (replicate 24 49)) (onWire (frameOf W1 (setTable 25 (replicate 24 49)))) 1 36
+      × NotFor 3 room (goodTable (tablesOf 3) 7 && goodRow (replicate 24 49)) (onWire (frameOf W1 (setTable 7 (replicate 24 49)))) 1 36
   -- with STX, as the other commands; built in 63 bytes
   pub «sign_off» : NotLeft room true (onWire (bareFrame B0)) (holding room (onWire (frameOf B0 []))) × NotAnswered (replicate 63 0) true (onWire (bareFrame B0)) 1 5

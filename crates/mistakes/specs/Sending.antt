@@ -1,5 +1,5 @@
 -- Two wrong answers for each call of `frames`, `state`, `datasets` and `replies`.
-use mathlib.Core.Bool.{true}
+use mathlib.Core.Bool.{true, false}
 use mathlib.Core.List.{[], _∷_, _++_}
 use Prim.Native.Nat.{_*_}
 use lib.ListN.{take, drop, replicate}
@@ -8,13 +8,14 @@ use Rattle.line.specs.Quoted.{chars}
 use Rattle.text.specs.Writing.{stored, holding}
 use Rattle.clock.specs.Seconds.{dateOf, timeOf}
 use Rattle.values.specs.declared.Energy.the-variants.{Total}
+use Rattle.values.specs.Edition.{isEdition}
 use Rattle.values.specs.Registers.{energyNo, zoneEnergy}
 use Rattle.values.specs.Texts.{serialText, timeText, dateText}
 use Rattle.frames.specs.Frames.{sealed, frameOf, bareFrame, blockOf, onWire}
 use Rattle.frames.specs.Commands.{P0, P1, bracketed}
 use Rattle.state.specs.Sizes.{rowLength, replyRoom, periodPlaces, tablePlaces}
-use Rattle.state.specs.WellFormed.{limit, wellFormed}
-use Rattle.state.specs.Making.{emptyReceiver, noCounters, noPeriod, factsOf, meterOf, blankMeter, madeOf}
+use Rattle.state.specs.WellFormed.{editionOf, limit, wellFormed}
+use Rattle.state.specs.Making.{emptyReceiver, noCounters, noPeriod, factsOf, meterOf, blankMeter, notMade, madeOf}
 use Rattle.datasets.specs.Sets.{dataSet, linesOf, lineOf, timeSet, dateSet, serialSet, accountSet, energySet, tableSet, closedSet, keptSet}
 use Rattle.replies.specs.declared.Ask.the-variants.{Energy, Table}
 use Rattle.replies.specs.Answers.{askedData}
@@ -50,6 +51,10 @@ pub record States : Type 0 where
   -- [12]: a period without a time; a thirteenth
   pub is-well-formed-archive : RuledOut (wellFormed (withRegisters newMeter (withArchive (newMeter .registers) (record { periods = replicate periodPlaces noPeriod; count = 1 })))) true
       × RuledOut (wellFormed (withRegisters newMeter (withArchive (newMeter .registers) (record { periods = replicate periodPlaces noPeriod; count = 13 })))) true
+  -- [3]: an edition 3; a new meter without one
+  pub «has_edition» : RuledOut (isEdition (editionOf (meterOf (factsOf serial password 3 1 0) account noon))) true × RuledOut (isEdition (editionOf newMeter)) false
+  -- 15 for edition 3; 15 for decimals 1
+  pub «not_made» : RuledOut (notMade 3 0) (record { number = 15; meter = blankMeter }) × RuledOut (notMade 1 1) (record { number = 15; meter = blankMeter })
   -- one failed attempt at the start; an account of zeros
   pub blank : RuledOut blankMeter (withAttempts blankMeter 1)
       × RuledOut blankMeter (withRegisters blankMeter (withAccount (blankMeter .registers) (replicate 10 48)))

@@ -8,6 +8,7 @@ use Rattle.text.specs.Decimal.{decimal}
 use Rattle.clock.specs.Dates.{leap, daysIn, realDate, realTime}
 use Rattle.clock.specs.Seconds.{realClock, realStamp, stampOf, dateOf, timeOf, nextSecond}
 use Rattle.clock.specs.Weekday.{weekday}
+use Rattle.values.specs.Edition.{isEdition, tablesOf}
 use Rattle.values.specs.Registers.{goodDigits, isAccountCharacter, goodAccount, goodRow, goodTable, goodZone, energyNo, zoneEnergy}
 use Rattle.values.specs.declared.Energy.the-variants.{Total}
 use Rattle.values.specs.Texts.{serialText, tableText, dateText, timeText, clockText, stampText, counterText}
@@ -40,6 +41,10 @@ pub record Clock : Type 0 where
 
 -- of `values`
 pub record Rules : Type 0 where
+  -- [3]: an edition 3; no edition 2
+  pub «is_edition» : RuledOut (isEdition 3) true × RuledOut (isEdition 2) false
+  -- 24 tables in edition 2; 25 in edition 1
+  pub «tables_of» : RuledOut (tablesOf 2) 24 × RuledOut (tablesOf 1) 25
   -- any number of digits; ':' among them
   pub «is_digits» : RuledOut (goodDigits 8 (replicate 7 49)) true × RuledOut (goodDigits 2 (chars "1:")) true
   -- no underscore; a hyphen

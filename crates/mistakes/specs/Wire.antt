@@ -78,7 +78,7 @@ pub record Heard : Type 0 where
   pub receive-zeros : RuledOut (holding (replicate replyRoom 9) (onWire (zerosCalled .reply))) (holding (replicate replyRoom 9) (onWire (wiredAnswer zeros)))
       × RuledOut (answerOf zerosCalled) (answerOf (silent 0 wiredMeter))
   -- `/?!` answered; heard at 300 baud
-  pub receive-plain : RuledOut (answerOf plainCalled) (answerOf (saying 1 5 identification (inMode wiredMeter 1)))
+  pub receive-plain : RuledOut (answerOf plainCalled) (answerOf (saying 1 5 (identification 1) (inMode wiredMeter 1)))
       × RuledOut (answerOf plainCalled) (answerOf (silent 0 (withSpeed wiredMeter 0)))
   -- NAK; mode 3 kept
   pub receive-wrong : RuledOut (answerOf wrongSum) (answerOf (saying 4 5 refused (inMode wiredMeter 0)))

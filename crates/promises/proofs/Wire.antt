@@ -9,9 +9,10 @@ use borrow.Author.Tests.{eqb-true, not-true}
 use lib.Dec.{eqb, leb, ltb}
 use Rattle.line.specs.Characters.{damagedAt}
 use Rattle.line.proofs.Runs.{and-left, and-right}
+use Rattle.values.specs.Edition.{isEdition}
 use Rattle.state.specs.Sizes.{replyRoom}
 use Rattle.state.specs.declared.Meter.{Meter}
-use Rattle.state.specs.WellFormed.{wellFormed, marked}
+use Rattle.state.specs.WellFormed.{editionOf, wellFormed, marked}
 use Rattle.state.specs.Link.{linkOf, isWired, restSpeed}
 use Rattle.state.specs.Making.{emptyReceiver}
 use Rattle.state.specs.Setting.{withReceiver, withSpeed, inMode}
@@ -76,8 +77,10 @@ module _ (m : Meter) (w : OnWire m) where
   pub byte-quiet : (room b : ℕ) → calledBy m b ≡ false → Quiet m (character m room b)
   unfolding character taken calledBy
   byte-quiet room b h =
-      choice.either (Quiet m) (ltb room replyRoom) (record { says = refl; stays = refl })
-      (rw (w .formed) (subst (P (symbol b) (damagedAt b)) (sym (listens (symbol b))) (listened (symbol b) (damagedAt b) h)))
+      choice.either (Quiet m) (isEdition (editionOf m))
+      (choice.either (Quiet m) (ltb room replyRoom) (record { says = refl; stays = refl })
+      (rw (w .formed) (subst (P (symbol b) (damagedAt b)) (sym (listens (symbol b))) (listened (symbol b) (damagedAt b) h))))
+      (record { says = refl; stays = refl })
 
   -- and so it is still there
   still : (room b : ℕ) → calledBy m b ≡ false → OnWire (character m room b .next)

@@ -56,7 +56,7 @@ stayed = (stay-none-ref (0 ∷ []) tt (plain (λ _. S.the-row)) yes, (gave-slice
 
 -- what `hand_over` says of its result, of the buffer and of the number, which is what is to be said
 abbrev Told : Meter → List ℕ → ℕ → List ℕ → ℕ → Type 0
-Told m ys k zs count = (k ≡ writtenIn 24 m ys .number) × (zs ≡ writtenTo 24 m ys) × (count ≡ writtenIn 24 m ys .length)
+Told m ys k zs count = (k ≡ writtenIn m ys .number) × (zs ≡ writtenTo m ys) × (count ≡ writtenIn m ys .length)
 
 module _ {M : Type 1} (𝓤 : URA M) (H : Heap 𝓤) (A : Atoms 𝓤) (at-mem : Memory → SProp 𝓤) (run : Routine → Fun 𝓤) where
   -- the contract that the proof cites
