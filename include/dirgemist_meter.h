@@ -85,8 +85,8 @@ struct dirgemist_archive {
     uint8_t count;
 };
 
-/* What a meter has for life: texts without an end mark; the edition, 1 or 2; the link, 1 (optical) or 2
- * (wired); the decimals of its family, 0. */
+/* What a meter has for life: texts without an end mark; the edition, 1 or 2; the link, 1 (optical)
+ * or 2 (wired); the decimals of its family, 0. */
 struct dirgemist_facts {
     uint8_t serial[10];
     uint8_t password[8];
@@ -95,8 +95,8 @@ struct dirgemist_facts {
     uint8_t decimals;
 };
 
-/* Texts without an end mark; the tables are 24 rows of 24 characters '1' to '4', and of edition 2 25 rows. The 25th row of an
- * edition 1 meter is 24 bytes of 0, or the record is not well-formed. */
+/* Texts without an end mark; the tables are 24 rows of 24 characters '1' to '4', and of edition 2
+ * 25 rows. The 25th row of an edition 1 meter is 24 bytes of 0, or the record is not well-formed. */
 struct dirgemist_registers {
     struct dirgemist_facts facts;
     uint8_t account[10];

@@ -6,7 +6,7 @@
  *     POST /check   the text is the body, any bytes: `1`, or `20`, a space and the place; then LF
  *     POST /export  the frames; or, with status 422, `20`, a space, the place and LF
  *
- * `?edition=1` tells the meter's edition; it is 1 where nothing is said. Any other gives `16` LF with status 400.
+ * `?edition=2` tells the meter's edition; it is 1 where nothing is said. Any other gives `16` LF with status 400.
  *
  * It listens on this machine alone: a forum puts it behind its own web server. Nothing is kept from one request to the next. A body
  * has at most BODY_MOST bytes: one that says it is longer gets 413, one that turns out longer is cut off. A request has SECONDS in
@@ -31,7 +31,6 @@
 #define HEADERS_MOST 16384
 #define PAGE_MOST (4 << 20)
 #define FRAMES_MOST (DIRGEMIST_FRAME * (DIRGEMIST_LONGEST_POST / DIRGEMIST_LINE))
-#define NO_EDITION 16
 
 static _Noreturn void fail(const char *what) {
     fprintf(stderr, "server: %s: %s\n", what, strerror(errno));
@@ -109,16 +108,16 @@ static uint8_t edition_of(struct MHD_Connection *connection) {
 
 static enum MHD_Result check(struct MHD_Connection *connection, const uint8_t *text, size_t length) {
     size_t place = 0;
-    uint8_t number = edition_of(connection) != 1 ? NO_EDITION : dirgemist_post_check(text, length, &place);
-    return say_number(connection, number == NO_EDITION ? MHD_HTTP_BAD_REQUEST : MHD_HTTP_OK, number, place);
+    uint8_t number = dirgemist_post_check(edition_of(connection), text, length, &place);
+    return say_number(connection, number == DIRGEMIST_NO_EDITION ? MHD_HTTP_BAD_REQUEST : MHD_HTTP_OK, number, place);
 }
 
 static enum MHD_Result export(struct MHD_Connection *connection, const uint8_t *text, size_t length) {
     uint8_t frames[FRAMES_MOST];
     size_t place = 0, size = 0;
-    uint8_t number = edition_of(connection) != 1 ? NO_EDITION : dirgemist_post_export(text, length, frames, sizeof frames, &size, &place);
+    uint8_t number = dirgemist_post_export(edition_of(connection), text, length, frames, sizeof frames, &size, &place);
     if (number != DIRGEMIST_DONE) {
-        return say_number(connection, number == NO_EDITION ? MHD_HTTP_BAD_REQUEST : MHD_HTTP_UNPROCESSABLE_CONTENT, number, place);
+        return say_number(connection, number == DIRGEMIST_NO_EDITION ? MHD_HTTP_BAD_REQUEST : MHD_HTTP_UNPROCESSABLE_CONTENT, number, place);
     }
     return give(connection, &(struct answer){.status = MHD_HTTP_OK, .type = "application/octet-stream", .bytes = frames, .length = size, .memory = MHD_RESPMEM_MUST_COPY});
 }

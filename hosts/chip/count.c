@@ -165,7 +165,7 @@ static struct dirgemist_meter full(uint8_t mode) {
                          (const uint8_t *)"20304050", 8, 2024, 2, 29, 23, 5, 9, 1, 1, 0);
     meter.mode = mode;
     meter.speed = mode < 2 ? 0 : 5;
-    for (uint32_t at = 0; at < sizeof registers->tables; at++) {
+    for (uint32_t at = 0; at < 24 * 24; at++) {
         registers->tables[at] = (uint8_t)('1' + (at * 5 + at / 24) / 3 % 4);
     }
     registers->counters = (struct dirgemist_counters){{999999999, 1500, 23456789, 400}, 23458688};
@@ -244,7 +244,7 @@ static void build_sign_on(void) {
     expect(dirgemist_head_sign_on(out, sizeof out, numbers) == 1, "a sign-on");
 }
 static void build_write(void) {
-    expect(dirgemist_head_write_table(7, (const uint8_t *)"111111222111111133333441", 24, out, sizeof out, numbers) == 1,
+    expect(dirgemist_head_write_table(1, 7, (const uint8_t *)"111111222111111133333441", 24, out, sizeof out, numbers) == 1,
            "a table's write");
 }
 static void strip(void) {

@@ -1,10 +1,10 @@
-/* hand.c: the meter's step by hand. The record is changed where it lies, and tested whole before every event, a word at a time. */
+/* hand.c: the step of a meter of edition 1 by hand. The record is changed where it lies, and tested whole before every event, a word at a time. */
 #include "hand.h"
 
 #include <stdbool.h>
 #include <string.h>
 
-#define TABLES (sizeof((struct dirgemist_meter *)0)->registers.tables / 24)
+#define TABLES 24
 #define PLACES 63
 #define PERIODS 12
 #define COUNTER_END 1000000000
@@ -95,7 +95,11 @@ static bool tables_good(const uint8_t *tables) {
         bits |= (four[at] - 0x31313131) | (four[at + 1] - 0x31313131) | (four[at + 2] - 0x31313131);
         bits |= (four[at + 3] - 0x31313131) | (four[at + 4] - 0x31313131) | (four[at + 5] - 0x31313131);
     }
-    return (bits & 0xFCFCFCFC) == 0;
+    uint32_t spare = 0; /* the row that edition 2 has */
+    for (uint32_t at = TABLES * 6; at < TABLES * 6 + 6; at++) {
+        spare |= four[at];
+    }
+    return (bits & 0xFCFCFCFC) == 0 && spare == 0;
 }
 
 /* The places behind the first start at a whole word of the record; 60 of them are fifteen words. */

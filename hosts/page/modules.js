@@ -3,7 +3,7 @@
 import { MODULE, LAYOUT } from './built.js';
 
 // The editions of meters that the module knows, and how many tables each has.
-export const EDITIONS = [1];
+export const EDITIONS = [1, 2];
 export const tablesOf = (edition) => (edition === 2 ? 25 : 24);
 export const LINE = 36;
 
@@ -42,14 +42,14 @@ const size = (bytes) => BigInt(bytes.length);
 // dirgemist.h: whether a text is a post, and where it leaves every post.
 export function check(edition, text) {
     const loan = new Loan(), place = loan.room(8), at = loan.bytes(text);
-    const number = proved.dirgemist_post_check(at, size(text), place);
+    const number = proved.dirgemist_post_check(edition, at, size(text), place);
     return { number, place: loan.length(place) };
 }
 
 // dirgemist.h: the frames of a post, into a buffer as it is given, which comes back as the module left it.
 export function exportInto(edition, text, buffer) {
     const loan = new Loan(), length = loan.room(8), place = loan.room(8), at = loan.bytes(text), out = loan.bytes(buffer);
-    const number = proved.dirgemist_post_export(at, size(text), out, size(buffer), length, place);
+    const number = proved.dirgemist_post_export(edition, at, size(text), out, size(buffer), length, place);
     return { number, length: loan.length(length), place: loan.length(place), buffer: loan.take(out, buffer.length) };
 }
 
@@ -62,7 +62,7 @@ export function framesOf(edition, text) {
 export function startSession(edition, serial, password, post) {
     const loan = new Loan(), length = loan.room(8), place = loan.room(8), session = loan.room(LAYOUT.session);
     const told = [loan.bytes(serial), loan.bytes(password), loan.bytes(post)], out = loan.room(LAYOUT.messageRoom);
-    const number = proved.dirgemist_session_start(session, serial.length > 0 ? 1 : 0, told[0], size(serial), 1, told[1], size(password),
+    const number = proved.dirgemist_session_start(session, edition, serial.length > 0 ? 1 : 0, told[0], size(serial), 1, told[1], size(password),
         1, told[2], size(post), out, BigInt(LAYOUT.messageRoom), length, place);
     return { number, place: loan.length(place), session: loan.take(session, LAYOUT.session), message: loan.take(out, loan.length(length)) };
 }

@@ -58,8 +58,6 @@ pub record States : Type 0 where
   -- one failed attempt at the start; an account of zeros
   pub blank : RuledOut blankMeter (withAttempts blankMeter 1)
       × RuledOut blankMeter (withRegisters blankMeter (withAccount (blankMeter .registers) (replicate 10 48)))
-  -- 15 for an edition that there is none of; 15 for decimals that no meter has
-  pub «not_made» : RuledOut (notMade 3 1) (record { number = 15; meter = blankMeter }) × RuledOut (notMade 1 1) (record { number = 15; meter = blankMeter })
   -- a serial of letters taken; 15 with a state of the bad facts
   pub make : RuledOut (madeOf (factsOf account password 1 1 0) account noon) (record { number = 1; meter = meterOf (factsOf account password 1 1 0) account noon })
       × RuledOut (madeOf (factsOf account password 1 1 0) account noon) (record { number = 15; meter = meterOf (factsOf account password 1 1 0) account noon })

@@ -202,7 +202,15 @@ fn open_post(
         return refuse(30, 0);
     }
     begin(
-        edition, named, serial, access, password, kind, lines, true, buf,
+        edition,
+        named,
+        serial,
+        access,
+        password,
+        kind,
+        lines,
+        true,
+        buf,
     )
 }
 
@@ -226,9 +234,7 @@ pub fn start(
         return refuse(commands::SHORT, 0);
     }
     if kind == 0 {
-        return open_reads(
-            edition, named, serial, access, password, kind, work, buf,
-        );
+        return open_reads(edition, named, serial, access, password, kind, work, buf);
     }
     if kind != 1 {
         return refuse(commands::FIELD, 0);

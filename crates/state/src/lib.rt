@@ -260,7 +260,8 @@ fn registers_good(g: Registers) -> bool
     if factory_good(g.facts, &account, g.clock) & counters_good(g.counters) {
         let tables = g.tables;
         let f = g.facts;
-        return tables_good(&tables, values::tables_of(f.edition)) & closing::archive_good(g.archive);
+        return tables_good(&tables, values::tables_of(f.edition))
+            & closing::archive_good(g.archive);
     }
     false
 }

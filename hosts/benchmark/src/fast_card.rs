@@ -1,4 +1,4 @@
-//! Cards by hand in plain Rust, for speed: a field is tested whole, and the place is looked for only
+//! Cards of edition 1 by hand in plain Rust, for speed: a field is tested whole, and the place is looked for only
 //! in the field that failed.
 
 use crate::fast_meter;

@@ -1,4 +1,4 @@
-//! The meter written for speed: the state is changed in place and still checked whole at every call.
+//! The meter of edition 1 written for speed: the state is changed in place and still checked whole at every call.
 //! It shares the record with the model and nothing else.
 
 use model::meter::{
@@ -171,8 +171,13 @@ fn receiver_good(meter: &Meter) -> bool {
 /// Every range of the state.
 pub fn well_formed(meter: &Meter) -> bool {
     let mut most = 0;
-    for zone in meter.tables.as_flattened() {
+    let (tables, spare) = meter.tables.as_flattened().split_at(576);
+    for zone in tables {
         most = most.max(zone.wrapping_sub(b'1'));
+    }
+    let mut stray = meter.edition ^ 1;
+    for place in spare {
+        stray |= place;
     }
     let mut account = true;
     for &character in &meter.account {
@@ -189,6 +194,7 @@ pub fn well_formed(meter: &Meter) -> bool {
         .fold(0, |sum: u32, &wh| sum.wrapping_add(wh));
     counters &= meter.total == sum % COUNTER_END;
     (most < 4)
+        & (stray == 0)
         & receiver_good(meter)
         & account
         & counters

@@ -1,4 +1,4 @@
-//! The check and the export by hand in plain Rust, for speed: a line is tested whole, with no
+//! The check and the export for edition 1 by hand in plain Rust, for speed: a line is tested whole, with no
 //! way out before its end, and the place is looked for only in the line that failed.
 
 /// The bytes of a line, and of its frame.

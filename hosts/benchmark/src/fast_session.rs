@@ -1,10 +1,10 @@
-//! The head's session, written by hand for speed in safe Rust: the yardstick for the proved one. The
+//! The head's session with meters of edition 1, written by hand for speed in safe Rust: the yardstick for the proved one. The
 //! same checks and answers; `session_speed` holds the two equal before it times them.
 
 use crate::{fast_head, fast_post};
 use dirgemist::session::{
     Session, Started, Told, Turn, DONE, FIELD, GOES_ON, MANY_READS, MESSAGE_ROOM, NAK, NONE,
-    NO_POST, NO_READS, NO_ROOM, OVER, READ_ONLY, SILENT, WRONG,
+    NO_EDITION, NO_POST, NO_READS, NO_ROOM, OVER, READ_ONLY, SILENT, WRONG,
 };
 
 const LINE: usize = 36;
@@ -245,6 +245,7 @@ fn good(s: &Session) -> bool {
     let work = s.work == 0 || (s.work == 1 && s.access == 1 && s.count <= TABLES);
     let place = (1..=32).contains(&s.count) && (1..=s.count + 4).contains(&s.sent);
     place
+        && s.edition == 1
         && work
         && s.fact <= SILENT
         && (s.fact != OVER || s.sent == s.count + 4)
@@ -263,6 +264,7 @@ pub fn start(told: &Told, out: &mut [u8]) -> (Started, Session) {
         count: 0,
         sent: 0,
         fact: 0,
+        edition: 0,
     };
     let mut started = Started {
         number: DONE,
@@ -270,7 +272,9 @@ pub fn start(told: &Told, out: &mut [u8]) -> (Started, Session) {
         length: 0,
     };
     let length = told.work.len();
-    started.number = if out.len() < MESSAGE_ROOM {
+    started.number = if told.edition != 1 {
+        NO_EDITION
+    } else if out.len() < MESSAGE_ROOM {
         NO_ROOM
     } else {
         match told.kind {
@@ -311,6 +315,7 @@ pub fn start(told: &Told, out: &mut [u8]) -> (Started, Session) {
             count: (length / if told.kind == 1 { LINE } else { 2 }) as u8,
             sent: 1,
             fact: GOES_ON,
+            edition: 1,
         };
         started.length = sign_on(&session, out);
     }

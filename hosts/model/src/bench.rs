@@ -1,7 +1,7 @@
 //! The tester's script over the model: one command a line in, its answer lines out.
 
 use crate::card;
-use crate::meter::{Answer, Clock, Meter, Period, PERIODS, PLACES, ROOM};
+use crate::meter::{Answer, Clock, Meter, Period, PERIODS, PLACES, ROOM, ROWS};
 use std::fmt::Write as _;
 use std::io::{self, BufRead, Write};
 
@@ -282,13 +282,13 @@ fn state(fields: &[&[u8]]) -> Option<Meter> {
     let (link, fields) = fields.split_last()?;
     let (fields, kept) = fields.split_at_checked(fields.len().checked_sub(ARCHIVE)?)?;
     let (closed, periods) = archive(kept)?;
-    let [mode, count, mark, held, serial, account, password, attempts, clock @ .., c1, c2, c3, c4, tables, speed, place, total] =
+    let [mode, count, mark, held, serial, account, password, attempts, clock @ .., c1, c2, c3, c4, tables, speed, place, edition, total] =
         fields
     else {
         return None;
     };
-    let mut rows = [[0; 24]; 24];
-    let characters: [u8; 576] = exactly(tables)?;
+    let mut rows = [[0; 24]; ROWS];
+    let characters: [u8; 24 * ROWS] = exactly(tables)?;
     for (row, given) in rows.iter_mut().zip(characters.chunks(24)) {
         row.copy_from_slice(given);
     }
@@ -310,6 +310,7 @@ fn state(fields: &[&[u8]]) -> Option<Meter> {
         closed,
         periods,
         link: decimal(link)?,
+        edition: decimal(edition)?,
     })
 }
 
@@ -349,7 +350,10 @@ pub fn dump(meter: &Meter) -> String {
     put_hex(&mut line, meter.tables.as_flattened());
     put(
         &mut line,
-        format_args!(" {} {} {}", meter.speed, meter.place, meter.total),
+        format_args!(
+            " {} {} {} {}",
+            meter.speed, meter.place, meter.edition, meter.total
+        ),
     );
     put(&mut line, format_args!(" {}", meter.closed));
     for period in meter.periods {

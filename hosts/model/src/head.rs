@@ -1,6 +1,7 @@
 //! The head of document 01, written from the page alone: commands, stripped replies, the part of a
 //! block, its data sets one by one, and values read back. Slow and plain, to compare others with.
 
+use crate::post::tables_of;
 use std::ops::Range;
 
 const SOH: u8 = 0x01;
@@ -16,6 +17,7 @@ pub mod answer {
     pub const END: u8 = 0;
     pub const DONE: u8 = 1;
     pub const FIELD: u8 = 9;
+    pub const NO_EDITION: u8 = 16;
     pub const SHORT_ROOM: u8 = 19;
     pub const NO_BLOCK: u8 = 22;
     pub const WRONG_BCC: u8 = 23;
@@ -137,10 +139,11 @@ pub enum Command<'a> {
     ReadAccount,
     ReadTotal,
     ReadZone(u8),
-    ReadTable(u8),
+    /// Edition and number.
+    ReadTable(u8, u8),
     WriteClock(Clock),
     WriteAccount(&'a [u8]),
-    WriteTable(u8, &'a [u8]),
+    WriteTable(u8, u8, &'a [u8]),
     SignOff,
 }
 
@@ -154,6 +157,11 @@ fn framed(name: &str, data: &str) -> Vec<u8> {
     checked(frame)
 }
 
+/// Whether meters of an edition have a table.
+fn has_table(edition: u8, table: u8) -> bool {
+    tables_of(edition).is_some_and(|highest| (1..=highest).contains(&table))
+}
+
 /// The characters of a command in seven bits; nothing where a field lies outside its rule.
 pub fn characters(command: &Command) -> Option<Vec<u8>> {
     let fields_good = match command {
@@ -161,10 +169,10 @@ pub fn characters(command: &Command) -> Option<Vec<u8>> {
         Command::Confirm(speed, choice) => b"05".contains(speed) && b"0167".contains(choice),
         Command::Password(password) => digits(password, 8),
         Command::ReadZone(zone) => (1..=4).contains(zone),
-        Command::ReadTable(table) => (1..=24).contains(table),
+        Command::ReadTable(edition, table) => has_table(*edition, *table),
         Command::WriteClock(clock) => clock.real(),
         Command::WriteAccount(account) => account_rule(account),
-        Command::WriteTable(table, row) => (1..=24).contains(table) && row_rule(row),
+        Command::WriteTable(edition, table, row) => has_table(*edition, *table) && row_rule(row),
         _ => true,
     };
     if !fields_good {
@@ -187,20 +195,25 @@ pub fn characters(command: &Command) -> Option<Vec<u8>> {
         Command::ReadAccount => framed("R1", "K()"),
         Command::ReadTotal => framed("R1", "E0()"),
         Command::ReadZone(zone) => framed("R1", &format!("E{zone}()")),
-        Command::ReadTable(table) => framed("R1", &format!("Z({table:02})")),
+        Command::ReadTable(_, table) => framed("R1", &format!("Z({table:02})")),
         Command::WriteClock(c) => {
             let date = format!("{:02}-{:02}-{:04}", c.day, c.month, c.year);
             let time = format!("{:02}:{:02}:{:02}", c.hour, c.minute, c.second);
             framed("W1", &format!("T({date};{time})"))
         }
         Command::WriteAccount(account) => framed("W1", &format!("K({})", text(account))),
-        Command::WriteTable(table, row) => framed("W1", &format!("Z({table:02};{})", text(row))),
+        Command::WriteTable(_, table, row) => framed("W1", &format!("Z({table:02};{})", text(row))),
         Command::SignOff => checked(vec![SOH, b'B', b'0', ETX]),
     })
 }
 
 /// Builds a command with parity at the start of `out`: answer and length.
 pub fn build(command: &Command, out: &mut [u8]) -> (u8, usize) {
+    if let Command::ReadTable(edition, _) | Command::WriteTable(edition, ..) = command {
+        if tables_of(*edition).is_none() {
+            return (answer::NO_EDITION, 0);
+        }
+    }
     if out.len() < COMMAND_ROOM {
         return (answer::SHORT_ROOM, 0);
     }
@@ -500,7 +513,8 @@ pub struct Registers {
     pub account: [u8; 10],
     pub clock: Clock,
     pub counters: [u32; 4],
-    pub tables: [[u8; 24]; 24],
+    /// 24 rows, or 25 of edition 2.
+    pub tables: Vec<[u8; 24]>,
     /// The newest first; a block has them only where it was asked for with '6'.
     pub periods: Vec<Period>,
 }
@@ -512,7 +526,8 @@ impl Registers {
         (sum % 1_000_000_000) as u32
     }
 
-    /// The data block's 33 data sets and five more for each period, address and value.
+    /// The data block's 33 data sets, or 34 of edition 2, and five more for each period, address and
+    /// value.
     pub fn data_sets(&self) -> Vec<(String, String)> {
         let text = |characters: &[u8]| String::from_utf8_lossy(characters).into_owned();
         let date = |c: &Clock| format!("{:02}-{:02}-{:02}", c.year - 2000, c.month, c.day);
@@ -606,7 +621,9 @@ mod tests {
                 second: 58,
             },
             counters: [1_500, 999_999_999, 0, 123_456_789],
-            tables: std::array::from_fn(|t| std::array::from_fn(|h| b'1' + ((t + h) % 4) as u8)),
+            tables: (0..24)
+                .map(|t| std::array::from_fn(|h| b'1' + ((t + h) % 4) as u8))
+                .collect(),
             periods: Vec::new(),
         }
     }
@@ -635,7 +652,7 @@ mod tests {
     #[test]
     fn bcc_of_the_all_ones_writes() {
         for (table, sum) in [(1, 0x06), (4, ETX), (6, SOH)] {
-            let command = Command::WriteTable(table, &ALL_ONES);
+            let command = Command::WriteTable(1, table, &ALL_ONES);
             assert_eq!(*characters(&command).unwrap().last().unwrap(), sum);
         }
     }
@@ -645,7 +662,7 @@ mod tests {
         let mut wire = vec![0x81, 0xD7, 0xB1, 0x82, 0x5A, 0x28, 0x30, 0xB1, 0xBB];
         wire.extend([0xB1; 24]);
         wire.extend([0xA9, 0x03, 0x06]);
-        assert_eq!(built(Command::WriteTable(1, &ALL_ONES)), wire);
+        assert_eq!(built(Command::WriteTable(1, 1, &ALL_ONES)), wire);
         assert_eq!(wire.len(), 36);
     }
 
@@ -667,7 +684,8 @@ mod tests {
         assert!(text(Command::ReadAccount).starts_with(b"\x01R1\x02K()\x03"));
         assert!(text(Command::ReadTotal).starts_with(b"\x01R1\x02E0()\x03"));
         assert!(text(Command::ReadZone(4)).starts_with(b"\x01R1\x02E4()\x03"));
-        assert!(text(Command::ReadTable(7)).starts_with(b"\x01R1\x02Z(07)\x03"));
+        assert!(text(Command::ReadTable(1, 7)).starts_with(b"\x01R1\x02Z(07)\x03"));
+        assert!(text(Command::ReadTable(2, 25)).starts_with(b"\x01R1\x02Z(25)\x03"));
         assert!(
             text(Command::WriteAccount(b"Kiln_7 Abc")).starts_with(b"\x01W1\x02K(Kiln_7 Abc)\x03")
         );
@@ -705,12 +723,14 @@ mod tests {
         assert!(refused(Command::Password(b"1234567")));
         assert!(refused(Command::Password(b"1234567a")));
         assert!(refused(Command::ReadZone(0)) && refused(Command::ReadZone(5)));
-        assert!(refused(Command::ReadTable(0)) && refused(Command::ReadTable(25)));
+        assert!(refused(Command::ReadTable(1, 0)) && refused(Command::ReadTable(1, 25)));
+        assert!(refused(Command::ReadTable(2, 0)) && refused(Command::ReadTable(2, 26)));
         assert!(refused(Command::WriteAccount(b"Kiln-7 Abc")));
-        assert!(refused(Command::WriteTable(1, &[b'0'; 24])));
-        assert!(refused(Command::WriteTable(1, &[b'5'; 24])));
-        assert!(refused(Command::WriteTable(1, &[b'1'; 23])));
-        assert!(refused(Command::WriteTable(25, &ALL_ONES)));
+        assert!(refused(Command::WriteTable(1, 1, &[b'0'; 24])));
+        assert!(refused(Command::WriteTable(1, 1, &[b'5'; 24])));
+        assert!(refused(Command::WriteTable(1, 1, &[b'1'; 23])));
+        assert!(refused(Command::WriteTable(1, 25, &ALL_ONES)));
+        assert!(refused(Command::WriteTable(2, 26, &ALL_ONES)));
         for bad in [
             clock(1999, 12, 31),
             clock(2100, 1, 1),
@@ -738,6 +758,13 @@ mod tests {
     #[test]
     fn short_rooms_come_before_bad_fields_and_the_rest_is_kept() {
         let mut out = [0x5A; 80];
+        for edition in [0, 3, 255] {
+            let told = build(&Command::ReadTable(edition, 26), &mut out[..63]);
+            assert_eq!(told, (16, 0));
+            let told = build(&Command::WriteTable(edition, 1, &ALL_ONES), &mut out);
+            assert_eq!(told, (16, 0));
+        }
+        assert_eq!(build(&Command::ReadTable(2, 26), &mut out[..63]), (19, 0));
         assert_eq!(build(&Command::ReadZone(9), &mut out[..63]), (19, 0));
         assert_eq!(build(&Command::ReadZone(9), &mut out[..64]), (9, 0));
         assert_eq!(out, [0x5A; 80]);

@@ -33,7 +33,9 @@ impl Bench {
         }
         let words: Vec<&[u8]> = line.split(|&byte| byte == b' ').collect();
         match words[..] {
-            [b"session", start, access, ref work @ ..] => self.start(start, access, work),
+            [b"session", edition, start, access, ref work @ ..] => {
+                self.start(decimal(edition)?, start, access, work)
+            }
             [b"reply", reply] => {
                 let (reply, mut out) = (hex(reply)?, [FILLING; head::COMMAND_ROOM]);
                 let (session, work) = self.session.as_mut()?;
@@ -49,7 +51,13 @@ impl Bench {
     }
 
     /// A session started; one that is refused leaves none.
-    fn start(&mut self, start: &[u8], access: &[u8], given: &[&[u8]]) -> Option<String> {
+    fn start(
+        &mut self,
+        edition: u8,
+        start: &[u8],
+        access: &[u8],
+        given: &[&[u8]],
+    ) -> Option<String> {
         let field = |word: &[u8], without: &[u8]| match word == without {
             true => Some((0, Vec::new())),
             false => Some((1, hex(word)?)),
@@ -65,6 +73,7 @@ impl Bench {
             _ => return None,
         };
         let told = Told {
+            edition,
             named,
             serial: &serial,
             access,
@@ -113,19 +122,19 @@ fn call(words: &[&[u8]]) -> Option<String> {
     match words[..] {
         [b"build", name, room, ref fields @ ..] => build(name, room, fields),
         [b"value", kind, value] => value_of(kind, value),
-        [b"check", text] => {
-            let (number, place) = post::check(&hex(text)?);
+        [b"check", edition, text] => {
+            let (number, place) = post::check(decimal(edition)?, &hex(text)?);
             Some(format!("{number} {place}"))
         }
-        [b"export", room, text] => {
+        [b"export", edition, room, text] => {
             let (text, mut out) = (hex(text)?, lent(room)?);
-            let (number, length, place) = post::export(&text, &mut out);
+            let (number, length, place) = post::export(decimal(edition)?, &text, &mut out);
             let beside = if number == post::DONE { length } else { place };
             Some(written(number, beside, length, &out))
         }
-        [b"card", room, text] => {
+        [b"card", edition, room, text] => {
             let (text, mut out) = (hex(text)?, lent(room)?);
-            let (number, length, place) = card::export(&text, &mut out);
+            let (number, length, place) = card::export(decimal(edition)?, &text, &mut out);
             let beside = if number == card::DONE { length } else { place };
             Some(written(number, beside, length, &out))
         }
@@ -195,7 +204,7 @@ fn build(name: &[u8], room: &[u8], fields: &[&[u8]]) -> Option<String> {
     let mut out = lent(room)?;
     let text = match (name, fields) {
         (b"serial" | b"wired" | b"password" | b"setaccount", [field]) => hex(field)?,
-        (b"settable", [_, row]) => hex(row)?,
+        (b"settable", [_, _, row]) => hex(row)?,
         _ => Vec::new(),
     };
     let command = match (name, fields) {
@@ -216,7 +225,7 @@ fn build(name: &[u8], room: &[u8], fields: &[&[u8]]) -> Option<String> {
             0 => Command::ReadTotal,
             zone => Command::ReadZone(zone),
         },
-        (b"table", [table]) => Command::ReadTable(decimal(table)?),
+        (b"table", [edition, table]) => Command::ReadTable(decimal(edition)?, decimal(table)?),
         (b"setclock", [year, month, day, hour, minute, second]) => Command::WriteClock(Clock {
             year: decimal(year)?,
             month: decimal(month)?,
@@ -226,7 +235,9 @@ fn build(name: &[u8], room: &[u8], fields: &[&[u8]]) -> Option<String> {
             second: decimal(second)?,
         }),
         (b"setaccount", [_]) => Command::WriteAccount(&text),
-        (b"settable", [table, _]) => Command::WriteTable(decimal(table)?, &text),
+        (b"settable", [edition, table, _]) => {
+            Command::WriteTable(decimal(edition)?, decimal(table)?, &text)
+        }
         (b"break", []) => Command::SignOff,
         _ => return None,
     };
@@ -316,14 +327,34 @@ mod tests {
             ("build serial 64 -", "9 0 -"),
             ("build serial 0 -", "19 0 -"),
             (
-                &format!("build settable 64 1 {ones}"),
+                &format!("build settable 64 1 1 {ones}"),
                 &format!("1 36 {frame}"),
             ),
-            (&format!("check {line}210d0a"), "1 0"),
-            (&format!("check {line}"), "20 36"),
-            (&format!("export 36 {line}210d0a"), &format!("1 36 {frame}")),
-            (&format!("export 35 {line}210d0a"), "21 0 -"),
-            ("export 0 31", "20 1 -"),
+            (&format!("build settable 64 1 25 {ones}"), "9 0 -"),
+            (&format!("build settable 64 1 {ones}"), "error"),
+            ("build settable 63 2 25 -", "19 0 -"),
+            ("build settable 63 3 25 -", "16 0 -"),
+            ("build table 64 1 24", "1 11 81d2b1825a28b2b4a9033f"),
+            ("build table 64 2 25", "1 11 81d2b1825a28b235a903be"),
+            ("build table 64 1 25", "9 0 -"),
+            ("build table 64 2 26", "9 0 -"),
+            ("build table 63 0 26", "16 0 -"),
+            ("build table 64 256 1", "error"),
+            ("build table 64 1", "error"),
+            (&format!("check 1 {line}210d0a"), "1 0"),
+            (&format!("check 2 {line}"), "20 36"),
+            (&format!("check 0 {line}"), "16 0"),
+            (&format!("check {line}"), "error"),
+            (
+                &format!("export 1 36 {line}210d0a"),
+                &format!("1 36 {frame}"),
+            ),
+            (&format!("export 2 35 {line}210d0a"), "21 0 -"),
+            ("export 1 0 31", "20 1 -"),
+            ("export 255 0 31", "16 0 -"),
+            ("export 256 0 31", "error"),
+            ("card 2 0 01000b", "40 2 -"),
+            ("card 3 0 01000b", "16 0 -"),
             ("strip 3 8182aa", "1 3 01022a 0"),
             ("strip 2 8182aa", "26 0 - 0"),
             ("strip 2 01", "24 0 - 0"),
@@ -410,23 +441,23 @@ mod tests {
         played(&[
             ("quiet", "error"),
             ("reply 06", "error"),
-            ("session any open reads L", "1 0 af3f218d0a"),
+            ("session 1 any open reads L", "1 0 af3f218d0a"),
             (IDENTIFIED, "next 2 063035b18d0a"),
-            ("session any open reads X", "error"),
+            ("session 1 any open reads X", "error"),
             (ASKED, "next 3 8150b18228a903e1"),
             ("reply 06", "next 4 81d2b182cc28a903af"),
             ("reply 06", "wrong 4 -"),
             ("reply 95", "wrong 4 -"),
             ("quiet", "wrong 4 -"),
             (
-                &format!("session {} open reads Z24 E0", &serial[..20]),
+                &format!("session 1 {} open reads Z24 E0", &serial[..20]),
                 "1 0 af3fb1b233a0b43536b7b83930218d0a",
             ),
             ("reply 95", "nak 1 -"),
-            ("session any open reads Z24 E0", "1 0 af3f218d0a"),
+            ("session 1 any open reads Z24 E0", "1 0 af3f218d0a"),
             ("quiet", "silence 1 -"),
             ("reply 06", "silence 1 -"),
-            ("session any open reads", "28 0 -"),
+            ("session 1 any open reads", "28 0 -"),
             ("quiet", "error"),
         ]);
     }
@@ -437,7 +468,7 @@ mod tests {
         let frame = format!("81d7b1825a2830b1bb{}a90306", "b1".repeat(24));
         played(&[
             (
-                &format!("session any 3230333034303530 post {line}210d0a"),
+                &format!("session 1 any 3230333034303530 post {line}210d0a"),
                 "1 0 af3f218d0a",
             ),
             (IDENTIFIED, "next 2 063035b18d0a"),
@@ -454,25 +485,31 @@ mod tests {
     fn sessions_refused() {
         let many = " T".repeat(33);
         for (asked, told) in [
-            (&format!("session any open reads{many}")[..], "29 0 -"),
-            (&format!("session - open reads{}", &many[2..]), "9 0 -"),
-            ("session any open post 31333132", "20 3 -"),
-            ("session any open post -", "20 0 -"),
-            ("session any open reads E5", "9 0 -"),
-            ("session any open reads Z0", "9 0 -"),
-            ("session any open reads E255", "9 0 -"),
-            ("session any open reads E256", "error"),
-            ("session any open reads E", "error"),
-            ("session any open reads T0", "error"),
-            ("session any open reads G1", "error"),
-            ("session any open reads t", "error"),
-            ("session any - reads T", "9 0 -"),
-            ("session any open post", "error"),
-            ("session any open post - -", "error"),
-            ("session any open", "error"),
-            ("session any open T", "error"),
-            ("session 1 open reads T", "error"),
-            ("session any open reads ", "error"),
+            (&format!("session 1 any open reads{many}")[..], "29 0 -"),
+            (&format!("session 1 - open reads{}", &many[2..]), "9 0 -"),
+            ("session 1 any open post 31333132", "20 3 -"),
+            ("session 1 any open post -", "20 0 -"),
+            ("session 1 any open reads E5", "9 0 -"),
+            ("session 1 any open reads Z0", "9 0 -"),
+            ("session 1 any open reads E255", "9 0 -"),
+            ("session 1 any open reads E256", "error"),
+            ("session 1 any open reads E", "error"),
+            ("session 1 any open reads T0", "error"),
+            ("session 1 any open reads G1", "error"),
+            ("session 1 any open reads t", "error"),
+            ("session 1 any - reads T", "9 0 -"),
+            ("session 1 any open post", "error"),
+            ("session 1 any open post - -", "error"),
+            ("session 1 any open", "error"),
+            ("session 1 any open T", "error"),
+            ("session 1 1 open reads T", "error"),
+            ("session any open reads T", "error"),
+            ("session 2 any open reads Z25", "1 0 af3f218d0a"),
+            ("session 1 any open reads Z25", "9 0 -"),
+            ("session 2 any open reads Z26", "9 0 -"),
+            ("session 3 any open reads", "16 0 -"),
+            ("session 256 any open reads T", "error"),
+            ("session 1 any open reads ", "error"),
             ("quiet 1", "error"),
             ("reply", "error"),
         ] {

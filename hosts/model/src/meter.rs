@@ -1,6 +1,8 @@
 //! The meter of document 01, written plainly: state, receiver, decisions, replies and the other
 //! events, in the page's order. Parity and checksum are its own, so that nothing is shared.
 
+use crate::post::tables_of;
+
 pub const SOH: u8 = 0x01;
 pub const STX: u8 = 0x02;
 pub const ETX: u8 = 0x03;
@@ -19,8 +21,13 @@ pub const PULSE_MOST: u32 = 1_000_000;
 pub const COUNTER_END: u32 = 1_000_000_000;
 /// The number of a slice that is no frame.
 pub const NO_FRAME: u8 = 17;
-/// Characters of the data block.
+/// Characters of the data block of edition 1; a table more adds a line.
 pub const BLOCK: usize = 1_063;
+const TABLE_LINE: usize = 36;
+/// The number of an edition that there is not.
+pub const NO_EDITION: u8 = 16;
+/// Rows that there is room for.
+pub const ROWS: usize = 25;
 /// The most closed periods that are kept.
 pub const PERIODS: usize = 12;
 /// Characters that a closed period adds to the block.
@@ -36,7 +43,6 @@ pub const PROGRAMMING: u8 = 4;
 pub const OPTICAL: u8 = 1;
 pub const WIRED: u8 = 2;
 
-const IDENTIFICATION: &[u8] = b"/ZZZ5SUB-VP01.00*\r\n";
 const SIGN_ON: &[u8] = b"/?!\r\n";
 const CLOSING_SIGN_ON: &[u8] = b"/C!\r\n";
 const ZERO_SIGN_ON: &[u8] = b"/?000 0000000!\r\n";
@@ -83,13 +89,16 @@ pub struct Meter {
     pub counters: [u32; 4],
     /// The four added up, as it is kept.
     pub total: u32,
-    pub tables: [[u8; 24]; 24],
+    /// The 25th is of edition 2; of edition 1 it holds zeros.
+    pub tables: [[u8; 24]; ROWS],
     /// How many periods are kept.
     pub closed: u8,
     /// The newest first; unused places are all 0.
     pub periods: [Period; PERIODS],
     /// Which link it has, for life.
     pub link: u8,
+    /// Which edition it is, for life.
+    pub edition: u8,
 }
 
 /// What a call gives back beside the state and the buffer.
@@ -166,14 +175,6 @@ fn number(digits: &[u8]) -> Option<u16> {
     })
 }
 
-/// The table, counted from 0, that two digits name.
-fn table_named(digits: &[u8]) -> Option<usize> {
-    match number(digits)? {
-        xx @ 1..=24 => Some(usize::from(xx) - 1),
-        _ => None,
-    }
-}
-
 fn text(characters: &[u8]) -> String {
     characters
         .iter()
@@ -244,9 +245,12 @@ impl Clock {
         days
     }
 
-    /// Saturday or Sunday.
-    pub fn weekend(&self) -> bool {
-        self.days() % 7 < 2
+    pub fn saturday(&self) -> bool {
+        self.days() % 7 == 0
+    }
+
+    pub fn sunday(&self) -> bool {
+        self.days() % 7 == 1
     }
 }
 
@@ -312,10 +316,11 @@ impl Meter {
             clock: Clock::FIRST,
             counters: [0; 4],
             total: 0,
-            tables: [[b'1'; 24]; 24],
+            tables: rows(24),
             closed: 0,
             periods: [Period::default(); PERIODS],
             link: OPTICAL,
+            edition: 1,
         }
     }
 
@@ -335,15 +340,35 @@ impl Meter {
             password,
             clock,
             link,
+            edition,
             ..Meter::blank()
         };
+        let Some(tables) = tables_of(edition) else {
+            return (NO_EDITION, Meter::blank());
+        };
+        meter.tables = rows(tables.into());
         meter.enter(LISTENING);
-        match (edition, decimals) {
-            (1, 0) if meter.facts_good() => (1, meter),
-            (1, 0) => (15, Meter::blank()),
-            (1, _) => (18, Meter::blank()),
-            _ => (16, Meter::blank()),
+        match decimals {
+            0 if meter.facts_good() => (1, meter),
+            0 => (15, Meter::blank()),
+            _ => (18, Meter::blank()),
         }
+    }
+
+    /// Whether it is of an edition that there is.
+    pub fn has_edition(&self) -> bool {
+        tables_of(self.edition).is_some()
+    }
+
+    /// How many tables it has.
+    fn table_count(&self) -> usize {
+        tables_of(self.edition).map_or(0, usize::from)
+    }
+
+    /// The table, counted from 0, that two digits name.
+    fn table_named(&self, digits: &[u8]) -> Option<usize> {
+        let xx = usize::from(number(digits)?);
+        (1..=self.table_count()).contains(&xx).then(|| xx - 1)
     }
 
     /// The speed outside a session: the wired link has one speed for everything.
@@ -396,12 +421,16 @@ impl Meter {
             && (self.speed == self.rest() || self.speed == 5 && self.mode > CONFIRMATION)
             && self.counters.iter().all(|&counter| counter < COUNTER_END)
             && self.total == total_of(&self.counters)
-            && self
-                .tables
-                .iter()
-                .flatten()
-                .all(|&zone| zone_character(zone))
+            && self.tables_good()
             && self.archive_good()
+    }
+
+    /// The edition's rows name zones, and the room behind them holds zeros.
+    fn tables_good(&self) -> bool {
+        let (rows, unused) = self.tables.split_at(self.table_count());
+        self.has_edition()
+            && rows.iter().flatten().all(|&zone| zone_character(zone))
+            && unused.iter().flatten().all(|&place| place == 0)
     }
 
     fn archive_good(&self) -> bool {
@@ -480,6 +509,9 @@ impl Meter {
 
     /// A received character.
     pub fn character(&mut self, byte: u8, buffer: &mut [u8]) -> Answer {
+        if !self.has_edition() {
+            return Answer::turned_away(NO_EDITION);
+        }
         if buffer.len() < ROOM {
             return Answer::turned_away(12);
         }
@@ -498,6 +530,9 @@ impl Meter {
     /// A frame that comes whole: the character call at its last byte, if a frame is finished there and
     /// all bytes before it are answered 0.
     pub fn frame(&mut self, frame: &[u8], buffer: &mut [u8]) -> Answer {
+        if !self.has_edition() {
+            return Answer::turned_away(NO_EDITION);
+        }
         if buffer.len() < ROOM {
             return Answer::turned_away(12);
         }
@@ -572,7 +607,7 @@ impl Meter {
                 self.enter(CONFIRMATION);
                 let answer = match self.link {
                     WIRED => wired('g', &self.serial),
-                    _ => IDENTIFICATION.to_vec(),
+                    _ => format!("/ZZZ5SUB-VP0{}.00*\r\n", self.edition).into_bytes(),
                 };
                 return Step::reply(1, self.rest(), &answer);
             }
@@ -722,7 +757,7 @@ impl Meter {
             b"K()" => self.account_line(),
             [b'E', n @ b'0'..=b'4', b'(', b')'] => self.energy_line(n - b'0'),
             [b'Z', b'(', xx @ .., b')'] if xx.len() == 2 => {
-                self.table_line(table_named(xx).ok_or(9)?)
+                self.table_line(self.table_named(xx).ok_or(9)?)
             }
             _ => return Err(9),
         };
@@ -740,7 +775,7 @@ impl Meter {
                 self.account = account;
             }
             [b'Z', b'(', tens, units, b';', row @ .., b')'] => {
-                let table = table_named(&[*tens, *units]).ok_or(9)?;
+                let table = self.table_named(&[*tens, *units]).ok_or(9)?;
                 let row: [u8; 24] = row.try_into().map_err(|_| 9)?;
                 if !row.iter().all(|&c| zone_character(c)) {
                     return Err(9);
@@ -815,6 +850,11 @@ impl Meter {
         format!("131.0.{:02}({})\r\n", table + 1, text(&self.tables[table]))
     }
 
+    /// Characters of the data block.
+    pub fn block_length(&self) -> usize {
+        BLOCK + TABLE_LINE * (self.table_count() - 24)
+    }
+
     /// The data block, BCC included.
     pub fn data_block(&self) -> Vec<u8> {
         block(&(self.register_lines() + "!\r\n"))
@@ -838,7 +878,7 @@ impl Meter {
         for zone in [1, 2, 3, 4, 0] {
             lines += &self.energy_line(zone);
         }
-        for table in 0..24 {
+        for table in 0..self.table_count() {
             lines += &self.table_line(table);
         }
         lines
@@ -846,6 +886,9 @@ impl Meter {
 
     /// Eight seconds of silence.
     pub fn silence(&mut self, buffer: &mut [u8]) -> Answer {
+        if !self.has_edition() {
+            return Answer::turned_away(NO_EDITION);
+        }
         if buffer.len() < ROOM {
             return Answer::turned_away(12);
         }
@@ -863,6 +906,9 @@ impl Meter {
 
     /// One second of the clock; the one that reaches a first of the month closes a period.
     pub fn tick(&mut self) -> Answer {
+        if !self.has_edition() {
+            return Answer::turned_away(NO_EDITION);
+        }
         if !self.well_formed() {
             return Answer::turned_away(14);
         }
@@ -887,6 +933,9 @@ impl Meter {
 
     /// The power comes back.
     pub fn power_up(&mut self) -> Answer {
+        if !self.has_edition() {
+            return Answer::turned_away(NO_EDITION);
+        }
         if !self.well_formed() {
             return Answer::turned_away(14);
         }
@@ -902,6 +951,9 @@ impl Meter {
 
     /// Energy used, counted in the zone that the clock and the tables name.
     pub fn pulse(&mut self, wh: u32) -> Answer {
+        if !self.has_edition() {
+            return Answer::turned_away(NO_EDITION);
+        }
         if wh > PULSE_MOST {
             return Answer::turned_away(13);
         }
@@ -909,10 +961,11 @@ impl Meter {
             return Answer::turned_away(14);
         }
         let month = usize::from(self.clock.month);
-        let table = if self.clock.weekend() {
-            12 + month
-        } else {
-            month
+        let (saturday, sunday) = (self.clock.saturday(), self.clock.sunday());
+        let table = match self.edition {
+            2 if saturday => 25,
+            _ if saturday || sunday => 12 + month,
+            _ => month,
         };
         let zone = self.tables[table - 1][usize::from(self.clock.hour)] - b'1';
         let counter = &mut self.counters[usize::from(zone)];
@@ -925,6 +978,13 @@ impl Meter {
             place: 0,
         }
     }
+}
+
+/// A new meter's rows: so many with the first zone all day.
+fn rows(count: usize) -> [[u8; 24]; ROWS] {
+    let mut rows = [[0; 24]; ROWS];
+    rows[..count].fill([b'1'; 24]);
+    rows
 }
 
 /// What the total of these counters is.

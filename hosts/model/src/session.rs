@@ -17,6 +17,7 @@ pub const BESIDE: u8 = 4;
 pub mod answer {
     pub const DONE: u8 = 1;
     pub const FIELD: u8 = 9;
+    pub const NO_EDITION: u8 = 16;
     pub const SHORT_ROOM: u8 = 19;
     pub const NO_POST: u8 = 20;
     pub const NO_READS: u8 = 28;
@@ -51,11 +52,13 @@ pub struct Session {
     pub count: u8,
     pub sent: u8,
     pub fact: u8,
+    pub edition: u8,
 }
 
 /// What a session is told at its start.
 #[derive(Clone, Copy, Debug)]
 pub struct Told<'a> {
+    pub edition: u8,
     pub named: u8,
     pub serial: &'a [u8],
     pub access: u8,
@@ -83,14 +86,14 @@ pub struct Heard {
 
 /// The command of one read, by its letter and number; nothing for a letter that asks for nothing.
 /// Whether the number is one that the command takes is the command's own rule.
-pub fn asked(letter: u8, number: u8) -> Option<Command<'static>> {
+pub fn asked(edition: u8, letter: u8, number: u8) -> Option<Command<'static>> {
     match (letter, number) {
         (b'T', _) => Some(Command::ReadClock),
         (b'L', _) => Some(Command::ReadSerial),
         (b'K', _) => Some(Command::ReadAccount),
         (b'E', 0) => Some(Command::ReadTotal),
         (b'E', zone) => Some(Command::ReadZone(zone)),
-        (b'Z', table) => Some(Command::ReadTable(table)),
+        (b'Z', table) => Some(Command::ReadTable(edition, table)),
         _ => None,
     }
 }
@@ -102,20 +105,21 @@ fn read_at(given: &[u8], place: usize) -> [u8; READ] {
 }
 
 /// The message of a place of some work; nothing where it can't be built.
-fn work_message(kind: u8, given: &[u8], place: usize) -> Option<Vec<u8>> {
+fn work_message(edition: u8, kind: u8, given: &[u8], place: usize) -> Option<Vec<u8>> {
     let wire = |command: Command| Some(line::wires(&head::characters(&command)?));
     match kind {
         work::READS => {
             let [letter, number] = read_at(given, place);
-            wire(asked(letter, number)?)
+            wire(asked(edition, letter, number)?)
         }
         work::POST => {
             // A line is one that makes a post alone.
             let line = given.chunks(post::LINE).nth(place)?;
-            let [table] = post::read(&[line, post::LAST].concat())?[..] else {
+            let highest = post::tables_of(edition)?;
+            let [table] = post::read(highest, &[line, post::LAST].concat())?[..] else {
                 return None;
             };
-            wire(Command::WriteTable(table.number, &table.row))
+            wire(Command::WriteTable(edition, table.number, &table.row))
         }
         _ => None,
     }
@@ -154,6 +158,7 @@ fn enter(access: u8, password: &[u8]) -> Option<Vec<u8>> {
 /// The number of the refusal and the place, or the messages that can be told before any reply.
 fn looked_at(told: &Told, room: usize) -> Result<Vec<Vec<u8>>, (u8, usize)> {
     let (reads, post) = (told.kind == work::READS, told.kind == work::POST);
+    let highest = post::tables_of(told.edition).ok_or((answer::NO_EDITION, 0))?;
     if room < head::COMMAND_ROOM {
         return Err((answer::SHORT_ROOM, 0));
     }
@@ -163,8 +168,8 @@ fn looked_at(told: &Told, room: usize) -> Result<Vec<Vec<u8>>, (u8, usize)> {
     if reads && told.work.len() > READ * READS_MOST {
         return Err((answer::MANY_READS, 0));
     }
-    if post && post::read(told.work).is_none() {
-        return Err((answer::NO_POST, post::place(told.work)));
+    if post && post::read(highest, told.work).is_none() {
+        return Err((answer::NO_POST, post::place(highest, told.work)));
     }
     if post && told.access == 0 {
         return Err((answer::READ_ONLY, 0));
@@ -179,7 +184,7 @@ fn messages(told: &Told) -> Option<Vec<Vec<u8>>> {
         enter(told.access, told.password)?,
     ];
     for place in 0..count_of(told.kind, told.work)? {
-        messages.push(work_message(told.kind, told.work, place)?);
+        messages.push(work_message(told.edition, told.kind, told.work, place)?);
     }
     Some(messages)
 }
@@ -203,6 +208,7 @@ pub fn start(session: &mut Session, told: &Told, out: &mut [u8]) -> Started {
     if told.access == 1 {
         session.password.copy_from_slice(told.password);
     }
+    session.edition = told.edition;
     session.named = told.named;
     session.access = told.access;
     session.work = told.kind;
@@ -232,9 +238,12 @@ impl Session {
             1 => digits(field),
             _ => false,
         };
+        let Some(highest) = post::tables_of(self.edition) else {
+            return false;
+        };
         let counted = match self.work {
             work::READS => 1..=READS_MOST as u8,
-            work::POST => 1..=post::TABLES,
+            work::POST => 1..=highest,
             _ => return false,
         };
         told(self.named, &self.serial)
@@ -254,22 +263,25 @@ impl Session {
             2 => wire(Command::Confirm(b'5', b'1')),
             3 => enter(self.access, &self.password),
             _ if number == self.last() => wire(Command::SignOff),
-            _ => work_message(self.work, given, usize::from(number - BESIDE)),
+            _ => {
+                let place = usize::from(number - BESIDE);
+                work_message(self.edition, self.work, given, place)
+            }
         }
     }
 
     /// Whether a reply is the right one to the message sent last.
     fn right(&self, given: &[u8], reply: &[u8]) -> bool {
-        let identification = b"/ZZZ5SUB-VP01.00*\r\n";
+        let identification = format!("/ZZZ5SUB-VP0{}.00*\r\n", self.edition);
         let ask = [&[SOH], &b"P0"[..], &[STX], b"(0000)", &[ETX]].concat();
         match self.sent {
-            1 => reply == line::wires(identification),
+            1 => reply == line::wires(identification.as_bytes()),
             2 => reply == line::wires(&line::with_bcc(&ask)),
             3 => reply == [ACK],
             sent if sent == self.last() || self.work == work::POST => reply == [ACK],
             sent => {
                 let [letter, number] = read_at(given, usize::from(sent - BESIDE));
-                tells(letter, number, reply)
+                tells(self.edition, letter, number, reply)
             }
         }
     }
@@ -337,7 +349,7 @@ impl Session {
 }
 
 /// Whether a reply is a block with just the lines that a read asks for, in their form.
-pub fn tells(letter: u8, number: u8, reply: &[u8]) -> bool {
+pub fn tells(edition: u8, letter: u8, number: u8, reply: &[u8]) -> bool {
     let mut stripped = vec![0; reply.len()];
     if head::strip(reply, &mut stripped).0 != head::answer::DONE {
         return false;
@@ -358,7 +370,7 @@ pub fn tells(letter: u8, number: u8, reply: &[u8]) -> bool {
         b'K' => line_of(data, "0.0.0").is_some_and(|value| head::value_account(value).is_some()),
         b'E' if number <= 4 => line_of(data, &format!("15.8.{shown}"))
             .is_some_and(|value| head::value_counter(value).is_some()),
-        b'Z' if (1..=post::TABLES).contains(&number) => {
+        b'Z' if post::tables_of(edition).is_some_and(|highest| (1..=highest).contains(&number)) => {
             line_of(data, &format!("131.0.{shown:0>2}"))
                 .is_some_and(|value| head::value_row(value).is_some())
         }

@@ -79,14 +79,15 @@ impl Chance {
         self.registers_closed(count)
     }
 
-    /// Registers with so many closed periods.
+    /// Registers of either edition with so many closed periods.
     pub fn registers_closed(&mut self, count: usize) -> Registers {
+        let rows = self.one_of(&[24, 25]);
         Registers {
             serial: self.texts(DIGITS),
             account: self.texts(ACCOUNT),
             clock: self.real_clock(),
             counters: std::array::from_fn(|_| self.counter()),
-            tables: std::array::from_fn(|_| self.texts(ZONES)),
+            tables: (0..rows).map(|_| self.texts(ZONES)).collect(),
             periods: (0..count).map(|_| self.period()).collect(),
         }
     }

@@ -29,6 +29,7 @@ pub enum Mistake {
     SaysRefusedBytes,
     WritesTwice,
     KeepsOnTheWire,
+    TakesTable25,
 }
 
 /// What was told so far, and how matters stand: mode, failed passwords, and the bytes said since
@@ -152,9 +153,10 @@ impl History {
         if self.mode == 2 {
             return self.entered(frame);
         }
-        let mut taken = asks(frame);
+        let highest = self.highest();
+        let mut taken = asks(frame, highest);
         if self.mode == 4 || self.mistake == Mistake::TakesInReadOnly {
-            if let Some(write) = write_in(frame, self.mistake) {
+            if let Some(write) = write_in(frame, highest, self.mistake) {
                 self.write(write);
                 taken = true;
             }
@@ -172,6 +174,14 @@ impl History {
     fn refused(&mut self) {
         let ends = self.mode == 2 || (self.wired() && self.mistake != Mistake::KeepsOnTheWire);
         self.anew(if ends { 0 } else { self.mode });
+    }
+
+    /// The tables that it has.
+    fn highest(&self) -> usize {
+        match self.book.edition == 2 || self.mistake == Mistake::TakesTable25 {
+            true => 25,
+            false => 24,
+        }
     }
 
     fn wired(&self) -> bool {
@@ -235,16 +245,16 @@ fn characters(bytes: &[u8]) -> Vec<u8> {
 }
 
 /// A question that may be asked.
-fn asks(frame: &[u8]) -> bool {
+fn asks(frame: &[u8], highest: usize) -> bool {
     let registers = ["T()", "L()", "K()"].map(String::from).into_iter();
     let energies = (0..5).map(|zone| format!("E{zone}()"));
-    let tables = (1..=24).map(|table| format!("Z({table:02})"));
+    let tables = (1..=highest).map(|table| format!("Z({table:02})"));
     let mut all = registers.chain(energies).chain(tables);
     all.any(|data| says(frame, &read(data.as_bytes())))
 }
 
 /// The write that a whole frame tells: it is, byte by byte, the frame of that write.
-fn write_in(frame: &[u8], mistake: Mistake) -> Option<Write> {
+fn write_in(frame: &[u8], highest: usize, mistake: Mistake) -> Option<Write> {
     let text = characters(frame);
     let is = |data: &[u8]| {
         let built = wires(&write(data));
@@ -269,7 +279,8 @@ fn write_in(frame: &[u8], mistake: Mistake) -> Option<Write> {
     }
     let table = number(text.get(6..8)?)? as usize;
     let row: [u8; 24] = text.get(9..33)?.try_into().ok()?;
-    let good = (1..=24).contains(&table) && row.iter().all(|zone| (b'1'..=b'4').contains(zone));
+    let good =
+        (1..=highest).contains(&table) && row.iter().all(|zone| (b'1'..=b'4').contains(zone));
     (good && is(&table_data(table, &row))).then_some(Write::Row(table, row))
 }
 

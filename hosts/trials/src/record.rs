@@ -50,6 +50,7 @@ pub fn record_of(meter: &model::meter::Meter) -> Meter {
                 serial: meter.serial,
                 password: meter.password,
                 kind: Kind {
+                    edition: meter.edition,
                     link: meter.link,
                     ..Kind::default()
                 },

@@ -3,16 +3,17 @@
 use crate::chance::Chance;
 use crate::head_words::ZONES;
 use model::head::{block, line, on_the_wire, Registers};
-use model::post::{text_of, Table};
+use model::post::{tables_of, text_of, Table};
 use model::session::{work, Session};
 
-/// A good read.
-pub fn read(chance: &mut Chance) -> [u8; 2] {
+/// A good read of a meter of an edition.
+pub fn read(chance: &mut Chance, edition: u8) -> [u8; 2] {
     match chance.weighed(&[2, 2, 2, 4, 6]) {
         0 => [b'T', without_use(chance)],
         1 => [b'L', without_use(chance)],
         2 => [b'K', without_use(chance)],
         3 => [b'E', chance.between(0, 4) as u8],
+        _ if edition == 2 && chance.one_in(8) => [b'Z', 25],
         _ => [b'Z', chance.between(1, 24) as u8],
     }
 }
@@ -26,13 +27,13 @@ fn without_use(chance: &mut Chance) -> u8 {
 }
 
 /// So many good reads.
-pub fn reads(chance: &mut Chance, count: usize) -> Vec<u8> {
-    (0..count).flat_map(|_| read(chance)).collect()
+pub fn reads(chance: &mut Chance, edition: u8, count: usize) -> Vec<u8> {
+    (0..count).flat_map(|_| read(chance, edition)).collect()
 }
 
-/// A post of so many lines.
-pub fn post(chance: &mut Chance, count: usize) -> Vec<u8> {
-    let mut numbers: Vec<u8> = (1..=24).collect();
+/// A post of so many lines, with tables up to the highest.
+pub fn post(chance: &mut Chance, highest: u8, count: usize) -> Vec<u8> {
+    let mut numbers: Vec<u8> = (1..=highest).collect();
     while numbers.len() > count {
         numbers.remove(chance.below(numbers.len()));
     }
@@ -77,8 +78,8 @@ fn lines(registers: &Registers, [letter, number]: [u8; 2]) -> Vec<u8> {
         .collect()
 }
 
-pub fn identification() -> Vec<u8> {
-    on_the_wire(b"/ZZZ5SUB-VP01.00*\r\n")
+pub fn identification(edition: u8) -> Vec<u8> {
+    on_the_wire(format!("/ZZZ5SUB-VP0{edition}.00*\r\n").as_bytes())
 }
 
 pub fn password_ask() -> Vec<u8> {
@@ -90,23 +91,30 @@ pub fn password_ask() -> Vec<u8> {
 /// A right reply to the message that the session sent last.
 pub fn right(chance: &mut Chance, session: &Session, given: &[u8]) -> Vec<u8> {
     match session.sent {
-        1 => identification(),
+        1 => identification(session.edition),
         2 => password_ask(),
         sent if sent == 3 || sent == session.last() || session.work == work::POST => vec![0x06],
         sent => match given.chunks(2).nth(usize::from(sent) - 4) {
-            Some(&[letter, number]) if asks(letter, number) => {
-                on_the_wire(&block(&lines(&chance.registers(), [letter, number])))
+            Some(&[letter, number]) if asks(session.edition, letter, number) => {
+                on_the_wire(&block(&lines(&registers(chance), [letter, number])))
             }
             _ => vec![0x06],
         },
     }
 }
 
-fn asks(letter: u8, number: u8) -> bool {
+/// Registers with a row for every table that can be asked for.
+fn registers(chance: &mut Chance) -> Registers {
+    let mut registers = chance.registers();
+    registers.tables.resize_with(25, || chance.texts(ZONES));
+    registers
+}
+
+fn asks(edition: u8, letter: u8, number: u8) -> bool {
     match letter {
         b'T' | b'L' | b'K' => true,
         b'E' => number <= 4,
-        b'Z' => (1..=24).contains(&number),
+        b'Z' => tables_of(edition).is_some_and(|highest| (1..=highest).contains(&number)),
         _ => false,
     }
 }
@@ -117,21 +125,21 @@ fn near(chance: &mut Chance, session: &Session, given: &[u8]) -> Vec<u8> {
         .chunks(2)
         .nth(usize::from(session.sent).saturating_sub(4));
     let read = match asked {
-        Some(&[letter, number]) if asks(letter, number) => [letter, number],
-        _ => read(chance),
+        Some(&[letter, number]) if asks(session.edition, letter, number) => [letter, number],
+        _ => read(chance, session.edition),
     };
-    let mut data = lines(&chance.registers(), read);
+    let mut data = lines(&registers(chance), read);
     match chance.below(8) {
         0 => data.extend(b"!\r\n"),
         1 => data = [&data[..], &data].concat(),
         2 if read[0] == b'T' => data.rotate_left(17),
         3 => {
-            let other = self::read(chance);
-            data.extend(lines(&chance.registers(), other));
+            let other = self::read(chance, 2);
+            data.extend(lines(&registers(chance), other));
         }
         4 => {
-            let other = self::read(chance);
-            data = lines(&chance.registers(), other);
+            let other = self::read(chance, 2);
+            data = lines(&registers(chance), other);
         }
         5 => {
             // Another number, month, hour or zone: a digit changed.
@@ -155,7 +163,7 @@ pub fn other(chance: &mut Chance, session: &Session, given: &[u8]) -> Vec<u8> {
         1 => vec![0x06],
         2 => vec![0x15],
         3 => vec![0x86],
-        4 => identification(),
+        4 => identification(chance.one_of(&[1, 2])),
         5 => password_ask(),
         6 => Vec::new(),
         7 => near(chance, session, given),
@@ -172,7 +180,9 @@ pub fn other(chance: &mut Chance, session: &Session, given: &[u8]) -> Vec<u8> {
             reply
         }
         _ => on_the_wire(chance.pick::<[u8]>(&[
-            b"/ZZZ5SUB-VP02.00*\r\n",
+            b"/ZZZ5SUB-VP03.00*\r\n",
+            b"/ZZZ5SUB-VP00.00*\r\n",
+            b"/ZZZ5SUB-VP02.00*\n",
             b"/ZZZ0SUB-VP01.00*\r\n",
             b"/ZZZ5SUB-VP01.00*\n",
             b"\x06\x06",

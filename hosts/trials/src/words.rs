@@ -232,6 +232,21 @@ pub fn state(chance: &mut Chance, mode: u8) -> Meter {
         meter.tables[table] = row(chance);
     }
     close_some(chance, &mut meter);
+    of_some_edition(chance, meter)
+}
+
+/// The same of either edition.
+pub fn of_some_edition(chance: &mut Chance, meter: Meter) -> Meter {
+    if chance.percent(50) {
+        return meter;
+    }
+    of_edition_2(meter, row(chance))
+}
+
+/// The same of edition 2, with a row for Saturdays.
+pub fn of_edition_2(mut meter: Meter, saturday: [u8; 24]) -> Meter {
+    meter.edition = 2;
+    meter.tables[24] = saturday;
     meter
 }
 
@@ -269,12 +284,20 @@ pub fn holding(mut meter: Meter, held: &[u8], mark: bool) -> Meter {
     meter
 }
 
+/// A table, at times the one that edition 2 alone has.
+fn table(chance: &mut Chance) -> usize {
+    match chance.one_in(16) {
+        true => 25,
+        false => chance.between(1, 24),
+    }
+}
+
 /// Read data in document 01's form.
 pub fn good_read(chance: &mut Chance) -> Vec<u8> {
     match chance.below(4) {
         0 => chance.pick::<[u8]>(&[b"T()", b"L()", b"K()"]).to_vec(),
         1 => format!("E{}()", chance.below(5)).into_bytes(),
-        _ => format!("Z({:02})", chance.between(1, 24)).into_bytes(),
+        _ => format!("Z({:02})", table(chance)).into_bytes(),
     }
 }
 
@@ -302,7 +325,7 @@ pub fn good_write(chance: &mut Chance) -> Vec<u8> {
         1 => [b"K", &bracketed(&account(chance))[..]].concat(),
         _ => {
             let row = row(chance);
-            table_data(chance.between(1, 24), &row)
+            table_data(table(chance), &row)
         }
     }
 }

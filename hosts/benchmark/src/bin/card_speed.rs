@@ -55,14 +55,14 @@ fn equal(text: &[u8]) -> bool {
     let mut outs = [(); 3].map(|()| [0x5A; library::FRAMES_LONGEST]);
     let [model_out, fast_out, library_out] = &mut outs;
     let answers = [
-        model::export(text, model_out),
+        model::export(1, text, model_out),
         fast_card::read(text, fast_out),
-        library::read(text, library_out),
+        library::read(1, text, library_out),
     ];
     let checks = [
-        model::check(text),
+        model::check(1, text),
         fast_card::check(text),
-        library::check(text),
+        library::check(1, text),
     ];
     answers[0] == answers[1]
         && answers[1] == answers[2]
@@ -115,7 +115,7 @@ fn main() -> ExitCode {
                 black_box(fast_check(black_box(text)));
             },
             || {
-                black_box(library::check(black_box(text)));
+                black_box(library::check(1, black_box(text)));
             },
         )
     };
@@ -125,7 +125,11 @@ fn main() -> ExitCode {
             black_box(fast_read(black_box(&longest), black_box(&mut ours)));
         },
         || {
-            black_box(library::read(black_box(&longest), black_box(&mut theirs)));
+            black_box(library::read(
+                1,
+                black_box(&longest),
+                black_box(&mut theirs),
+            ));
         },
     );
     let meter = Meter::blank();

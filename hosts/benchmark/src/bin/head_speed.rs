@@ -32,9 +32,9 @@ fn registers() -> Registers {
             second: 58,
         },
         counters: [1_500, 999_999_999, 0, 123_456_789],
-        tables: std::array::from_fn(|table| {
-            std::array::from_fn(|hour| b'1' + ((7 * table + 3 * hour) % 4) as u8)
-        }),
+        tables: (0..24)
+            .map(|table| std::array::from_fn(|hour| b'1' + ((7 * table + 3 * hour) % 4) as u8))
+            .collect(),
         periods: Vec::new(),
     }
 }

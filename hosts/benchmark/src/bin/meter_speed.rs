@@ -100,7 +100,7 @@ fn meter(mode: u8) -> Meter {
         minute: 5,
         second: 9,
     };
-    for (number, row) in meter.tables.iter_mut().enumerate() {
+    for (number, row) in meter.tables[..24].iter_mut().enumerate() {
         *row = std::array::from_fn(|hour| b'1' + ((hour * 5 + number) / 3 % 4) as u8);
     }
     meter.closed = PERIODS as u8;

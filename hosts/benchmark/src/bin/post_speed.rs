@@ -76,13 +76,17 @@ fn medians(out: &mut [u8], rust: impl Fn(&mut [u8]), library: impl Fn(&mut [u8])
 fn equal(text: &[u8]) -> bool {
     let room = text.len() / post::LINE * post::LINE;
     let pattern = vec![0x5A; room + 1];
-    let checks = [post::check(text), fast::check(text), forum::check(text)];
+    let checks = [
+        post::check(1, text),
+        fast::check(text),
+        forum::check(1, text),
+    ];
     let exports = [room, room + 1, room.saturating_sub(1)].map(|room| {
         let mut outs = [(); 3].map(|()| pattern[..room].to_vec());
         let answers = [
-            post::export(text, &mut outs[0]),
+            post::export(1, text, &mut outs[0]),
             fast::export(text, &mut outs[1]),
-            forum::export(text, &mut outs[2]),
+            forum::export(1, text, &mut outs[2]),
         ];
         alike(&answers) && alike(&outs)
     });
@@ -148,7 +152,7 @@ fn main() -> ExitCode {
                 black_box(fast::export(black_box(text), black_box(out)));
             };
             let library = |out: &mut [u8]| {
-                black_box(forum::export(black_box(text), black_box(out)));
+                black_box(forum::export(1, black_box(text), black_box(out)));
             };
             medians(out, rust, library)
         } else {
@@ -161,7 +165,7 @@ fn main() -> ExitCode {
                 black_box(fast::check_once(black_box(text)));
             };
             let library = |_: &mut [u8]| {
-                black_box(forum::check(black_box(text)));
+                black_box(forum::check(1, black_box(text)));
             };
             let first = medians(out, twice, library);
             let second = medians(out, once, library);

@@ -100,7 +100,9 @@ fn state(chance: &mut Chance, mode: u8) -> Meter {
         _ => 999_999_999 - chance.below(5) as u32,
     });
     meter.total = total_of(&meter.counters);
-    meter.tables = meter.tables.map(|row| row.map(|_| chance.one_of(b"1234")));
+    for row in &mut meter.tables[..24] {
+        *row = row.map(|_| chance.one_of(b"1234"));
+    }
     let year = 2000 + chance.below(100) as u16;
     let month = 1 + chance.below(12) as u8;
     meter.clock = Clock {
@@ -228,7 +230,7 @@ fn spoil(chance: &mut Chance, meter: &mut Meter) {
                 _ => period.counters[chance.below(4)] = 999_999_990 + u32::from(byte % 20),
             }
         }
-        _ => meter.tables[chance.below(24)][chance.below(24)] = byte,
+        _ => meter.tables[chance.below(25)][chance.below(24)] = byte,
     }
 }
 

@@ -12,11 +12,11 @@ fn transcript(script: &str) -> String {
 fn sign_on_by_hand() {
     let script = "dump\nbytes af3f218d0a\nbyte 06 4095\nsilence 8192\n";
     let zeros = "00".repeat(63);
-    let tables = "31".repeat(576);
+    let tables = "31".repeat(576) + &"00".repeat(24);
     let none = " 0 0 0 0 0 0 0 0 0".repeat(12);
     let expected = format!(
         "0 0 0 {zeros} 30303030303030303030 20202020202020202020 3030303030303030 \
-         0 2000 1 1 0 0 0 0 0 0 0 {tables} 0 0 0 0{none} 1\n\
+         0 2000 1 1 0 0 0 0 0 0 0 {tables} 0 0 1 0 0{none} 1\n\
          0 0 0 - 0\n0 0 0 - 0\n0 0 0 - 0\n0 0 0 - 0\n\
          1 0 19 af5a5a5a355355422d565030b12e3030aa8d0a 0\n12 0 0 - 0\n1 0 1 95 0\n"
     );
@@ -33,6 +33,8 @@ fn dump_comes_back_through_set() {
     bench.meter.counters[3] = u32::MAX;
     bench.meter.clock.year = u16::MAX;
     bench.meter.tables[23][23] = 0;
+    bench.meter.tables[24][23] = 255;
+    bench.meter.edition = 254;
     bench.meter.closed = 200;
     bench.meter.periods[11].minute = 255;
     bench.meter.periods[11].counters[3] = u32::MAX;

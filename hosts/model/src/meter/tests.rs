@@ -395,7 +395,9 @@ fn known_weekdays() {
             day,
             ..Clock::FIRST
         }
-        .weekend()
+        .days()
+            % 7
+            < 2
     };
     assert!(weekend(2000, 1, 1) && weekend(2000, 1, 2) && !weekend(2000, 1, 3));
     assert!(!weekend(2024, 2, 29) && weekend(2024, 3, 2) && weekend(2024, 3, 3));
@@ -772,5 +774,111 @@ fn a_link_is_one_of_two() {
         assert_eq!(made.1.speed, if link == WIRED { 5 } else { 0 });
         let meter = Meter { link, ..made.1 };
         assert_eq!(meter.well_formed(), good);
+    }
+}
+
+/// A meter of edition 2 in some mode, its clock at an hour of a day in March 2024.
+fn second_in(mode: u8, day: u8) -> Meter {
+    let mut meter = Meter {
+        edition: 2,
+        ..meter_in(mode)
+    };
+    meter.tables[24] = [b'1'; 24];
+    (meter.clock.month, meter.clock.day) = (3, day);
+    meter
+}
+
+#[test]
+fn edition_2_calls_itself_so_and_shows_25_tables() {
+    let mut meter = second_in(LISTENING, 2);
+    let identified = send(&mut meter, b"/?!\r\n");
+    assert_eq!(identified, (1, 0, b"/ZZZ5SUB-VP02.00*\r\n".to_vec()));
+    let (_, _, block) = send(&mut meter, b"\x06050\r\n");
+    assert_eq!(block.len(), BLOCK + TABLE_LINE);
+    let end = format!("131.0.25({ALL_ONES})\r\n!\r\n\x03");
+    assert!(block[..block.len() - 1].ends_with(end.as_bytes()));
+}
+
+#[test]
+fn table_25_is_read_and_written_in_edition_2_alone() {
+    let write = true_frame("W1", &format!("Z(25;{})", ALL_ONES.replace('1', "4")));
+    let mut meter = second_in(PROGRAMMING, 2);
+    assert_eq!(send(&mut meter, &write), (1, 5, vec![ACK]));
+    assert_eq!(meter.tables[24], [b'4'; 24]);
+    let (number, _, shown) = send(&mut meter, &true_frame("R1", "Z(25)"));
+    assert!(number == 1 && shown[1..].starts_with(b"131.0.25(4444"));
+    assert_eq!(send(&mut meter, &true_frame("R1", "Z(26)")).0, 9);
+    let mut first = meter_in(PROGRAMMING);
+    assert_eq!(send(&mut first, &write).0, 9);
+    assert_eq!(send(&mut first, &true_frame("R1", "Z(25)")).0, 9);
+    assert_eq!(first, meter_in(PROGRAMMING));
+}
+
+#[test]
+fn saturdays_have_table_25_and_sundays_stay() {
+    // The first of March 2024 is a Friday.
+    for (day, used) in [(1, 3), (2, 25), (3, 15), (4, 3)] {
+        for (edition, used) in [(1, used.min(15)), (2, used)] {
+            let mut meter = second_in(LISTENING, day);
+            meter.edition = edition;
+            meter.tables[used - 1] = [b'3'; 24];
+            if edition == 1 {
+                meter.tables[24] = [0; 24];
+            }
+            assert_eq!(meter.pulse(7).number, 1);
+            assert_eq!(meter.counters, [0, 0, 7, 0], "{edition} on {day}");
+        }
+    }
+}
+
+#[test]
+fn another_edition_comes_before_all_else() {
+    for edition in (0..=255).filter(|edition| ![1, 2].contains(edition)) {
+        let mut meter = Meter {
+            edition,
+            mode: 9,
+            ..meter_in(PROGRAMMING)
+        };
+        let kept = meter.clone();
+        let none = Answer::turned_away(16);
+        assert_eq!(meter.character(0x81, &mut []), none);
+        assert_eq!(meter.frame(&[], &mut []), none);
+        assert_eq!(meter.silence(&mut []), none);
+        assert_eq!(meter.tick(), none);
+        assert_eq!(meter.power_up(), none);
+        assert_eq!(meter.pulse(u32::MAX), none);
+        assert_eq!(meter, kept);
+        let facts = (*b"123456789a", *b"Kiln_7 old", *b"20304050");
+        let made = Meter::new(facts.0, facts.1, facts.2, Clock::FIRST, [edition, 9, 9]);
+        assert_eq!(made, (16, Meter::blank()));
+    }
+}
+
+#[test]
+fn the_factory_looks_at_edition_then_decimals_then_facts() {
+    let made = |kind| {
+        let clock = Clock::FIRST;
+        Meter::new(*b"1234567890", *b"Kiln_7 old", *b"20304050", clock, kind)
+    };
+    assert_eq!(made([2, 9, 1]), (18, Meter::blank()));
+    assert_eq!(made([2, 9, 0]), (15, Meter::blank()));
+    let (number, meter) = made([2, WIRED, 0]);
+    assert_eq!((number, meter.tables), (1, [[b'1'; 24]; 25]));
+    assert!(meter.well_formed());
+}
+
+#[test]
+fn the_row_behind_the_tables_holds_zeros() {
+    let mut first = meter_in(LISTENING);
+    assert!(first.well_formed());
+    for zone in [b'1', b'0', 1, 255] {
+        first.tables[24][23] = zone;
+        assert!(!first.well_formed());
+    }
+    let mut second = second_in(LISTENING, 2);
+    assert!(second.well_formed());
+    for zone in [0, b'0', b'5', 255] {
+        second.tables[24][23] = zone;
+        assert!(!second.well_formed());
     }
 }

@@ -8,6 +8,7 @@ const ALL: &[u8] = b"T\0L\0K\0E\0E\x01E\x02E\x03E\x04Z\x01Z\x18";
 
 fn reads(work: &[u8]) -> Told<'_> {
     Told {
+        edition: 1,
         named: 0,
         serial: b"",
         access: 0,
@@ -19,6 +20,7 @@ fn reads(work: &[u8]) -> Told<'_> {
 
 fn post(text: &[u8]) -> Told<'_> {
     Told {
+        edition: 1,
         named: 1,
         serial: SERIAL,
         access: 1,
@@ -37,6 +39,10 @@ fn winter() -> Vec<u8> {
 }
 
 fn meter() -> Meter {
+    meter_of(1)
+}
+
+fn meter_of(edition: u8) -> Meter {
     let clock = Clock {
         year: 2024,
         month: 2,
@@ -45,7 +51,7 @@ fn meter() -> Meter {
         minute: 5,
         second: 9,
     };
-    let (number, meter) = Meter::new(*SERIAL, *b"Kiln_7 old", *PASSWORD, clock, [1, 1, 0]);
+    let (number, meter) = Meter::new(*SERIAL, *b"Kiln_7 old", *PASSWORD, clock, [edition, 1, 0]);
     assert_eq!(number, 1);
     meter
 }
@@ -117,12 +123,39 @@ fn a_post_is_delivered() {
     assert_eq!((fact, message), (fact::OVER, 7));
     assert_eq!(messages[0], line::wires(b"/?123 4567890!\r\n"));
     let mut frames = [0; 108];
-    assert_eq!(crate::post::export(&text, &mut frames), (1, 108, 0));
+    assert_eq!(crate::post::export(1, &text, &mut frames), (1, 108, 0));
     assert_eq!(messages[3..6].concat(), frames);
     for table in [1, 4, 6] {
         assert_eq!(meter.tables[table - 1], [b'2'; 24]);
     }
     assert_eq!(meter.tables[1], [b'1'; 24]);
+}
+
+#[test]
+fn each_edition_answers_its_own_head() {
+    let table = |number| Table {
+        number,
+        row: [b'3'; 24],
+    };
+    let saturday = text_of(&[table(24), table(25)]);
+    let told = Told {
+        edition: 2,
+        ..post(&saturday)
+    };
+    let mut meter = meter_of(2);
+    let (fact, message, messages) = visit(&mut meter, &told);
+    assert_eq!((fact, message, messages.len()), (fact::OVER, 6, 6));
+    assert_eq!(meter.tables[23..], [[b'3'; 24]; 2]);
+    let read = Told {
+        edition: 2,
+        ..reads(b"Z\x19")
+    };
+    assert_eq!(visit(&mut meter, &read).0, fact::OVER);
+    // The other edition's identification is a wrong reply.
+    let (fact, message, _) = visit(&mut meter_of(1), &read);
+    assert_eq!((fact, message), (fact::WRONG, 1));
+    let (fact, message, _) = visit(&mut meter_of(2), &reads(ALL));
+    assert_eq!((fact, message), (fact::WRONG, 1));
 }
 
 #[test]
@@ -161,6 +194,13 @@ fn refusals_in_their_order() {
     };
     let text = winter();
     let many = b"T\0".repeat(33);
+    for edition in [0, 3, 255] {
+        let other = Told {
+            edition,
+            ..reads(b"")
+        };
+        assert_eq!(number(&other, 63), (16, 0));
+    }
     assert_eq!(number(&reads(b""), 63), (19, 0));
     assert_eq!(number(&reads(b""), 64), (28, 0));
     assert_eq!(number(&reads(&many), 64), (29, 0));
@@ -229,7 +269,7 @@ fn records_that_no_session_reaches() {
     let (good, _) = started(&post(&text));
     assert!(good.reached());
     assert!(!Session::default().reached());
-    let broken: [fn(&mut Session); 14] = [
+    let broken: [fn(&mut Session); 16] = [
         |s| s.serial[3] = 0,
         |s| s.password[3] = b'a',
         |s| s.named = 0,
@@ -244,6 +284,8 @@ fn records_that_no_session_reaches() {
         |s| s.fact = 1,
         |s| s.fact = 5,
         |s| s.count = 255,
+        |s| s.edition = 0,
+        |s| s.edition = 3,
     ];
     for spoil in broken {
         let mut session = good;
@@ -287,7 +329,7 @@ fn other_work_gives_its_own_messages_or_none() {
 fn a_reply_has_just_the_lines_that_were_asked_for() {
     let block = |data: &str| head::on_the_wire(&head::block(data.as_bytes()));
     let clock = "0.9.1(23:59:59)\r\n0.9.2(00-02-29)\r\n";
-    assert!(tells(b'T', 9, &block(clock)));
+    assert!(tells(1, b'T', 9, &block(clock)));
     for other in [
         "0.9.2(00-02-29)\r\n0.9.1(23:59:59)\r\n",
         "0.9.1(23:59:59)\r\n",
@@ -296,20 +338,20 @@ fn a_reply_has_just_the_lines_that_were_asked_for() {
         "0.9.1(23:59:59)\r\n0.9.2(00-02-29)\r\n!\r\n",
         "",
     ] {
-        assert!(!tells(b'T', 0, &block(other)), "{other}");
+        assert!(!tells(1, b'T', 0, &block(other)), "{other}");
     }
     let energy = "15.8.3(000001.500*kWh)\r\n";
-    assert!(tells(b'E', 3, &block(energy)));
-    assert!(!tells(b'E', 2, &block(energy)) && !tells(b'Z', 3, &block(energy)));
+    assert!(tells(1, b'E', 3, &block(energy)));
+    assert!(!tells(1, b'E', 2, &block(energy)) && !tells(1, b'Z', 3, &block(energy)));
     let row = format!("131.0.07({})\r\n", "4".repeat(24));
-    assert!(tells(b'Z', 7, &block(&row)) && !tells(b'Z', 8, &block(&row)));
-    assert!(tells(b'L', 0, &block("C.1.0(123 4567890)\r\n")));
-    assert!(tells(b'K', 0, &block("0.0.0(Kiln_7 old)\r\n")));
-    assert!(!tells(b'K', 0, &block("0.0.0(Kiln_7 ol)\r\n")));
+    assert!(tells(1, b'Z', 7, &block(&row)) && !tells(1, b'Z', 8, &block(&row)));
+    assert!(tells(1, b'L', 0, &block("C.1.0(123 4567890)\r\n")));
+    assert!(tells(1, b'K', 0, &block("0.0.0(Kiln_7 old)\r\n")));
+    assert!(!tells(1, b'K', 0, &block("0.0.0(Kiln_7 ol)\r\n")));
     let mut damaged = block(energy);
     damaged[5] ^= 0x80;
-    assert!(!tells(b'E', 3, &damaged));
+    assert!(!tells(1, b'E', 3, &damaged));
     let mut wrong = block(energy);
     *wrong.last_mut().unwrap() ^= 3;
-    assert!(!tells(b'E', 3, &wrong));
+    assert!(!tells(1, b'E', 3, &wrong));
 }

@@ -79,6 +79,7 @@ fn wrong_ones(seed: u64) -> Result<usize, String> {
         Mistake::SaysRefusedBytes,
         Mistake::WritesTwice,
         Mistake::KeepsOnTheWire,
+        Mistake::TakesTable25,
     ];
     let script = script(seed, 6 * HISTORY);
     let mut transcript = Vec::new();
@@ -106,6 +107,9 @@ struct Counted {
     periods: u64,
     /// Dumps in a session on the wired link.
     wired: u64,
+    /// Dumps and writes of table 25 of edition 2.
+    second: u64,
+    saturdays: u64,
 }
 
 impl Counted {
@@ -118,6 +122,7 @@ impl Counted {
         self.modes[usize::from(history.mode)] += 1;
         self.locked += u64::from(history.failed == 3);
         self.periods += u64::from(history.book.closed > 0);
+        self.second += u64::from(history.book.edition == 2);
         self.wired += u64::from(history.mode >= 2 && history.book.link == WIRED);
     }
 
@@ -125,7 +130,10 @@ impl Counted {
         match write {
             Write::Clock(_) => self.clocks += 1,
             Write::Account(_) => self.accounts += 1,
-            Write::Row(..) => self.rows += 1,
+            Write::Row(table, _) => {
+                self.rows += 1;
+                self.saturdays += u64::from(*table == 25);
+            }
         }
     }
 
@@ -143,6 +151,8 @@ impl Counted {
             ("dumps while locked", self.locked),
             ("dumps with closed periods", self.periods),
             ("dumps in a session on the wired link", self.wired),
+            ("dumps of edition 2", self.second),
+            ("writes of table 25", self.saturdays),
         ];
         for (what, count) in reached {
             println!("{what}: {count}");
@@ -273,8 +283,9 @@ impl Play {
         }
         let c = fresh.clock;
         let link = self.chance.one_of(&[OPTICAL, OPTICAL, WIRED]);
+        let edition = self.chance.one_of(&[1, 2]);
         line += &format!(
-            "{} {} {} {} {} {} 1 {link} 0",
+            "{} {} {} {} {} {} {edition} {link} 0",
             c.year, c.month, c.day, c.hour, c.minute, c.second
         );
         let (_, meter) = Meter::new(
@@ -282,7 +293,7 @@ impl Play {
             fresh.account,
             fresh.password,
             fresh.clock,
-            [1, link, 0],
+            [edition, link, 0],
         );
         self.history = History::new(meter, Mistake::None);
         self.line(&line);

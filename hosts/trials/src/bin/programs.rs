@@ -9,7 +9,7 @@
 use model::card::{self, Card};
 use model::head;
 use model::meter::{Meter, Period, PERIODS};
-use model::post::{self, Row, Table, HOURS, LAST, LINE, LONGEST, TABLES};
+use model::post::{self, tables_of, Row, Table, HOURS, LAST, LINE, LONGEST, TABLES, TABLES_MOST};
 use std::collections::BTreeSet;
 use std::io::{Read, Write};
 use std::process::{Child, Command, ExitCode, Stdio};
@@ -48,10 +48,13 @@ fn pair(number: impl ToString, other: usize) -> Vec<u8> {
 }
 
 /// What the exporter has to write.
-fn exported(text: &[u8]) -> (Vec<u8>, i32) {
-    match post::read(text) {
+fn exported(edition: u8, text: &[u8]) -> (Vec<u8>, i32) {
+    let Some(highest) = tables_of(edition) else {
+        return (pair(post::NO_EDITION, 0), 1);
+    };
+    match post::read(highest, text) {
         Some(tables) => (tables.iter().flat_map(post::frame_of).collect(), 0),
-        None => (pair(post::NOT_A_POST, post::place(text)), 1),
+        None => (pair(post::NOT_A_POST, post::place(highest, text)), 1),
     }
 }
 
@@ -117,17 +120,26 @@ fn looked_up(reply: &[u8], address: &str) -> (Vec<u8>, u8, usize) {
     (said, found.answer, found.count)
 }
 
-/// What the delivery to a blank meter has to write.
-fn delivered(text: &[u8]) -> (Vec<u8>, i32) {
-    let mut rows = [[b'1'; HOURS]; TABLES as usize];
-    let (mut said, status) = match post::read(text) {
+/// The words that a program for an edition is started with: none for edition 1.
+fn words_of(edition: u8) -> Vec<String> {
+    match edition {
+        1 => Vec::new(),
+        _ => vec![edition.to_string()],
+    }
+}
+
+/// What the delivery to a blank meter of an edition has to write.
+fn delivered(edition: u8, text: &[u8]) -> (Vec<u8>, i32) {
+    let highest = tables_of(edition).expect("it is one");
+    let mut rows = vec![[b'1'; HOURS]; highest.into()];
+    let (mut said, status) = match post::read(highest, text) {
         Some(tables) => {
             for table in &tables {
                 rows[usize::from(table.number) - 1] = table.row;
             }
             (pair(post::DONE, tables.len()), 0)
         }
-        None => (pair(post::NOT_A_POST, post::place(text)), 1),
+        None => (pair(post::NOT_A_POST, post::place(highest, text)), 1),
     };
     for row in rows {
         said.extend(row);
@@ -136,21 +148,27 @@ fn delivered(text: &[u8]) -> (Vec<u8>, i32) {
     (said, status)
 }
 
-/// The exporter on a text, all at once.
+/// The exporter on a text for edition 1, all at once.
 fn exporter(text: &[u8]) -> Case {
-    exporter_in(text, usize::MAX)
+    exporter_in(1, text, usize::MAX)
+}
+
+/// The same for edition 2.
+fn exporter_2(text: &[u8]) -> Case {
+    exporter_in(2, text, usize::MAX)
 }
 
 /// The exporter on a text that comes in pieces.
-fn exporter_in(text: &[u8], pieces: usize) -> Case {
-    let (said, status) = exported(text);
-    let reaches = match post::read(text) {
-        Some(tables) => format!("exporter: {} lines", tables.len()),
-        None => format!("exporter: place {}", post::place(text)),
+fn exporter_in(edition: u8, text: &[u8], pieces: usize) -> Case {
+    let (said, status) = exported(edition, text);
+    let reaches = match post::check(edition, text) {
+        (post::DONE, _) => format!("exporter: {} lines", text.len() / LINE),
+        (post::NOT_A_POST, place) => format!("exporter: place {place}"),
+        (number, _) => format!("exporter: {number}"),
     };
     Case {
         program: "exporter",
-        words: Vec::new(),
+        words: words_of(edition),
         input: text.to_vec(),
         pieces,
         said,
@@ -189,34 +207,47 @@ fn readout_of(reply: &[u8], address: &str) -> Case {
 }
 
 fn delivering(text: &[u8]) -> Case {
-    let (said, status) = delivered(text);
+    delivering_to(1, text)
+}
+
+fn delivering_to(edition: u8, text: &[u8]) -> Case {
+    let (said, status) = delivered(edition, text);
     Case {
         program: "delivering",
-        words: Vec::new(),
+        words: words_of(edition),
         input: text.to_vec(),
         pieces: usize::MAX,
         said,
         status,
-        reaches: format!("delivering: {}", if status == 0 { 1 } else { 20 }),
+        reaches: format!(
+            "delivering to edition {edition}: {}",
+            if status == 0 { 1 } else { 20 }
+        ),
     }
 }
 
 /// The card exporter on a text.
 fn cardexporter(text: &[u8]) -> Case {
-    let (said, status, reaches) = match card::read(text) {
-        Some(card) => {
+    cardexporter_for(1, text)
+}
+
+fn cardexporter_for(edition: u8, text: &[u8]) -> Case {
+    let highest = tables_of(edition);
+    let (said, status, reaches) = match highest.map(|highest| card::read(highest, text)) {
+        None => (pair(card::NO_EDITION, 0), 1, "cardexporter: 16".to_string()),
+        Some(Some(card)) => {
             let reaches = format!("cardexporter: {} tables", card.tables.len());
             (card::frames_of(&card), 0, reaches)
         }
-        None => {
-            let place = card::place(text);
+        Some(None) => {
+            let place = card::check(edition, text).1;
             let reaches = format!("cardexporter: place {place}");
             (pair(card::NOT_A_CARD, place), 1, reaches)
         }
     };
     Case {
         program: "cardexporter",
-        words: Vec::new(),
+        words: words_of(edition),
         input: text.to_vec(),
         pieces: usize::MAX,
         said,
@@ -238,19 +269,31 @@ fn post_of(numbers: impl IntoIterator<Item = u8>) -> Vec<u8> {
 
 /// Texts for the exporter.
 fn for_the_exporter(cases: &mut Vec<Case>) {
-    let longest = post_of(1..=TABLES);
+    let longest = post_of(1..=TABLES_MOST);
     assert_eq!(longest.len(), LONGEST);
     // Every length up to a line more than the longest post: every place where a text ends.
     let more = [&longest[..], &longest[..LINE]].concat();
-    cases.extend((0..=more.len()).map(|length| exporter(&more[..length])));
+    cases.extend((0..=more.len()).map(|length| exporter_2(&more[..length])));
+    let (lines, _) = longest.split_at(LONGEST - LINE - LAST.len());
+    let first = [lines, LAST, lines].concat();
+    cases.extend((0..=first.len()).map(|length| exporter(&first[..length])));
     // Every place that a wrong character gives.
     for place in 0..LONGEST {
         let mut wrong = longest.clone();
         wrong[place] = b'x';
-        cases.push(exporter(&wrong));
+        cases.push(exporter_2(&wrong));
+    }
+    // A line 25 for edition 1, and texts for editions that there are not.
+    cases.push(Case {
+        reaches: "exporter: line 25 for edition 1".to_string(),
+        ..exporter(&longest)
+    });
+    for edition in [0, 3, 255] {
+        cases.extend([LAST, &longest, lines].map(|text| exporter_in(edition, text, usize::MAX)));
     }
     // Every table alone, every two that follow each other, two that do not rise.
-    cases.extend((1..=TABLES).map(|number| exporter(&post_of([number]))));
+    cases.extend((1..=TABLES_MOST).map(|number| exporter_2(&post_of([number]))));
+    cases.extend((1..=TABLES_MOST).map(|number| exporter(&post_of([number]))));
     cases.extend((1..TABLES).map(|number| exporter(&post_of([number, number + 1]))));
     cases.extend((1..TABLES).map(|number| exporter(&post_of([number + 1, number]))));
     cases.push(exporter(&post::text_of(&[Table {
@@ -259,11 +302,11 @@ fn for_the_exporter(cases: &mut Vec<Case>) {
     }])));
     cases.push(exporter(LAST));
     // In small pieces, and longer than any post.
-    cases.extend([1, 7, 35, 36].map(|pieces| exporter_in(&longest, pieces)));
+    cases.extend([1, 7, 35, 36].map(|pieces| exporter_in(2, &longest, pieces)));
     let long: Vec<u8> = longest.iter().copied().cycle().take(20_000).collect();
     cases.extend([7, 4_095, 4_096, 4_097].map(|pieces| Case {
         reaches: "exporter: a long input in pieces".to_string(),
-        ..exporter_in(&long, pieces)
+        ..exporter_in(1, &long, pieces)
     }));
     let longer: Vec<u8> = long.iter().copied().cycle().take(10_000_000).collect();
     cases.push(Case {
@@ -272,20 +315,27 @@ fn for_the_exporter(cases: &mut Vec<Case>) {
     });
 }
 
-/// Texts for the card exporter: cards of none to 24 tables, cut anywhere, with a wrong byte anywhere,
+/// Texts for the card exporter: cards of none to 25 tables, cut anywhere, with a wrong byte anywhere,
 /// and longer than any card.
 fn for_the_card_exporter(cases: &mut Vec<Case>) {
     let longest = card::text_of(&Card {
         account: *b"STUDIO_7  ",
-        tables: (1..=TABLES).map(table).collect(),
+        tables: (1..=TABLES_MOST).map(table).collect(),
     });
     assert_eq!(longest.len(), card::LONGEST);
     let more = [&longest[..], &longest[..13]].concat();
-    cases.extend((0..=more.len()).map(|length| cardexporter(&more[..length])));
+    cases.extend((0..=more.len()).map(|length| cardexporter_for(2, &more[..length])));
     for place in 0..card::LONGEST {
         let mut wrong = longest.clone();
         wrong[place] = 0xFF;
         cases.push(cardexporter(&wrong));
+    }
+    cases.push(Case {
+        reaches: "cardexporter: table 25 for edition 1".to_string(),
+        ..cardexporter(&longest)
+    });
+    for edition in [0, 3, 255] {
+        cases.extend([&b""[..], &longest].map(|text| cardexporter_for(edition, text)));
     }
     let long: Vec<u8> = longest.iter().copied().cycle().take(20_000).collect();
     cases.push(Case {
@@ -472,6 +522,10 @@ fn for_the_delivery(cases: &mut Vec<Case>) {
             .step_by(5)
             .map(|last| delivering(&post_of(1..=last))),
     );
+    cases.extend((1..=TABLES_MOST).map(|number| delivering_to(2, &post_of([number]))));
+    cases.push(delivering_to(2, &post_of(1..=TABLES_MOST)));
+    cases.push(delivering_to(2, LAST));
+    cases.push(delivering(&post_of([TABLES_MOST])));
     cases.push(delivering(&post_of(1..=TABLES)));
     let two = post_of([4, 6]);
     cases.extend(
@@ -656,17 +710,22 @@ fn started(command: &str, status: i32, words: bool) -> Result<(), String> {
 fn to_reach() -> BTreeSet<String> {
     let mut all: BTreeSet<String> = (0..=LONGEST)
         .map(|place| format!("exporter: place {place}"))
-        .chain([1, 2, 24].map(|lines| format!("exporter: {lines} lines")))
+        .chain([1, 2, 24, 25].map(|lines| format!("exporter: {lines} lines")))
         .chain([1, 22, 23, 24, 25, 26].map(|number| format!("readout: {number}")))
         .chain((1..=33).map(|set| format!("register: set {set}")))
         .chain([22, 23, 24, 25, 26, 27].map(|number| format!("register: {number}")))
         .chain((0..=PERIODS).map(|count| format!("readout: {count} periods")))
         .chain((1..=PERIODS).map(|kk| format!("register: period {kk}")))
-        .chain([1, 20].map(|number| format!("delivering: {number}")))
+        .chain([1, 20].map(|number| format!("delivering to edition 1: {number}")))
+        .chain([1, 20].map(|number| format!("delivering to edition 2: {number}")))
         .chain(STARTED.iter().map(|case| case.3.to_string()))
         .collect();
     all.extend((0..=card::LONGEST).map(|place| format!("cardexporter: place {place}")));
-    all.extend((0..=TABLES).map(|tables| format!("cardexporter: {tables} tables")));
+    all.extend((0..=TABLES_MOST).map(|tables| format!("cardexporter: {tables} tables")));
+    all.insert("exporter: 16".to_string());
+    all.insert("exporter: line 25 for edition 1".to_string());
+    all.insert("cardexporter: 16".to_string());
+    all.insert("cardexporter: table 25 for edition 1".to_string());
     all.insert("cardexporter: a long input".to_string());
     all.insert("exporter: a long input in pieces".to_string());
     all.insert("exporter: 10,000,000 bytes".to_string());

@@ -7,6 +7,7 @@ mod reached;
 mod texts;
 mod wrong;
 
+use ::model::post::tables_of;
 use dirgemist::card;
 use model::card as model;
 use reached::Reached;
@@ -35,12 +36,12 @@ struct Library {
 }
 
 impl Cards for Library {
-    fn check(&mut self, text: &[u8]) -> (u8, usize) {
-        card::check(self.texts.copy(text))
+    fn check(&mut self, edition: u8, text: &[u8]) -> (u8, usize) {
+        card::check(edition, self.texts.copy(text))
     }
-    fn read(&mut self, text: &[u8], out: &mut [u8]) -> (u8, usize, usize) {
+    fn read(&mut self, edition: u8, text: &[u8], out: &mut [u8]) -> (u8, usize, usize) {
         let lent = self.buffers.copy(out);
-        let told = card::read(self.texts.copy(text), lent);
+        let told = card::read(edition, self.texts.copy(text), lent);
         out.copy_from_slice(lent);
         told
     }
@@ -68,24 +69,26 @@ fn try_text(
     cards: &mut dyn Cards,
     reached: &mut Reached,
 ) -> Result<(), String> {
-    let text = texts::text(chance);
-    let checked = model::check(&text);
-    let got = cards.check(&text);
+    let (edition, text) = (texts::edition(chance), texts::text(chance));
+    let checked = model::check(edition, &text);
+    let got = cards.check(edition, &text);
     if got != checked {
         return Err(format!(
-            "check {text:02x?}: {got:?}, and the model {checked:?}"
+            "check {edition} {text:02x?}: {got:?}, and the model {checked:?}"
         ));
     }
-    let frames = model::read(&text).map_or(0, |card| model::frames_of(&card).len());
+    let frames = tables_of(edition)
+        .and_then(|highest| model::read(highest, &text))
+        .map_or(0, |card| model::frames_of(&card).len());
     let room = room(chance, frames);
     let (mut ours, mut theirs) = (vec![FILLING; room], vec![FILLING; room]);
-    let told = model::export(&text, &mut ours);
-    let got = cards.read(&text, &mut theirs);
-    reached.read(&text, room, frames, told);
+    let told = model::export(edition, &text, &mut ours);
+    let got = cards.read(edition, &text, &mut theirs);
+    reached.read(edition, &text, room, frames, told);
     match (got, theirs) == (told, ours) {
         true => Ok(()),
         false => Err(format!(
-            "read {text:02x?} in {room}: {got:?}, and the model {told:?}"
+            "read {edition} {text:02x?} in {room}: {got:?}, and the model {told:?}"
         )),
     }
 }
@@ -96,11 +99,12 @@ fn try_meter(
     reached: &mut Reached,
 ) -> Result<(), String> {
     let meter = texts::meter(chance);
-    let room = room(chance, model::LONGEST);
+    let longest = model::LONGEST - if meter.edition == 1 { 28 } else { 0 };
+    let room = room(chance, longest);
     let (mut ours, mut theirs) = (vec![FILLING; room], vec![FILLING; room]);
     let told = model::write(&meter, &mut ours);
     let got = cards.write(&meter, &mut theirs);
-    reached.written(room, told);
+    reached.written(meter.edition, room, told);
     if (got, &theirs) != (told, &ours) {
         return Err(format!(
             "write {meter:?} in {room}: {got:?}, and the model {told:?}"
@@ -120,13 +124,14 @@ fn bring(
     from: &Meter,
     text: &[u8],
 ) -> Result<(), String> {
-    let card = model::read(text).ok_or("a written card is none")?;
+    let highest = tables_of(from.edition).ok_or("a card of no edition")?;
+    let card = model::read(highest, text).ok_or("a written card is none")?;
     if card != model::card_of(from) {
         return Err("a written card says something else".into());
     }
     let mut frames = vec![0; card::FRAMES_LONGEST];
-    let (number, length, _) = cards.read(text, &mut frames);
-    let before = texts::ready(chance);
+    let (number, length, _) = cards.read(from.edition, text, &mut frames);
+    let before = texts::ready(chance, from.edition);
     let mut to = before.clone();
     let mut acknowledged = 0;
     for &byte in &frames[..length] {
@@ -138,8 +143,8 @@ fn bring(
         tables: from.tables,
         ..before
     };
-    reached.brought();
-    match (number, acknowledged) == (1, 25) && to == wanted {
+    reached.brought(from.edition);
+    match (number, acknowledged) == (1, usize::from(highest) + 1) && to == wanted {
         true => Ok(()),
         false => Err(format!("brought {from:?}: {acknowledged} acknowledged")),
     }

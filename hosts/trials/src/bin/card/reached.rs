@@ -7,13 +7,18 @@ pub struct Reached(BTreeMap<&'static str, u64>);
 
 /// Each has to be met so often at least.
 const OFTEN: u64 = 20;
-const AIMS: [&str; 26] = [
+const AIMS: [&str; 37] = [
     "read: 1",
     "read: 40",
     "read: 41",
     "read: 40 with no room for it either",
     "read: no table",
     "read: all tables",
+    "read: all tables of edition 2",
+    "read: 16",
+    "read: 16 with no card and no room",
+    "read: 16 with a card",
+    "read: table 25 for edition 1",
     "read: a room of just the frames",
     "read: a byte less",
     "read: a byte more",
@@ -24,6 +29,7 @@ const AIMS: [&str; 26] = [
     "place: the end of a beginning",
     "place: a tag behind the account",
     "place: a tag behind table 24",
+    "place: a tag behind table 25",
     "place: high byte of a table's length",
     "place: low byte of a table's length",
     "place: a number",
@@ -31,9 +37,14 @@ const AIMS: [&str; 26] = [
     "write: 1",
     "write: 14",
     "write: 41",
+    "write: 16",
+    "write: 16 with no room for it either",
     "write: 14 with no room for it either",
     "write: room 684",
+    "write: room 712 of edition 2",
     "brought to another meter",
+    "brought to another meter of edition 2",
+    "read: for edition 2",
 ];
 
 impl Reached {
@@ -45,6 +56,7 @@ impl Reached {
 
     pub fn read(
         &mut self,
+        edition: u8,
         text: &[u8],
         room: usize,
         frames: usize,
@@ -58,7 +70,16 @@ impl Reached {
             number == 40 && room < 19,
         );
         self.met("read: no table", number == 1 && length == 19);
-        self.met("read: all tables", length == 883);
+        self.met("read: for edition 2", edition == 2);
+        self.met("read: all tables", edition == 1 && length == 883);
+        self.met("read: all tables of edition 2", length == 919);
+        self.met("read: 16", number == 16);
+        let none = number == 16 && room < 19 && !text.starts_with(&[1, 0, 10]);
+        self.met("read: 16 with no card and no room", none);
+        let card = number == 16 && model::card::check(2, text).0 == 1;
+        self.met("read: 16 with a card", card);
+        let other = edition == 1 && number == 40 && model::card::check(2, text).0 == 1;
+        self.met("read: table 25 for edition 1", other);
         self.met(
             "read: a room of just the frames",
             number == 1 && room == frames,
@@ -66,11 +87,11 @@ impl Reached {
         self.met("read: a byte less", number == 41 && room + 1 == frames);
         self.met("read: a byte more", number == 1 && room == frames + 1);
         if number == 40 {
-            self.place(text, place);
+            self.place(edition, text, place);
         }
     }
 
-    fn place(&mut self, text: &[u8], place: usize) {
+    fn place(&mut self, edition: u8, text: &[u8], place: usize) {
         let ends = place == text.len();
         let in_field = place.checked_sub(13).map(|behind| behind % 28);
         self.met("place: 0", place == 0);
@@ -85,7 +106,11 @@ impl Reached {
         let last = place.checked_sub(25).map(|at| text[at]);
         self.met(
             "place: a tag behind table 24",
-            in_field == Some(0) && last == Some(24) && text[place] == 2,
+            edition == 1 && in_field == Some(0) && last == Some(24) && text[place] == 2,
+        );
+        self.met(
+            "place: a tag behind table 25",
+            edition == 2 && in_field == Some(0) && last == Some(25) && text[place] == 2,
         );
         self.met("place: high byte of a table's length", in_field == Some(1));
         self.met("place: low byte of a table's length", in_field == Some(2));
@@ -93,7 +118,7 @@ impl Reached {
         self.met("place: in a row", in_field > Some(3));
     }
 
-    pub fn written(&mut self, room: usize, (number, _): (u8, usize)) {
+    pub fn written(&mut self, edition: u8, room: usize, (number, _): (u8, usize)) {
         self.met("write: 1", number == 1);
         self.met("write: 14", number == 14);
         self.met("write: 41", number == 41);
@@ -102,10 +127,20 @@ impl Reached {
             number == 14 && room < 685,
         );
         self.met("write: room 684", number == 41 && room == 684);
+        self.met("write: 16", number == 16);
+        self.met(
+            "write: 16 with no room for it either",
+            number == 16 && room < 685,
+        );
+        self.met(
+            "write: room 712 of edition 2",
+            edition == 2 && number == 41 && room == 712,
+        );
     }
 
-    pub fn brought(&mut self) {
-        self.met("brought to another meter", true);
+    pub fn brought(&mut self, edition: u8) {
+        self.met("brought to another meter", edition == 1);
+        self.met("brought to another meter of edition 2", edition == 2);
     }
 
     /// Fails with the aims that were not reached.

@@ -4,6 +4,7 @@ use model::card::{field, text_of, Card};
 use model::meter::{Meter, PROGRAMMING};
 use model::post::{Row, Table};
 use trials::chance::Chance;
+use trials::words::of_edition_2;
 
 const ACCOUNT: &[u8] = b"azAZ09 _mM";
 
@@ -23,7 +24,7 @@ fn row(chance: &mut Chance) -> Row {
 fn card(chance: &mut Chance) -> Card {
     let share = chance.one_of(&[0, 5, 20, 60, 100]);
     let mut tables = Vec::new();
-    for number in 1..=24 {
+    for number in 1..=chance.one_of(&[24, 25]) {
         if chance.percent(share) {
             tables.push(Table {
                 number,
@@ -42,7 +43,17 @@ fn almost(chance: &mut Chance) -> Vec<u8> {
     let mut card = card(chance);
     let last = card.tables.last().map_or(1, |table| table.number);
     let more = Table {
-        number: chance.one_of(&[0, 1, last, last.saturating_sub(1), last + 1, 24, 25, 255]),
+        number: chance.one_of(&[
+            0,
+            1,
+            last,
+            last.saturating_sub(1),
+            last + 1,
+            24,
+            25,
+            26,
+            255,
+        ]),
         row: row(chance),
     };
     match chance.below(8) {
@@ -67,6 +78,16 @@ fn almost(chance: &mut Chance) -> Vec<u8> {
         }
     }
     text_of(&card)
+}
+
+/// The edition that a text is read for: at times one that there is not.
+pub fn edition(chance: &mut Chance) -> u8 {
+    match chance.below(16) {
+        0 => chance.byte(),
+        1 => chance.one_of(&[0, 3]),
+        2..=7 => 1,
+        _ => 2,
+    }
 }
 
 /// A card, something like one, or any bytes.
@@ -115,24 +136,32 @@ pub fn text(chance: &mut Chance) -> Vec<u8> {
 pub fn meter(chance: &mut Chance) -> Meter {
     let mut meter = Meter::blank();
     meter.account = account(chance);
-    for table in &mut meter.tables {
+    for table in &mut meter.tables[..24] {
         *table = row(chance);
     }
-    match chance.below(12) {
+    if chance.percent(50) {
+        meter = of_edition_2(meter, row(chance));
+    }
+    match chance.below(14) {
         0 => meter.mode = 5,
         1 => meter.account[chance.below(10)] = b'-',
         2 => meter.tables[chance.below(24)][chance.below(24)] = chance.one_of(b"05\x00"),
         3 => meter.total = 1,
+        4 => meter.tables[24] = [chance.one_of(b"05\x01"); 24],
+        5 => {
+            meter.edition = chance.one_of(&[0, 3, 128, 255]);
+            meter.mode = chance.one_of(&[0, 9]);
+        }
         _ => {}
     }
     meter
 }
 
-/// A meter in programming mode, with an empty receiver, at either speed.
-pub fn ready(chance: &mut Chance) -> Meter {
+/// A meter of an edition in programming mode, with an empty receiver, at either speed.
+pub fn ready(chance: &mut Chance, edition: u8) -> Meter {
     let mut meter = loop {
         let meter = meter(chance);
-        if meter.well_formed() {
+        if meter.well_formed() && meter.edition == edition {
             break meter;
         }
     };

@@ -37,6 +37,7 @@ trait Firmware {
 /// The model's meter as firmware would have it.
 fn ruled(meter: &mut Meter, kind: u8, value: u32, reply: &mut [u8]) -> Answer {
     match (kind, value) {
+        _ if !meter.has_edition() => meter.tick(),
         (0, 0..=255) => meter.character(value as u8, reply),
         (1, _) => meter.silence(reply),
         (2, _) => meter.tick(),
@@ -64,8 +65,8 @@ fn made(facts: &Facts) -> (u8, Meter) {
         }
         _ => {
             let number = match facts.kind {
-                [1, _, 0] => 15,
-                [1, ..] => 18,
+                [1 | 2, _, 0] => 15,
+                [1 | 2, ..] => 18,
                 _ => 16,
             };
             (number, Meter::blank())
@@ -111,7 +112,16 @@ impl Pair<'_> {
 
     fn check(&mut self) -> Result<(), String> {
         let given = self.firmware.check();
-        let wanted = if self.model.well_formed() { 1 } else { 14 };
+        let wanted = match (self.model.has_edition(), self.model.well_formed()) {
+            (false, _) => 16,
+            (true, good) => {
+                if good {
+                    1
+                } else {
+                    14
+                }
+            }
+        };
         self.reached.checked(wanted);
         if given != wanted {
             let model = &self.model;

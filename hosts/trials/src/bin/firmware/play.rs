@@ -323,8 +323,10 @@ fn broken(chance: &mut Chance) -> Meter {
         meter = holding(meter, &frame[..frame.len() - 1], true);
     }
     let odd = chance.byte();
-    match chance.below(30) {
+    match chance.below(33) {
         22..=29 => meter.mark = 2,
+        30 | 31 => meter.edition = chance.one_of(&[0, 3, odd]),
+        32 => meter.tables[24] = [chance.one_of(&[0, b'1', b'5', 1]); 24],
         20 => meter.link = chance.one_of(&[0, 3, odd]),
         21 => meter.speed = 5 - meter.speed,
         0 => meter.mode = odd,
@@ -353,7 +355,7 @@ fn broken(chance: &mut Chance) -> Meter {
             meter.place = chance.one_of(&[2, 3, 3, odd]);
         }
         16..=18 => break_periods(chance, &mut meter),
-        _ => meter.tables[chance.below(24)][chance.below(24)] = odd,
+        _ => meter.tables[chance.below(25)][chance.below(24)] = odd,
     }
     meter
 }
@@ -381,7 +383,7 @@ fn any_bytes(chance: &mut Chance) -> Meter {
         },
         counters: [0; 4].map(|_| chance.bits() as u32),
         total: chance.bits() as u32,
-        tables: [[0; 24]; 24].map(|row| row.map(|_| chance.byte())),
+        tables: [[0; 24]; 25].map(|row| row.map(|_| chance.byte())),
         closed: chance.byte(),
         periods: [(); PERIODS].map(|()| Period {
             year: chance.bits() as u16,
@@ -392,6 +394,7 @@ fn any_bytes(chance: &mut Chance) -> Meter {
             counters: [0; 4].map(|_| chance.bits() as u32),
         }),
         link: chance.byte(),
+        edition: chance.one_of(&[1, 2, 0, 3]),
     }
 }
 
@@ -402,7 +405,7 @@ fn facts(chance: &mut Chance) -> Facts {
         account: account(chance).to_vec(),
         password: digits::<8>(chance).to_vec(),
         clock: clock(chance),
-        kind: [1, chance.one_of(&[1, 2]), 0],
+        kind: [chance.one_of(&[1, 2]), chance.one_of(&[1, 2]), 0],
     };
     let odd = chance.byte();
     match chance.below(18) {
@@ -411,7 +414,7 @@ fn facts(chance: &mut Chance) -> Facts {
         16 => facts.kind[2] = chance.one_of(&[1, 5, 255]),
         17 => {
             facts.kind = [
-                chance.one_of(&[0, 1]),
+                chance.one_of(&[0, 1, 2]),
                 chance.one_of(&[1, 3]),
                 chance.one_of(&[0, 1]),
             ]

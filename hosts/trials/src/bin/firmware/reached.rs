@@ -6,7 +6,7 @@ use std::collections::{BTreeMap, BTreeSet};
 use trials::words::wired_line;
 
 /// What must have happened at least once.
-pub const AIMS: [&str; 154] = [
+pub const AIMS: [&str; 181] = [
     "character: 0",
     "character: 1",
     "character: 2",
@@ -161,6 +161,33 @@ pub const AIMS: [&str; 154] = [
     "wired: 9",
     "wired: 10",
     "wired: 11",
+    "half a million cases of edition 2",
+    "edition 2: identified",
+    "edition 2: block",
+    "edition 2: block with twelve periods",
+    "edition 2: table 25 read",
+    "edition 2: table 25 written",
+    "edition 2: Saturday",
+    "edition 2: Sunday",
+    "edition 2: neither",
+    "edition 2: Saturday in a zone that month's tables don't name",
+    "edition 1: Saturday",
+    "edition 1: table 25 refused",
+    "edition 2: table 26 refused",
+    "character: 16",
+    "silence: 16",
+    "tick: 16",
+    "pulse: 16",
+    "power-up: 16",
+    "no event: 16",
+    "check: 16",
+    "16 before 12",
+    "16 before 13",
+    "16 before 14",
+    "row 25 of edition 1",
+    "row 25 of edition 2 with zeros",
+    "make of edition 2",
+    "make: 16 before 18",
 ];
 
 #[derive(Default)]
@@ -177,6 +204,8 @@ pub struct Reached {
     pub blocks: u64,
     /// Events of a good meter on the wired link.
     pub wired: u64,
+    /// Events of a good meter of edition 2.
+    pub second: u64,
     numbers: BTreeMap<u8, u64>,
     zones: [bool; 4],
     met: BTreeSet<String>,
@@ -227,6 +256,9 @@ impl Reached {
             facts.password.len(),
         );
         let link = facts.kind[1] == OPTICAL || facts.kind[1] == WIRED;
+        let [edition, _, decimals] = facts.kind;
+        self.when(edition == 2 && number == 1, "make of edition 2");
+        self.when(number == 16 && decimals != 0, "make: 16 before 18");
         self.when(!link && number == 15, "make, link that is none");
         self.when(
             facts.kind[1] == WIRED && number == 1,
@@ -273,6 +305,7 @@ impl Reached {
                 self.when(!good, "99 before 14");
                 return;
             }
+            16 if kind > 4 => self.reach("no event: 16"),
             number => self.reach(format!("{}: {number}", name_of(kind))),
         }
         self.when(answer.number == 13 && !good, "13 before 14");
@@ -280,6 +313,15 @@ impl Reached {
         self.when(kind < 2 && room == ROOM, "room exact");
         self.when(kind < 2 && room > ROOM, "room greater");
         self.when(kind == 2 && room == 0, "no buffer for a tick");
+        if answer.number == 16 {
+            self.when(kind < 2 && room < ROOM, "16 before 12");
+            self.when(kind == 3 && value > 1_000_000, "16 before 13");
+            self.when(before.mode > 4, "16 before 14");
+            return;
+        }
+        if good && before.edition == 2 {
+            self.of_edition_2(before, kind, answer, after);
+        }
         if good && before.link == WIRED && !matches!(answer.number, 12 | 13) {
             self.on_the_wire(before, (kind, value), answer, after);
         }
@@ -287,6 +329,54 @@ impl Reached {
             12 | 13 => {}
             14 => self.malformed(before),
             _ => self.happened(before, (kind, value), answer, after),
+        }
+    }
+
+    fn of_edition_2(&mut self, before: &Meter, kind: u8, answer: Answer, after: &Meter) {
+        self.second += 1;
+        self.when(self.second == 500_000, "half a million cases of edition 2");
+        let done = answer.number == 1;
+        match kind {
+            0 => {
+                let optical = before.link == OPTICAL && before.mode == 0;
+                self.when(optical && answer.length == 19, "edition 2: identified");
+                let block = before.mode == 1 && answer.length >= before.block_length();
+                self.when(
+                    block && answer.length == before.block_length(),
+                    "edition 2: block",
+                );
+                let twelve = before.block_length() + 12 * PERIOD_LINES;
+                self.when(
+                    block && answer.length == twelve,
+                    "edition 2: block with twelve periods",
+                );
+                let asked = before.held().get(4..9);
+                let saturday = asked == Some(b"Z(25)");
+                self.when(saturday && done, "edition 2: table 25 read");
+                let over = asked == Some(b"Z(26)") && answer.number == 9;
+                self.when(over, "edition 2: table 26 refused");
+                let written = after.tables[24] != before.tables[24];
+                self.when(written, "edition 2: table 25 written");
+            }
+            3 if done => {
+                let (clock, rows) = (before.clock, before.tables);
+                let (month, hour) = (usize::from(clock.month), usize::from(clock.hour));
+                let day = match (clock.saturday(), clock.sunday()) {
+                    (true, _) => "Saturday",
+                    (_, true) => "Sunday",
+                    _ => "neither",
+                };
+                self.reach(format!("edition 2: {day}"));
+                let zone = rows[24][hour];
+                self.when(
+                    clock.saturday()
+                        && ![rows[month - 1], rows[month + 11]]
+                            .iter()
+                            .any(|row| row[hour] == zone),
+                    "edition 2: Saturday in a zone that month's tables don't name",
+                );
+            }
+            _ => {}
         }
     }
 
@@ -317,7 +407,8 @@ impl Reached {
         if kind == 0 && before.mode == 1 {
             let slow = before.held().starts_with(&[ACK, b'0', b'0']);
             self.when(slow && answer.number == 2, "wired: 2 for the digit 0");
-            self.when(answer.length == BLOCK, "wired: block");
+            let block = answer.length == before.block_length();
+            self.when(block, "wired: block");
             self.when(after.mode == 2 && answer.speed == 5, "wired: session");
         }
         if let refused @ 3..=11 = answer.number {
@@ -370,7 +461,16 @@ impl Reached {
         let (total, rest) = (u64::from(meter.total), sum % 1_000_000_000);
         self.when(total + 1 == rest || rest + 1 == total, "total off by one");
         self.when(total == sum && sum != rest, "total not rolled over");
-        let zones = meter.tables.as_flattened();
+        let spare = meter.tables[24];
+        self.when(
+            meter.edition == 1 && spare != [0; 24],
+            "row 25 of edition 1",
+        );
+        self.when(
+            meter.edition == 2 && spare == [0; 24],
+            "row 25 of edition 2 with zeros",
+        );
+        let zones = meter.tables[..24].as_flattened();
         self.when(
             zones.iter().any(|zone| !b"1234".contains(zone)),
             "bad table",
@@ -458,7 +558,7 @@ impl Reached {
                 if before.mode == 1 && answer.length > 0 && choice {
                     self.blocks += 1;
                     self.month();
-                    let periods = (answer.length - BLOCK) / PERIOD_LINES;
+                    let periods = (answer.length - before.block_length()) / PERIOD_LINES;
                     self.when(periods == 0, "block with no period");
                     self.when(periods == 1, "block with one period");
                     self.when(periods == 12, "block with twelve periods");
@@ -518,6 +618,9 @@ impl Reached {
                     }
                 }
                 self.when(answer.length == BLOCK, "data block sent");
+                let other = before.edition == 1 && answer.number == 9;
+                let table = before.held().get(4..8) == Some(b"Z(25");
+                self.when(other && table, "edition 1: table 25 refused");
                 self.when(after.tables != before.tables, "row written");
                 self.when(after.account != before.account, "account written");
                 self.when(after.clock != before.clock, "clock written");
@@ -539,6 +642,8 @@ impl Reached {
                 self.when(years == (2099, 2000), "end of 2099");
             }
             3 => {
+                let first = before.edition == 1 && before.clock.saturday();
+                self.when(first, "edition 1: Saturday");
                 for zone in 0..4 {
                     self.zones[zone] |= after.counters[zone] != before.counters[zone];
                     let rolled = after.counters[zone] < before.counters[zone];

@@ -58,9 +58,22 @@ pub enum Fault {
     KeepsItsModeOnTheWire,
     AnswersZerosWithZeros,
     WakesAt300OnTheWire,
+    HasOneEdition,
+    SaturdayIsAWeekend,
+    SundayIsASaturday,
+    SaturdayOfEdition1,
+    ShowsTwentyFourTables,
+    WritesTable25OfEdition1,
+    RefusesTable25,
+    MalformedForAnEdition,
+    RoomBeforeTheEdition,
+    NoEventBeforeTheEdition,
+    ChecksNoRow25,
+    MakesNoRow25,
+    DecimalsBeforeTheEdition,
 }
 
-pub const FAULTS: [Fault; 50] = [
+pub const FAULTS: [Fault; 63] = [
     Fault::TakesAMarkOfTwo,
     Fault::MalformedBeforeRoom,
     Fault::RoomBeforeThePulse,
@@ -111,6 +124,19 @@ pub const FAULTS: [Fault; 50] = [
     Fault::KeepsItsModeOnTheWire,
     Fault::AnswersZerosWithZeros,
     Fault::WakesAt300OnTheWire,
+    Fault::HasOneEdition,
+    Fault::SaturdayIsAWeekend,
+    Fault::SundayIsASaturday,
+    Fault::SaturdayOfEdition1,
+    Fault::ShowsTwentyFourTables,
+    Fault::WritesTable25OfEdition1,
+    Fault::RefusesTable25,
+    Fault::MalformedForAnEdition,
+    Fault::RoomBeforeTheEdition,
+    Fault::NoEventBeforeTheEdition,
+    Fault::ChecksNoRow25,
+    Fault::MakesNoRow25,
+    Fault::DecimalsBeforeTheEdition,
 ];
 
 pub struct Wrong {
@@ -210,11 +236,13 @@ impl Wrong {
             Some(Fault::DropsTheNewest) if closed && before.closed == 12 => {
                 meter.periods = before.periods;
             }
-            Some(Fault::SixIsThePlainBlock) if answer.length > BLOCK => {
+            Some(Fault::SixIsThePlainBlock)
+                if answer.length > BLOCK && answer.length > before.block_length() =>
+            {
                 for (place, character) in reply.iter_mut().zip(before.data_block()) {
                     *place = with_parity(character);
                 }
-                answer.length = BLOCK;
+                answer.length = before.block_length();
             }
             _ => {}
         }
@@ -223,6 +251,14 @@ impl Wrong {
     /// What the fault makes of the event, before the model has it.
     fn turned(&self, kind: u8, value: u32, room: usize) -> Result<(u8, u32), u8> {
         let good = self.meter.well_formed();
+        if !self.meter.has_edition() {
+            return match self.fault {
+                Some(Fault::MalformedForAnEdition) => Err(14),
+                Some(Fault::RoomBeforeTheEdition) if kind < 2 && room < ROOM => Err(12),
+                Some(Fault::NoEventBeforeTheEdition) if kind > 4 => Err(library::NO_EVENT),
+                _ => Ok((kind, value)),
+            };
+        }
         match self.fault {
             Some(Fault::MalformedBeforeRoom) if kind < 2 && !good && room < ROOM => Err(14),
             Some(Fault::RoomBeforeThePulse) if kind == 3 && room < 1 => Err(12),
@@ -254,7 +290,13 @@ impl Firmware for Wrong {
             Some(Fault::MakesOfAnyClock) if given.clock.second == 60 => given.clock.second = 59,
             _ => {}
         }
-        let (number, meter) = made(&given);
+        if self.fault == Some(Fault::DecimalsBeforeTheEdition) && given.kind[2] != 0 {
+            given.kind[0] = 1;
+        }
+        let (number, mut meter) = made(&given);
+        if self.fault == Some(Fault::MakesNoRow25) {
+            meter.tables[24] = [0; 24];
+        }
         if number == 1 || self.fault != Some(Fault::BadFactsKeepTheRecord) {
             self.meter = meter;
         }
@@ -268,7 +310,7 @@ impl Firmware for Wrong {
     fn check(&mut self) -> u8 {
         let mut meter = self.meter.clone();
         if self.fault == Some(Fault::ChecksNoTable) {
-            meter.tables = Meter::blank().tables;
+            meter.tables[..24].fill([b'1'; 24]);
         }
         if self.fault == Some(Fault::ChecksNoPeriod) {
             meter.closed = 0;
@@ -277,10 +319,13 @@ impl Firmware for Wrong {
         if self.fault == Some(Fault::ChecksNoTotal) {
             meter.total = total_of(&meter.counters);
         }
-        if meter.well_formed() {
-            1
-        } else {
-            14
+        if self.fault == Some(Fault::ChecksNoRow25) && meter.edition == 1 {
+            meter.tables[24] = [0; 24];
+        }
+        match (meter.has_edition(), meter.well_formed()) {
+            (false, _) => 16,
+            (true, true) => 1,
+            (true, false) => 14,
         }
     }
 
@@ -327,7 +372,40 @@ impl Firmware for Wrong {
             0 if kind == 0 && value == 0x0A => [before.held(), b"\n"].concat(),
             _ => Vec::new(),
         };
+        let (first, second) = (before.edition == 1, before.edition == 2);
+        let on = before.clock;
+        let good = before.well_formed();
+        // The edition that it takes itself for, and the day that it takes for another.
+        let edition = match self.fault {
+            Some(Fault::HasOneEdition) if second && good && before.mode == 0 => 1,
+            Some(Fault::SaturdayIsAWeekend) if second && good && kind == 3 => 1,
+            Some(Fault::ShowsTwentyFourTables) if second && good && before.mode == 1 => 1,
+            Some(Fault::RefusesTable25) if second && good && before.mode > 2 => 1,
+            Some(Fault::SaturdayOfEdition1) if first && good && kind == 3 => 2,
+            Some(Fault::WritesTable25OfEdition1) if first && good && before.mode == 4 => 2,
+            _ => before.edition,
+        };
+        if edition != before.edition {
+            self.meter.edition = edition;
+            self.meter.tables[24] = [if edition == 2 { b'1' } else { 0 }; 24];
+        }
+        let sunday = self.fault == Some(Fault::SundayIsASaturday) && kind == 3 && second && good;
+        if sunday && on.sunday() {
+            let month = usize::from(on.month);
+            self.meter.tables[month + 11] = before.tables[24];
+        }
         let mut answer = ruled(&mut self.meter, kind, value, reply);
+        if edition != before.edition || sunday {
+            self.meter.edition = before.edition;
+            let spare = self.meter.tables[24];
+            let kept = spare == [0; 24] || spare == [b'1'; 24];
+            if kept || second {
+                self.meter.tables[24] = before.tables[24];
+            }
+            if sunday {
+                self.meter.tables = before.tables;
+            }
+        }
         let restarted = kind == 0 && value as u8 == SOH | 0x80 && self.meter.count == 1;
         if restarted {
             self.begun = self.received;

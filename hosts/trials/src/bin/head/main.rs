@@ -247,12 +247,13 @@ const BARE: [Command; 8] = [
 /// A command with a field of characters, and what that field is made of.
 type Filled = (for<'a> fn(&'a [u8]) -> Command<'a>, &'static [u8], usize);
 
-const FILLED: [Filled; 5] = [
+const FILLED: [Filled; 6] = [
     (|serial| Command::SignOnTo(serial), DIGITS, 10),
     (|serial| Command::SignOnWired(serial), DIGITS, 10),
     (|password| Command::Password(password), DIGITS, 8),
     (|account| Command::WriteAccount(account), ACCOUNT, 10),
-    (|row| Command::WriteTable(24, row), ZONES, 24),
+    (|row| Command::WriteTable(1, 24, row), ZONES, 24),
+    (|row| Command::WriteTable(2, 25, row), ZONES, 24),
 ];
 
 fn commands(t: &mut Trial) -> Outcome {
@@ -270,8 +271,12 @@ fn commands(t: &mut Trial) -> Outcome {
                 Command::Confirm(byte, b'1'),
                 Command::Confirm(byte, b'6'),
                 Command::ReadZone(byte),
-                Command::ReadTable(byte),
-                Command::WriteTable(byte, &row),
+                Command::ReadTable(1, byte),
+                Command::WriteTable(1, byte, &row),
+                Command::ReadTable(2, byte),
+                Command::WriteTable(2, byte, &row),
+                Command::ReadTable(byte, 24),
+                Command::WriteTable(byte, 25, &row),
             ] {
                 t.build(&command, room)?;
             }
@@ -358,14 +363,18 @@ fn any_command(t: &mut Trial) -> Outcome {
         }
         return t.build(&filled(&field), room);
     }
+    let edition = match t.chance.below(10) {
+        0 => t.chance.byte(),
+        odd => 1 + odd as u8 % 2,
+    };
     let row: [u8; 24] = t.chance.texts(ZONES);
     let command = match kind {
         4 => BARE[t.chance.below(BARE.len())],
         5 if t.chance.one_in(2) => Command::Confirm(b'0', t.chance.odd_byte()),
         5 => Command::Confirm(t.chance.odd_byte(), b'7'),
         6 => Command::ReadZone(number % 8),
-        7 => Command::ReadTable(number),
-        8 => Command::WriteTable(table, &row),
+        7 => Command::ReadTable(edition, number),
+        8 => Command::WriteTable(edition, table, &row),
         _ => Command::WriteClock(t.chance.clock()),
     };
     t.build(&command, room)
@@ -785,6 +794,10 @@ enum Fault {
     WritesBeforeItChecks,
     FieldBeforeRoom,
     BuildsInRoom63,
+    TakesTable25OfEdition1,
+    RefusesTable25,
+    RoomBeforeEdition,
+    FieldForAnEdition,
     ClearsPastTheCommand,
     ConfirmsEight,
     RefusesSix,
@@ -819,10 +832,14 @@ enum Fault {
     ZeroCharacters,
 }
 
-const FAULTS: [(Fault, Section); 35] = [
+const FAULTS: [(Fault, Section); 39] = [
     (Fault::WritesBeforeItChecks, commands),
     (Fault::FieldBeforeRoom, commands),
     (Fault::BuildsInRoom63, commands),
+    (Fault::TakesTable25OfEdition1, commands),
+    (Fault::RefusesTable25, commands),
+    (Fault::RoomBeforeEdition, commands),
+    (Fault::FieldForAnEdition, commands),
     (Fault::ClearsPastTheCommand, commands),
     (Fault::ConfirmsEight, commands),
     (Fault::RefusesSix, commands),
@@ -864,9 +881,26 @@ impl Head for Wrong {
         let told = model::build(command, out);
         match (self.0, told) {
             (Fault::WritesBeforeItChecks, (answer::FIELD, _)) => out[0] = 0x81,
-            (Fault::FieldBeforeRoom, _) if model::characters(command).is_none() => {
+            (Fault::FieldBeforeRoom, (answer::SHORT_ROOM, _))
+                if model::characters(command).is_none() =>
+            {
                 return (answer::FIELD, 0)
             }
+            (Fault::TakesTable25OfEdition1, (answer::FIELD, _)) => {
+                if let Command::ReadTable(1, 25) = *command {
+                    return model::build(&Command::ReadTable(2, 25), out);
+                }
+            }
+            (Fault::RefusesTable25, (answer::DONE, _))
+                if matches!(command, Command::ReadTable(_, 25)) =>
+            {
+                return (answer::FIELD, 0)
+            }
+            (Fault::RoomBeforeEdition, (answer::NO_EDITION, _)) if out.len() < 64 => {
+                return (answer::SHORT_ROOM, 0)
+            }
+            (Fault::FieldForAnEdition, (answer::NO_EDITION, _)) => return (answer::FIELD, 0),
+            (Fault::BuildsInRoom63, (answer::NO_EDITION, _)) => (),
             (Fault::BuildsInRoom63, _) if out.len() == 63 => {
                 let mut wider = [0; 64];
                 let told = model::build(command, &mut wider);

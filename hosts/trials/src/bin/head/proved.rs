@@ -54,13 +54,13 @@ impl Head for Proved {
             Command::ReadAccount => head::read_account(out),
             Command::ReadTotal => head::read_total(out),
             Command::ReadZone(zone) => head::read_zone(zone, out),
-            Command::ReadTable(table) => head::read_table(table, out),
+            Command::ReadTable(edition, table) => head::read_table(edition, table, out),
             Command::WriteClock(c) => {
                 head::write_clock(c.year, [c.month, c.day, c.hour, c.minute, c.second], out)
             }
             Command::WriteAccount(text) => self.on(text, |text| head::write_account(text, out)),
-            Command::WriteTable(table, row) => {
-                self.on(row, |row| head::write_table(table, row, out))
+            Command::WriteTable(edition, table, row) => {
+                self.on(row, |row| head::write_table(edition, table, row, out))
             }
             Command::SignOff => head::sign_off(out),
         }

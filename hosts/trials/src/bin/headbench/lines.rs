@@ -4,7 +4,7 @@ use model::bench::{put_hex, LINE_MOST};
 use model::card::{self, Card};
 use model::head::{block, on_the_wire};
 use model::mercury::{closed, energy};
-use model::post::{text_of, Table};
+use model::post::{tables_of, text_of, Table};
 use model::session::Session;
 use trials::chance::Chance;
 use trials::head_words::{ACCOUNT, ADDRESS, DIGITS, VALUE, ZONES};
@@ -73,24 +73,47 @@ pub fn fixed() -> Vec<Vec<u8>> {
         "build wired 64",
         "build serial 64 31",
         "build serial 64 3",
+        "build settable 64 1 24 -",
         "build settable 64 24 -",
+        "build settable 63 0 25 -",
+        "build settable 63 2 25 -",
+        "build table 64 1 24",
+        "build table 64 1 25",
+        "build table 64 2 25",
+        "build table 64 2 26",
+        "build table 64 3 1",
+        "build table 63 3 1",
+        "build table 64 256 1",
+        "build table 64 1",
         "value",
         "value serial",
         "value serial -",
         "value nothing -",
         "check",
         "check -",
-        "check 31 31",
+        "check 1 -",
+        "check 2 -",
+        "check 0 -",
+        "check 3 31",
+        "check 256 -",
+        "check 1 31 31",
+        "export 1 0 -",
+        "export 3 0 -",
         "export 0 -",
         "card",
         "card 0",
         "card -",
         "card 0 -",
-        "card 19 01000a53545544494f5f372020",
-        "card 18 01000a53545544494f5f372020",
+        "card 1 0 -",
+        "card 0 0 -",
         "card 1 19 01000a53545544494f5f372020",
-        "card 18446744073709551616 -",
-        "export 18446744073709551615 -",
+        "card 2 18 01000a53545544494f5f372020",
+        "card 3 19 01000a53545544494f5f372020",
+        "card 256 19 01000a53545544494f5f372020",
+        "card 1 1 19 01000a53545544494f5f372020",
+        "card 19 01000a53545544494f5f372020",
+        "card 1 18446744073709551616 -",
+        "export 1 18446744073709551615 -",
         "strip 0 -",
         "strip 1 2a",
         "strip 1 aa",
@@ -123,28 +146,38 @@ pub fn fixed() -> Vec<Vec<u8>> {
         "quiet",
         "reply 06",
         "session",
-        "session any",
-        "session any open",
-        "session any open reads",
-        "quiet",
+        "session 1",
+        "session 1 any",
         "session any open reads T",
+        "session 0 any open reads",
+        "session 3 any open reads T",
+        "session 256 any open reads T",
+        "session 2 any open reads T",
+        "reply af5a5a5a355355422d5650b1b12e3030aa8d0a",
+        "session 2 any open reads Z25",
         "reply af5a5a5a355355422d565030b12e3030aa8d0a",
-        "session any open reads G0",
-        "session any open reads E256",
-        "session any open reads E",
-        "session any open reads E-1",
-        "session any open reads T1",
-        "session any open reads ",
-        "session any open reads T  T",
-        "session any open reads t",
-        "session any open posts -",
-        "session any open post",
-        "session any open post - -",
-        "session any open read T",
-        "session Any open reads T",
-        "session 3 open reads T",
-        "session any 3 reads T",
-        "session any open post 3",
+        "session 2 any open reads Z26",
+        "session 1 any open",
+        "session 1 any open reads",
+        "quiet",
+        "session 1 any open reads T",
+        "reply af5a5a5a355355422d565030b12e3030aa8d0a",
+        "session 1 any open reads G0",
+        "session 1 any open reads E256",
+        "session 1 any open reads E",
+        "session 1 any open reads E-1",
+        "session 1 any open reads T1",
+        "session 1 any open reads ",
+        "session 1 any open reads T  T",
+        "session 1 any open reads t",
+        "session 1 any open posts -",
+        "session 1 any open post",
+        "session 1 any open post - -",
+        "session 1 any open read T",
+        "session 1 Any open reads T",
+        "session 1 3 open reads T",
+        "session 1 any 3 reads T",
+        "session 1 any open post 3",
         "quiet 1",
         "quiet ",
         "reply",
@@ -155,14 +188,14 @@ pub fn fixed() -> Vec<Vec<u8>> {
         "reply 95",
         "reply 06",
         "quiet",
-        "session - open reads T",
-        "session any - reads T",
+        "session 1 - open reads T",
+        "session 1 any - reads T",
         "reply 06",
-        "session any open post -",
-        "session any open reads E0 E1 E2 E3 E4 E5",
-        "session any open reads Z1 Z024 Z24 Z25",
-        "session any open reads Z0",
-        "session any open reads Z000000000000000000001 E00",
+        "session 1 any open post -",
+        "session 1 any open reads E0 E1 E2 E3 E4 E5",
+        "session 1 any open reads Z1 Z024 Z24 Z25",
+        "session 1 any open reads Z0",
+        "session 1 any open reads Z000000000000000000001 E00",
         "reply -",
         "dump",
         "\0",
@@ -171,13 +204,13 @@ pub fn fixed() -> Vec<Vec<u8>> {
     .into();
     // Lists of so many reads, and lists of so many words that a bench has to keep them somewhere.
     for count in [31, 32, 33, 252, 253, 254, 255, 256, 257, 1_000, 131_059] {
-        let mut line = b"session any open reads".to_vec();
+        let mut line = b"session 1 any open reads".to_vec();
         line.extend(b" T".repeat(count));
         lines.push(line);
     }
     // The longest line there is, and one more.
     for length in [LINE_MOST, LINE_MOST + 1, LINE_MOST + 2, 3 * LINE_MOST] {
-        for start in ["check ", "strip 999999 ", "strip 0099999 "] {
+        for start in ["check 1 ", "strip 999999 ", "strip 0099999 "] {
             let mut line = start.as_bytes().to_vec();
             line.resize(length, b'0');
             lines.push(line);
@@ -195,7 +228,7 @@ pub fn any(chance: &mut Chance, session: Option<(&Session, &[u8])>) -> Vec<u8> {
         2 => part(chance),
         3 => next(chance),
         4 => value(chance),
-        5 => format!("check {}", hex(&post(chance))),
+        5 => format!("check {} {}", edition(chance), hex(&post(chance))),
         6 => export(chance),
         7 => find(chance),
         8 => mercury(chance),
@@ -266,11 +299,12 @@ fn build(chance: &mut Chance) -> String {
         }
         2 => format!("password {room} {}", field(chance, DIGITS, 8)),
         3 => format!("energy {room} {}", short(chance, 0, 5)),
-        4 => format!("table {room} {}", short(chance, 0, 26)),
+        4 => format!("table {room} {} {}", edition(chance), short(chance, 0, 27)),
         5 => format!("setaccount {room} {}", field(chance, ACCOUNT, 10)),
         6 => {
-            let table = short(chance, 0, 26);
-            format!("settable {room} {table} {}", field(chance, ZONES, 24))
+            let (edition, table) = (edition(chance), short(chance, 0, 27));
+            let row = field(chance, ZONES, 24);
+            format!("settable {room} {edition} {table} {row}")
         }
         7 => {
             let c = chance.clock();
@@ -407,7 +441,7 @@ fn value(chance: &mut Chance) -> String {
 fn tables(chance: &mut Chance) -> Vec<Table> {
     let share = chance.one_of(&[4, 4, 4, 10, 30, 100]);
     let mut tables = Vec::new();
-    for number in 1..=24 {
+    for number in 1..=chance.one_of(&[24, 25]) {
         if chance.percent(share) {
             let row = chance.texts(ZONES);
             tables.push(Table { number, row });
@@ -435,13 +469,23 @@ fn card(chance: &mut Chance) -> String {
     if chance.percent(40) {
         chance.hurt(&mut text);
     }
-    format!("card {} {}", room(chance, needed), hex(&text))
+    format!(
+        "card {} {} {}",
+        edition(chance),
+        room(chance, needed),
+        hex(&text)
+    )
 }
 
 fn export(chance: &mut Chance) -> String {
     let text = post(chance);
     let needed = text.len() / 36 * 36;
-    format!("export {} {}", room(chance, needed), hex(&text))
+    format!(
+        "export {} {} {}",
+        edition(chance),
+        room(chance, needed),
+        hex(&text)
+    )
 }
 
 /// A Mercury meter, asked or answering.
@@ -477,15 +521,17 @@ fn mercury(chance: &mut Chance) -> String {
 }
 
 /// A session with just so many messages of work.
-pub fn session(chance: &mut Chance, kind: &str, count: usize) -> Vec<u8> {
+pub fn session(chance: &mut Chance, edition: u8, kind: &str, count: usize) -> Vec<u8> {
     let line = match kind {
         "post" => {
-            let text = session_words::post(chance, count);
-            format!("session any 3230333034303530 post {}", hex(&text))
+            let highest = tables_of(edition).expect("it is one");
+            let text = session_words::post(chance, highest, count);
+            format!("session {edition} any 3230333034303530 post {}", hex(&text))
         }
-        _ => (0..count).fold("session any open reads".into(), |line, _| {
-            format!("{line} {}", read(chance))
-        }),
+        _ => {
+            let start = format!("session {edition} any open reads");
+            (0..count).fold(start, |line, _| format!("{line} {}", read(chance, edition)))
+        }
     };
     line.into_bytes()
 }
@@ -498,8 +544,8 @@ pub fn right(chance: &mut Chance, session: Option<(&Session, &[u8])>) -> Option<
 }
 
 /// A good read as a line has it.
-fn read(chance: &mut Chance) -> String {
-    let [letter, number] = session_words::read(chance);
+fn read(chance: &mut Chance, edition: u8) -> String {
+    let [letter, number] = session_words::read(chance, edition);
     let number = match letter {
         b'E' | b'Z' => number.to_string(),
         _ => String::new(),
@@ -507,8 +553,18 @@ fn read(chance: &mut Chance) -> String {
     format!("{}{number}", char::from(letter))
 }
 
+/// An edition, now and then one that there is not.
+fn edition(chance: &mut Chance) -> u8 {
+    match chance.below(14) {
+        0 => chance.one_of(&[0, 3]),
+        1 => chance.byte(),
+        odd => 1 + odd as u8 % 2,
+    }
+}
+
 /// A session, mostly one with little to do.
 fn start(chance: &mut Chance) -> String {
+    let edition = edition(chance);
     let start = match chance.below(2) {
         0 => "any".into(),
         _ => field(chance, DIGITS, 10),
@@ -518,7 +574,8 @@ fn start(chance: &mut Chance) -> String {
             0 => "open".into(),
             _ => field(chance, DIGITS, 8),
         };
-        return format!("session {start} {access} post {}", hex(&post(chance)));
+        let text = hex(&post(chance));
+        return format!("session {edition} {start} {access} post {text}");
     }
     let access = match chance.below(2) {
         0 => "open".into(),
@@ -529,13 +586,13 @@ fn start(chance: &mut Chance) -> String {
         1 => chance.between(31, 34),
         _ => chance.between(1, 3),
     };
-    let mut line = format!("session {start} {access} reads");
+    let mut line = format!("session {edition} {start} {access} reads");
     for _ in 0..count {
         line += " ";
         line += &match chance.below(40) {
             0 => format!("E{}", short(chance, 0, 5)),
-            1 => format!("Z{}", short(chance, 0, 26)),
-            _ => read(chance),
+            1 => format!("Z{}", short(chance, 0, 27)),
+            _ => read(chance, edition),
         };
     }
     line

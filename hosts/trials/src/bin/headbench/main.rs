@@ -52,11 +52,17 @@ impl Script<'_> {
     }
 }
 
-/// Whole sessions, of 1 to 32 reads and of posts of 1 to 24 lines.
+/// Whole sessions, of 1 to 32 reads and of posts of 1 to 24 lines, or to 25 of edition 2.
 fn sessions(script: &mut Script, chance: &mut Chance) {
-    for (kind, most) in [("reads", 32), ("post", 24)] {
+    let kinds = [
+        (1, "reads", 32),
+        (2, "reads", 32),
+        (1, "post", 24),
+        (2, "post", 25),
+    ];
+    for (edition, kind, most) in kinds {
         for count in 1..=most {
-            script.line(&lines::session(chance, kind, count));
+            script.line(&lines::session(chance, edition, kind, count));
             while let Some(line) = lines::right(chance, script.bench.session()) {
                 script.line(&line);
             }

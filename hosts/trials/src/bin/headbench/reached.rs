@@ -2,6 +2,7 @@
 
 use model::session::Session;
 use std::collections::BTreeMap;
+use trials::session_words::identification;
 
 /// Each call with the numbers that it can answer.
 const CALLS: &[(&str, &[u8])] = &[
@@ -16,10 +17,10 @@ const CALLS: &[(&str, &[u8])] = &[
     ("build number", &[1, 19]),
     ("build account", &[1, 19]),
     ("build energy", &[1, 9, 19]),
-    ("build table", &[1, 9, 19]),
+    ("build table", &[1, 9, 16, 19]),
     ("build setclock", &[1, 9, 19]),
     ("build setaccount", &[1, 9, 19]),
-    ("build settable", &[1, 9, 19]),
+    ("build settable", &[1, 9, 16, 19]),
     ("build break", &[1, 19]),
     ("value serial", &[1, 25]),
     ("value account", &[1, 25]),
@@ -30,14 +31,14 @@ const CALLS: &[(&str, &[u8])] = &[
     ("value period", &[1, 25]),
     ("mercury ask", &[1, 54, 55]),
     ("mercury read", &[1, 50, 51, 52, 53]),
-    ("check", &[1, 20]),
-    ("export", &[1, 20, 21]),
-    ("card", &[1, 40, 41]),
+    ("check", &[1, 16, 20]),
+    ("export", &[1, 16, 20, 21]),
+    ("card", &[1, 16, 40, 41]),
     ("strip", &[1, 24, 26]),
     ("part", &[1, 22, 23]),
     ("next", &[0, 1, 25]),
     ("find", &[1, 25, 27]),
-    ("session", &[1, 9, 20, 28, 29, 30]),
+    ("session", &[1, 9, 16, 20, 28, 29, 30]),
 ];
 
 /// What must have happened beside that.
@@ -61,6 +62,15 @@ const MORE: &[&str] = &[
     "line that is one too long",
     "total asked for",
     "table 24",
+    "table 25",
+    "table 25 of edition 1",
+    "16 with too little room",
+    "25 lines exported",
+    "25 lines for edition 1",
+    "a card of 25 tables read",
+    "a session of edition 2 done",
+    "the last message of 25 lines",
+    "the other edition's identification",
     "24 lines exported",
     "a card of 24 tables read",
     "place past the end",
@@ -105,6 +115,13 @@ pub fn aims() -> Vec<String> {
             .map(move |number| format!("{call}: {number}"))
     });
     calls.chain(MORE.iter().map(|&aim| aim.into())).collect()
+}
+
+/// The line that brings the other edition's identification.
+fn other(edition: u8) -> String {
+    let mut line = String::from("reply ");
+    model::bench::put_hex(&mut line, &identification(3 - edition));
+    line
 }
 
 fn hex_length(word: &str) -> usize {
@@ -168,6 +185,15 @@ impl Reached {
             (Some(session), Some("next 28 8142300371")) if session.count == 24 => {
                 self.reach("the last message of 24 lines");
             }
+            (Some(session), Some("next 29 8142300371")) if session.work == 1 => {
+                self.reach("the last message of 25 lines");
+            }
+            (Some(session), Some("wrong 1 -")) if line == other(session.edition).as_bytes() => {
+                self.reach("the other edition's identification");
+            }
+            (Some(session), Some(told)) if session.edition == 2 && told.starts_with("done ") => {
+                self.reach("a session of edition 2 done");
+            }
             _ => {}
         }
     }
@@ -182,6 +208,12 @@ impl Reached {
         let done = told[0] == "1";
         let has_room =
             call.starts_with("build") || matches!(&call[..], "export" | "card" | "strip");
+        // The edition stands before the room of these, and behind that of a table's command.
+        let (edition, rest) = match &call[..] {
+            "check" | "export" | "card" | "session" => (Some(rest[0]), &rest[1..]),
+            "build table" | "build settable" => (Some(rest[1]), rest),
+            _ => (None, rest),
+        };
         if has_room {
             let room: u64 = rest[0].parse().expect("it was taken");
             let exact = match (words[0], done) {
@@ -204,7 +236,21 @@ impl Reached {
         }
         match (&call[..], done) {
             ("build energy", true) if rest[1] == "0" => self.reach("total asked for"),
-            ("build table" | "build settable", true) if rest[1] == "24" => self.reach("table 24"),
+            ("build table" | "build settable", true) if rest[2] == "24" => self.reach("table 24"),
+            ("build table" | "build settable", true) if rest[2] == "25" => self.reach("table 25"),
+            ("build table", false) if edition == Some("1") && rest[2] == "25" => {
+                self.reach("table 25 of edition 1");
+            }
+            ("build table" | "export" | "card", false)
+                if told[0] == "16" && rest[0].parse::<u64>().is_ok_and(|room| room < 19) =>
+            {
+                self.reach("16 with too little room");
+            }
+            ("export", true) if told[1] == "900" => self.reach("25 lines exported"),
+            ("check", false) if told[1] == "864" && edition == Some("1") => {
+                self.reach("25 lines for edition 1");
+            }
+            ("card", true) if told[1] == "919" => self.reach("a card of 25 tables read"),
             ("strip", false) if told[0] == "24" => self.hurt(rest[1], told[3]),
             ("build confirm", true) if rest[2] == "36" => {
                 self.reach("the block with periods confirmed");

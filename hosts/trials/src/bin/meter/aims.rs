@@ -381,7 +381,7 @@ impl Aim<'_> {
         let mode = chance.below(5) as u8;
         let mut meter = state(chance, mode);
         for _ in 0..chance.one_of(&[1, 1, 1, 2, 4]) {
-            match chance.below(18) {
+            match chance.below(20) {
                 0 => meter.mode = chance.between(5, 255) as u8,
                 1 => meter.count = chance.byte(),
                 2 => meter.held[chance.below(PLACES)] = chance.byte(),
@@ -400,7 +400,9 @@ impl Aim<'_> {
                     meter.place = chance.one_of(&[2, 4, 4, 5, 255]);
                 }
                 14..=16 => break_periods(chance, &mut meter),
-                _ => meter.tables[chance.below(24)][chance.below(24)] = chance.byte(),
+                17 => meter.edition = chance.one_of(&[0, 1, 2, 3, 255]),
+                18 => meter.tables[24] = [chance.one_of(b"\x001"); 24],
+                _ => meter.tables[chance.below(25)][chance.below(24)] = chance.byte(),
             }
         }
         self.player.set(&meter);

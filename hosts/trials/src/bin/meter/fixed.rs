@@ -94,6 +94,7 @@ impl Shown {
             let (changed, row) = self.row;
             tables += &hex(if table == changed { row } else { ALL_ONES }.bytes());
         }
+        tables += &"00".repeat(24);
         let sum: u64 = self
             .counters
             .split(' ')
@@ -106,7 +107,7 @@ impl Shown {
             periods += self.periods.get(place).unwrap_or(&"0 0 0 0 0 0 0 0 0");
         }
         format!(
-            "{} {count} {} {held} {} {} {} {} {} {} {tables} {} {} {total} {periods}",
+            "{} {count} {} {held} {} {} {} {} {} {} {tables} {} {} 1 {total} {periods} 1",
             self.mode,
             self.mark,
             hex(self.serial.bytes()),
@@ -283,12 +284,12 @@ pub fn all() -> Vec<Played> {
 /// Every byte written out: sign-on, password, table 01, good-bye.
 fn by_hand() -> Fixed {
     let row = "b1".repeat(24);
-    let tables = "31".repeat(576);
+    let tables = "31".repeat(576) + &"00".repeat(24);
     let write = format!("bytes 81d7b1825a2830b1bb{row}a90306");
     let taken = "0 5 0 - 0\n".repeat(35) + "1 5 1 06 0";
     let state = format!(
         "4 0 0 {} 31323334353637383930 4b696c6e5f37206f6c64 3230333034303530 0 2024 2 29 8 5 9 \
-         0 0 0 0 {tables} 5 0 0 0{}",
+         0 0 0 0 {tables} 5 0 1 0 0{} 1",
         "00".repeat(63),
         " 0 0 0 0 0 0 0 0 0".repeat(12)
     );
@@ -1418,7 +1419,7 @@ fn script_rules() -> Vec<Fixed> {
         fields[place] = field;
         format!("set {}", fields.join(" "))
     };
-    let tables = "31".repeat(577);
+    let tables = "31".repeat(576);
     vec![
         errors.dump(MADE),
         Fixed::listening("a spoiled set changes nothing")
@@ -1429,12 +1430,13 @@ fn script_rules() -> Vec<Fixed> {
             .line(&spoiled(18, &tables), "error")
             .line(&spoiled(19, "256"), "error")
             .line(&spoiled(20, "256"), "error")
-            .line(&spoiled(21, "4294967296"), "error")
-            .line(&spoiled(22, "256"), "error")
-            .line(&spoiled(23, "65536"), "error")
-            .line(&spoiled(27, "256"), "error")
-            .line(&spoiled(28, "4294967296"), "error")
-            .line(&spoiled(22, "0 0"), "error")
+            .line(&spoiled(21, "256"), "error")
+            .line(&spoiled(22, "4294967296"), "error")
+            .line(&spoiled(23, "256"), "error")
+            .line(&spoiled(24, "65536"), "error")
+            .line(&spoiled(28, "256"), "error")
+            .line(&spoiled(29, "4294967296"), "error")
+            .line(&spoiled(23, "0 0"), "error")
             .line(&format!("set 256{}", &shown[1..]), "error")
             .line(&format!("set 0 0 256{}", &shown[5..]), "error")
             .dump(MADE)

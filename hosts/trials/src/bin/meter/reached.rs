@@ -12,6 +12,12 @@ use std::collections::BTreeMap;
 const AIMS: &[&str] = &[
     "new, good facts",
     "new, bad facts",
+    "new, no edition",
+    "card of no edition",
+    "pulse of edition 2, Saturday",
+    "pulse of edition 2, Sunday",
+    "pulse of edition 2, Monday to Friday",
+    "16",
     "set",
     "dump",
     "card written",
@@ -194,6 +200,9 @@ const RANGES: &[&str] = &[
     "total",
     "total not rolled over",
     "table",
+    "edition",
+    "table 25 of edition 1",
+    "table 25 of edition 2",
     "number of periods",
     "period's year below",
     "period's year above",
@@ -215,9 +224,11 @@ const EVENTS: [&str; 5] = ["character", "silence", "tick", "power-up", "pulse"];
 
 pub struct Reached {
     pub events: u64,
-    answers: [u64; 16],
+    /// Of a good meter of edition 2.
+    pub second: u64,
+    answers: [u64; 17],
     /// Answers to characters by mode.
-    modes: [[u64; 16]; 5],
+    modes: [[u64; 17]; 5],
     /// Events by kind and mode.
     kinds: [[u64; 5]; 5],
     aims: BTreeMap<&'static str, u64>,
@@ -230,9 +241,9 @@ pub struct Reached {
     /// Damaged BCC by the characters held before it.
     check_places: [u64; 64],
     /// Pulses and accepted reads and writes by table.
-    tables_used: [u64; 24],
-    tables_read: [u64; 24],
-    tables_written: [u64; 24],
+    tables_used: [u64; 25],
+    tables_read: [u64; 25],
+    tables_written: [u64; 25],
     zones: [u64; 4],
     /// Periods closed by a tick, by mode, and by the sign-on, by how many were kept before.
     closed_by_tick: [u64; 5],
@@ -245,8 +256,9 @@ impl Reached {
     pub fn new() -> Reached {
         Reached {
             events: 0,
-            answers: [0; 16],
-            modes: [[0; 16]; 5],
+            second: 0,
+            answers: [0; 17],
+            modes: [[0; 17]; 5],
             kinds: [[0; 5]; 5],
             aims: BTreeMap::new(),
             broken: BTreeMap::new(),
@@ -255,9 +267,9 @@ impl Reached {
             confirmation_places: [0; 6],
             frame_places: [0; 63],
             check_places: [0; 64],
-            tables_used: [0; 24],
-            tables_read: [0; 24],
-            tables_written: [0; 24],
+            tables_used: [0; 25],
+            tables_read: [0; 25],
+            tables_written: [0; 25],
             zones: [0; 4],
             closed_by_tick: [0; 5],
             closed_by_line: [0; PERIODS + 1],
@@ -299,6 +311,9 @@ impl Reached {
         if answer == "1\n" {
             self.answers[1] += 1;
             self.reach("new, good facts");
+        } else if answer == "16\n" {
+            self.answers[16] += 1;
+            self.reach("new, no edition");
         } else {
             self.answers[15] += 1;
             self.reach("new, bad facts");
@@ -310,6 +325,7 @@ impl Reached {
         match answer.split(' ').next() {
             Some("1") => self.reach("card written"),
             Some("14") => self.reach("card of a malformed state"),
+            Some("16") => self.reach("card of no edition"),
             _ => self.reach("card without room"),
         }
     }
@@ -348,6 +364,7 @@ impl Reached {
             return self.malformed(&broken, kind, answer.number);
         }
         self.kinds[kind][usize::from(before.mode)] += 1;
+        self.second += u64::from(before.edition == 2);
         if answer.number == 3 {
             self.hurt(before, answer.place);
         }
@@ -388,6 +405,7 @@ impl Reached {
             _ => self.reach("several ranges broken"),
         }
         self.reach(match (number, kind) {
+            (16, _) => "16",
             (12, 0) => "12 before 14, character",
             (12, _) => "12 before 14, silence",
             (13, _) => "13 before 14",
@@ -728,7 +746,18 @@ impl Reached {
             _ => "pulse, Monday to Friday",
         });
         let weekend = day == 0 || day == 6;
-        let table = usize::from(before.clock.month) - 1 + if weekend { 12 } else { 0 };
+        let table = match usize::from(before.clock.month) - 1 {
+            _ if before.edition == 2 && day == 6 => 24,
+            month if weekend => month + 12,
+            month => month,
+        };
+        if before.edition == 2 {
+            self.reach(match day {
+                6 => "pulse of edition 2, Saturday",
+                0 => "pulse of edition 2, Sunday",
+                _ => "pulse of edition 2, Monday to Friday",
+            });
+        }
         self.tables_used[table] += 1;
         if after.total < before.total {
             self.reach("total over the roll-over");
@@ -938,7 +967,17 @@ fn broken_ranges(meter: &Meter) -> Vec<&'static str> {
     must(kept || whole, "total");
     must(kept || !whole, "total not rolled over");
     let zone = |c: &u8| matches!(c, b'1'..=b'4');
-    must(meter.tables.iter().flatten().all(zone), "table");
+    must((1..=2).contains(&meter.edition), "edition");
+    must(meter.tables[..24].iter().flatten().all(zone), "table");
+    let spare = meter.tables[24];
+    must(
+        meter.edition != 1 || spare == [0; 24],
+        "table 25 of edition 1",
+    );
+    must(
+        meter.edition != 2 || spare.iter().all(zone),
+        "table 25 of edition 2",
+    );
     let kept = usize::from(meter.closed);
     must(kept < 13, "number of periods");
     let (kept, unused) = meter.periods.split_at(kept.min(12));

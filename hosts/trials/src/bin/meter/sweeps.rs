@@ -406,10 +406,26 @@ fn reads(chance: &mut Chance, player: &mut Player) {
     }
 }
 
-/// Every table, every field of the clock and every character of the account.
+/// The same state in both editions.
+fn both_editions(chance: &mut Chance, mode: u8) -> [Meter; 2] {
+    let meter = Meter {
+        edition: 1,
+        ..state(chance, mode)
+    };
+    let mut first = meter.clone();
+    first.tables[24] = [0; 24];
+    [first, of_edition_2(meter, row(chance))]
+}
+
+/// Every table, every field of the clock and every character of the account, in both editions.
 fn writes(chance: &mut Chance, player: &mut Player) {
-    let meter = state(chance, 4);
-    player.set(&meter);
+    for meter in both_editions(chance, 4) {
+        writes_to(chance, player, &meter);
+    }
+}
+
+fn writes_to(chance: &mut Chance, player: &mut Player, meter: &Meter) {
+    player.set(meter);
     for number in 0..=99 {
         let row = row(chance);
         player.send(&write(&table_data(number, &row)));
@@ -439,7 +455,7 @@ fn writes(chance: &mut Chance, player: &mut Player) {
         player.dump();
         let mut row = row(chance);
         row[chance.below(24)] = character;
-        player.send(&write(&table_data(chance.between(1, 24), &row)));
+        player.send(&write(&table_data(chance.between(1, 25), &row)));
         player.dump();
         // Another character in every place of the clock's form.
         let mut told = clock_data(meter.clock);
@@ -447,7 +463,7 @@ fn writes(chance: &mut Chance, player: &mut Player) {
         player.send(&write(&told));
         player.dump();
     }
-    for table in 1..=24 {
+    for table in 1..=25 {
         for character in *b"1234" {
             player.send(&write(&table_data(table, &[character; 24])));
         }
@@ -667,7 +683,13 @@ fn broken_states(chance: &mut Chance, player: &mut Player) {
             meter.total = 1_000_000_000;
         }),
     ));
-    for table in 0..24 {
+    for edition in 0..=255 {
+        breakings.push((
+            4,
+            Box::new(move |meter, _| meter.edition = edition),
+        ));
+    }
+    for table in 0..25 {
         for hour in [0, 1, 11, 22, 23] {
             breakings.push((
                 4,
@@ -913,7 +935,7 @@ fn register_characters(chance: &mut Chance, player: &mut Player) {
                 0 => meter.serial[chance.below(10)] = value,
                 1 => meter.account[chance.below(10)] = value,
                 2 => meter.password[chance.below(8)] = value,
-                3 => meter.tables[chance.below(24)][chance.below(24)] = value,
+                3 => meter.tables[chance.below(25)][chance.below(24)] = value,
                 4 => meter = holding(meter, &[SOH, b'R', value, b'0'], false),
                 _ => meter = holding(meter, &[value], true),
             }
@@ -947,6 +969,15 @@ fn register_characters(chance: &mut Chance, player: &mut Player) {
         }
         player.line(new_line(&serial, &account, &password, good.clock));
         player.dump();
+        // Edition, link and decimals behind them; any of the three may be none.
+        let made = new_line(&good.serial, &good.account, &good.password, good.clock);
+        for kind in ["2", "2 2", "2 2 0", "1 1 0", "2 3", "2 1 1"] {
+            player.line(format!("{made} {kind}"));
+            player.dump();
+        }
+        player.line(format!("{made} {value} {}", chance.below(4)));
+        player.dump();
+        player.line(format!("{made} 1 1 0 0"));
     }
     let spoil: [fn(&mut Clock); 10] = [
         |clock| clock.year = 1999,
@@ -1051,7 +1082,12 @@ fn rooms(chance: &mut Chance, player: &mut Player) {
 
 /// Days and months of the whole century: their ends, and the table that each day uses.
 fn calendar(chance: &mut Chance, player: &mut Player) {
-    let mut meter = state(chance, 4);
+    for meter in both_editions(chance, 4) {
+        century(chance, player, meter);
+    }
+}
+
+fn century(chance: &mut Chance, player: &mut Player, mut meter: Meter) {
     meter.counters = [0; 4];
     meter.total = 0;
     player.set(&meter);
@@ -1099,7 +1135,7 @@ fn calendar(chance: &mut Chance, player: &mut Player) {
     }
     // Every hour of every table.
     for month in 1..=12 {
-        for first in [true, false] {
+        for ahead in 0..=2 {
             // In 2000 some day from the 1st to the 7th is a Saturday, and two days on a Monday.
             let day = (1..=7)
                 .find(|&day| {
@@ -1112,13 +1148,13 @@ fn calendar(chance: &mut Chance, player: &mut Player) {
                         day: day + 1,
                         ..clock
                     };
-                    clock.weekend() && next.weekend()
+                    clock.saturday() && next.sunday()
                 })
                 .expect("each week has a Saturday");
             for hour in 0..24 {
                 meter.clock = Clock {
                     month,
-                    day: if first { day } else { day + 2 },
+                    day: day + ahead,
                     hour,
                     ..Clock::FIRST
                 };

@@ -5,11 +5,9 @@
 //! afterwards, having been filled with `FILL` before. An edition and a number are a byte; lengths,
 //! places and sizes are four, the lowest first.
 
+use crate::compare::Text;
 use model::post;
 use std::io::{self, BufWriter, StdoutLock, Write};
-
-/// The edition that every text here is for.
-const EDITION: u8 = 1;
 
 /// What a buffer is filled with before.
 const FILL: u8 = 0xC3;
@@ -30,7 +28,7 @@ impl Answers {
         }
     }
 
-    pub fn text(&mut self, text: &[u8], rooms: &[usize]) -> Result<(), String> {
+    pub fn text(&mut self, text: &Text, rooms: &[usize]) -> Result<(), String> {
         self.seen += 1;
         if self.seen % self.step != 1 % self.step {
             return Ok(());
@@ -38,16 +36,17 @@ impl Answers {
         self.write(text, rooms).map_err(|fault| fault.to_string())
     }
 
-    fn write(&mut self, text: &[u8], rooms: &[usize]) -> io::Result<()> {
-        self.out.write_all(&[EDITION])?;
+    fn write(&mut self, text: &Text, rooms: &[usize]) -> io::Result<()> {
+        let (edition, text) = (text.edition, text.bytes());
+        self.out.write_all(&[edition])?;
         self.bytes(text)?;
-        let (number, place) = post::check(text);
+        let (number, place) = post::check(edition, text);
         self.out.write_all(&[number])?;
         self.size(place)?;
         self.out.write_all(&[rooms.len() as u8])?;
         for &room in rooms {
             let mut buffer = vec![FILL; room];
-            let (number, length, place) = post::export(text, &mut buffer);
+            let (number, length, place) = post::export(edition, text, &mut buffer);
             self.out.write_all(&[number])?;
             self.size(length)?;
             self.size(place)?;

@@ -2,7 +2,7 @@
 
 use crate::compare::{Exporter, Text};
 use crate::texts::{flat, longest};
-use model::post::{text_of, Table, TABLES};
+use model::post::{text_of, Table, TABLES, TABLES_MOST};
 use trials::memory::Guarded;
 
 /// What a case wants.
@@ -11,8 +11,10 @@ enum Wanted {
     Frames(Vec<u8>),
     /// No post, with this place.
     Place(usize),
+    /// No edition.
+    NoEdition,
 }
-use Wanted::{Frames, Place};
+use Wanted::{Frames, NoEdition, Place};
 
 pub struct Case {
     name: &'static str,
@@ -21,7 +23,7 @@ pub struct Case {
 }
 
 /// The two wire bytes of each table's number and that of the BCC of its all-'1' write.
-const FLAT_WRITES: [[u8; 3]; TABLES as usize] = [
+const FLAT_WRITES: [[u8; 3]; TABLES_MOST as usize] = [
     [0x30, 0xB1, 0x06],
     [0x30, 0xB2, 0x05],
     [0x30, 0x33, 0x84],
@@ -46,6 +48,7 @@ const FLAT_WRITES: [[u8; 3]; TABLES as usize] = [
     [0xB2, 0xB2, 0x87],
     [0xB2, 0x33, 0x06],
     [0xB2, 0xB4, 0x81],
+    [0xB2, 0x35, 0x00],
 ];
 
 /// The frame of an all-'1' row, from the bytes above.
@@ -65,8 +68,8 @@ fn text(numbers: &[&str], more: &str) -> Vec<u8> {
 }
 
 /// The post of all tables, all '1'.
-fn flat_longest() -> Vec<u8> {
-    let tables: Vec<Table> = (1..=TABLES).map(|number| flat(number, b'1')).collect();
+fn flat_longest(highest: u8) -> Vec<u8> {
+    let tables: Vec<Table> = (1..=highest).map(|number| flat(number, b'1')).collect();
     text_of(&tables)
 }
 
@@ -86,7 +89,7 @@ pub fn cases() -> Vec<Case> {
     frame.extend([0xA9, 0x03, 0x06]);
     add("the one-line export", text(&["01"], "!\r\n"), Frames(frame));
     let all = (1..=TABLES).flat_map(flat_write).collect();
-    add("the longest post", flat_longest(), Frames(all));
+    add("the longest post", flat_longest(TABLES), Frames(all));
     add("the empty text", text(&[], ""), Place(0));
     add("`!` alone", text(&[], "!"), Place(0));
     add("table 24, then '1'", text(&["24"], "1"), Place(36));
@@ -125,9 +128,9 @@ pub fn cases() -> Vec<Case> {
         text(&["01"], "!\r\n131.0.02("),
         Place(39),
     );
-    let twice = [flat_longest(), flat_longest()].concat();
+    let twice = [flat_longest(TABLES), flat_longest(TABLES)].concat();
     add("the longest post twice", twice, Place(867));
-    let padded = [longest(), vec![b' '; 1133]].concat();
+    let padded = [longest(TABLES), vec![b' '; 1133]].concat();
     add("the longest post and blanks", padded, Place(867));
 
     // Readings: a beginning, and the last line alone.
@@ -211,11 +214,54 @@ pub fn cases() -> Vec<Case> {
     ] {
         cases.push(Case {
             name,
-            text: Text::cut(flat_longest(), length),
+            text: Text::cut(flat_longest(TABLES), length),
             wanted: Place(length),
         });
     }
+    editions(&mut cases);
     cases
+}
+
+/// Document 02, [3]: what a text is for edition 2, and for editions that there are not.
+fn editions(cases: &mut Vec<Case>) {
+    let mut second = |name, text: Vec<u8>, wanted| {
+        cases.push(Case {
+            name,
+            text: Text::from(text).of(2),
+            wanted,
+        });
+    };
+    let all = (1..=TABLES_MOST).flat_map(flat_write).collect();
+    second(
+        "edition 2: the longest post",
+        flat_longest(TABLES_MOST),
+        Frames(all),
+    );
+    let all = (1..=TABLES).flat_map(flat_write).collect();
+    second("edition 2: 24 lines", flat_longest(TABLES), Frames(all));
+    let saturday = text(&["25"], "!\r\n");
+    second("edition 2: 25", saturday, Frames(flat_write(25)));
+    let both = [flat_write(24), flat_write(25)].concat();
+    let weekend = text(&["24", "25"], "!\r\n");
+    second("edition 2: 24, then 25", weekend, Frames(both));
+    let more = [flat_longest(TABLES_MOST), b"!".to_vec()].concat();
+    second("edition 2: the longest post and more", more, Place(903));
+    second("edition 2: 25, then '1'", text(&["25"], "1"), Place(36));
+    let early = text(&["25", "24"], "!\r\n");
+    second("edition 2: 25, then 24", early, Place(36));
+    second("edition 2: 26", text(&["26"], "!\r\n"), Place(7));
+    let over = text(&["24", "26"], "!\r\n");
+    second("edition 2: 24, then 26", over, Place(43));
+    second("edition 2: 30", text(&["30"], "!\r\n"), Place(6));
+    for edition in [0, 3, 4, 127, 128, 255] {
+        for text in [text(&["01"], "!\r\n"), text(&[], "!"), Vec::new()] {
+            cases.push(Case {
+                name: "no edition",
+                text: Text::from(text).of(edition),
+                wanted: NoEdition,
+            });
+        }
+    }
 }
 
 /// Holds an exporter to a case: in a buffer just large enough, in one too small, in none and
@@ -224,14 +270,15 @@ pub fn hold(case: &Case, exporter: &dyn Exporter) -> Result<(), String> {
     let fault = |what: String| Err(format!("fixed case, {}: {what}", case.name));
     let frames: &[u8] = match &case.wanted {
         Frames(frames) => frames,
-        Place(_) => &[],
+        Place(_) | NoEdition => &[],
     };
     let wanted = match case.wanted {
         Frames(_) => (1, 0),
         Place(place) => (20, place),
+        NoEdition => (16, 0),
     };
-    let text = case.text.bytes();
-    let given = exporter.check(text);
+    let (edition, text) = (case.text.edition, case.text.bytes());
+    let given = exporter.check(edition, text);
     if given != wanted {
         return fault(format!("check wanted {wanted:?}, given {given:?}"));
     }
@@ -242,13 +289,14 @@ pub fn hold(case: &Case, exporter: &dyn Exporter) -> Result<(), String> {
         let out = memory.copy(&kept);
         let wanted = match case.wanted {
             Place(place) => (20, 0, place),
+            NoEdition => (16, 0, 0),
             Frames(_) if room < limit => (21, 0, 0),
             Frames(_) => {
                 kept[..limit].copy_from_slice(frames);
                 (1, limit, 0)
             }
         };
-        let given = exporter.export(text, out);
+        let given = exporter.export(edition, text, out);
         if given != wanted {
             return fault(format!("room {room} wanted {wanted:?}, given {given:?}"));
         }

@@ -51,11 +51,11 @@ impl Library {
 }
 
 impl Exporter for Library {
-    fn check(&self, text: &[u8]) -> (u8, usize) {
-        self.on(text, dirgemist::post::check)
+    fn check(&self, edition: u8, text: &[u8]) -> (u8, usize) {
+        self.on(text, |text| dirgemist::post::check(edition, text))
     }
-    fn export(&self, text: &[u8], out: &mut [u8]) -> (u8, usize, usize) {
-        self.on(text, |text| dirgemist::post::export(text, out))
+    fn export(&self, edition: u8, text: &[u8], out: &mut [u8]) -> (u8, usize, usize) {
+        self.on(text, |text| dirgemist::post::export(edition, text, out))
     }
 }
 
@@ -122,7 +122,7 @@ fn selftest(seed: u64) -> Result<(), String> {
     }
 }
 
-/// The families and then chance, up to `texts` in all: each text with its sizes of buffer.
+/// The families for either edition and then chance, up to `texts` in all: each text with its sizes of buffer.
 fn each_text(
     seed: u64,
     texts: u64,
@@ -130,7 +130,7 @@ fn each_text(
 ) -> Result<(), String> {
     let mut chance = Chance::new(seed);
     let mut count = 0;
-    let families = texts::families(|text, rooms| {
+    let mut next = |text: Text, rooms: Option<&[usize]>| {
         let chosen = match rooms {
             Some(rooms) => rooms.to_vec(),
             None => texts::rooms(text.bytes(), &mut chance),
@@ -140,9 +140,12 @@ fn each_text(
             Ok(()) => ControlFlow::Continue(()),
             Err(difference) => ControlFlow::Break(difference),
         }
-    });
-    if let ControlFlow::Break(difference) = families {
-        return Err(difference);
+    };
+    for edition in [1, 2] {
+        let families = texts::families(|text, rooms| next(text.of(edition), rooms));
+        if let ControlFlow::Break(difference) = families {
+            return Err(difference);
+        }
     }
     while count < texts {
         let text = texts::any(&mut chance);
@@ -170,7 +173,7 @@ fn run() -> Result<(), String> {
     if asked.answers > 0 {
         let mut answers = answers::Answers::new(asked.answers);
         return each_text(asked.seed, asked.texts, |text, rooms| {
-            answers.text(text.bytes(), rooms)
+            answers.text(text, rooms)
         });
     }
     println!("post: seed {}", asked.seed);
@@ -184,9 +187,16 @@ fn run() -> Result<(), String> {
     }
     let (tally, cases) = trial(asked.seed, asked.texts)?;
     println!(
-        "post: {} posts among the texts; exports done {}, refused with 20 {}, with 21 {}",
-        tally.posts, tally.done, tally.not_a_post, tally.no_room
+        "post: {} posts among the texts; exports done {}, refused with 16 {}, with 20 {}, with 21 {}",
+        tally.posts, tally.done, tally.no_edition, tally.not_a_post, tally.no_room
     );
+    println!(
+        "post: {} texts for edition 2, {} of them posts, {} with a table 25",
+        tally.second, tally.second_posts, tally.saturdays
+    );
+    if tally.second < 500_000 || tally.saturdays < 10_000 || tally.no_edition < 10_000 {
+        return Err("too few texts for edition 2, or for none".into());
+    }
     println!(
         "post: {} texts, {cases} fixed cases, all equal",
         tally.texts

@@ -1,7 +1,7 @@
 //! The texts of the trial: whole families gone through one by one, then chance.
 
 use crate::compare::Text;
-use model::post::{text_of, Row, Table, HOURS, LAST, LINE, LONGEST, TABLES};
+use model::post::{text_of, Row, Table, HOURS, LAST, LINE, LONGEST, TABLES, TABLES_MOST};
 use std::ops::ControlFlow;
 use trials::chance::Chance;
 
@@ -24,8 +24,8 @@ pub fn flat(number: u8, zone: u8) -> Table {
 }
 
 /// The post with all tables, each row the same all day.
-pub fn longest() -> Vec<u8> {
-    let tables: Vec<Table> = (1..=TABLES).map(|n| flat(n, b'1' + n % 4)).collect();
+pub fn longest(highest: u8) -> Vec<u8> {
+    let tables: Vec<Table> = (1..=highest).map(|n| flat(n, b'1' + n % 4)).collect();
     text_of(&tables)
 }
 
@@ -67,7 +67,7 @@ pub fn families<B>(
     mut each: impl FnMut(Text, Option<&[usize]>) -> ControlFlow<B>,
 ) -> ControlFlow<B> {
     // Every beginning of the longest post, the rest lying behind it.
-    let all = longest();
+    let all = longest(TABLES_MOST);
     for length in 0..=all.len() {
         each(Text::cut(all.clone(), length), None)?;
     }
@@ -110,7 +110,7 @@ pub fn families<B>(
     }
 
     // Any two characters as a number, below nothing and below numbers that shut a tens digit.
-    for above in [None, Some(9), Some(19), Some(23)] {
+    for above in [None, Some(9), Some(19), Some(23), Some(24)] {
         for number in 0..=u16::MAX {
             let mut text = above.map_or(Vec::new(), |n| line(digits(n)));
             text.extend(line(number.to_be_bytes()));
@@ -130,7 +130,7 @@ pub fn families<B>(
     }
 
     // Posts of every count of lines, with every size of buffer up to a line too many.
-    for count in 1..=TABLES {
+    for count in 1..=TABLES_MOST {
         let tables: Vec<Table> = (1..=count).map(|n| flat(n, b'1' + n % 4)).collect();
         for room in 0..=usize::from(count + 1) * LINE {
             each(text_of(&tables).into(), Some(&[room]))?;
@@ -151,7 +151,18 @@ pub fn families<B>(
 /// A text by chance, of any kind.
 pub fn any(chance: &mut Chance) -> Text {
     let kind = chance.one_of(KINDS);
-    kind(chance)
+    let edition = edition(chance);
+    kind(chance).of(edition)
+}
+
+/// The edition that a text is for: at times one that there is not.
+fn edition(chance: &mut Chance) -> u8 {
+    match chance.below(16) {
+        0 => chance.byte(),
+        1 => chance.one_of(&[0, 3]),
+        2..=8 => 1,
+        _ => 2,
+    }
 }
 
 /// The kinds of text that chance chooses from; posts three times as often as the rest.
@@ -195,7 +206,8 @@ fn row(chance: &mut Chance) -> Row {
 
 /// Tables with rising numbers: often few, at times all.
 fn tables(chance: &mut Chance) -> Vec<Table> {
-    let all = usize::from(TABLES);
+    let highest = chance.one_of(&[TABLES, TABLES_MOST]);
+    let all = usize::from(highest);
     let count = match chance.below(8) {
         0..=4 => 1 + chance.below(4),
         5 | 6 => 1 + chance.below(all),
@@ -203,7 +215,7 @@ fn tables(chance: &mut Chance) -> Vec<Table> {
     };
     let mut missing = count;
     let mut tables = Vec::with_capacity(count);
-    for number in 1..=TABLES {
+    for number in 1..=highest {
         let left = all + 1 - usize::from(number);
         if chance.below(left) < missing {
             missing -= 1;
@@ -372,14 +384,14 @@ fn line_ends(chance: &mut Chance) -> Text {
     lines.concat().into()
 }
 
-/// One line with another number: 00, 25 to 29, from 30 on, characters that are no digits.
+/// One line with another number: 00, 24 to 29, from 30 on, characters that are no digits.
 fn numbers(chance: &mut Chance) -> Text {
     let mut lines = lines(chance);
     let number = match chance.below(6) {
         0 => *b"00",
-        1 => digits(25 + chance.below(5)),
+        1 => digits(24 + chance.below(6)),
         2 => digits(30 + chance.below(70)),
-        3 => digits(chance.below(25)),
+        3 => digits(chance.below(26)),
         4 => [chance.one_of(b"0123/: "), chance.one_of(b"0123456789/: ;(")],
         _ => [chance.byte(), chance.byte()],
     };
@@ -431,8 +443,8 @@ fn many_lines(chance: &mut Chance) -> Text {
     let kind = chance.below(4);
     let number = |at: usize, chance: &mut Chance| match kind {
         0 => at + 1,
-        1 => at % usize::from(TABLES) + 1,
-        2 => (at + 1).min(usize::from(TABLES)),
+        1 => at % usize::from(TABLES_MOST) + 1,
+        2 => (at + 1).min(usize::from(TABLES_MOST)),
         _ => chance.below(30),
     };
     let mut text = Vec::with_capacity(LONG);
@@ -518,7 +530,7 @@ fn length(chance: &mut Chance) -> usize {
     match chance.below(4) {
         0 => chance.below(LONG + 1),
         1 => chance.below(2 * LINE),
-        2 => LONGEST - 2 + chance.below(5),
+        2 => LONGEST - chance.one_of(&[0, LINE]) - 2 + chance.below(5),
         _ => chance.below(LONG / LINE) * LINE + chance.below(5),
     }
 }

@@ -3,8 +3,8 @@
 use crate::compare::Exporter;
 use model::{line, post};
 
-type Check = fn(&[u8]) -> (u8, usize);
-type Export = fn(&[u8], &mut [u8]) -> (u8, usize, usize);
+type Check = fn(u8, &[u8]) -> (u8, usize);
+type Export = fn(u8, &[u8], &mut [u8]) -> (u8, usize, usize);
 
 /// An exporter by its two calls.
 pub struct Calls {
@@ -14,11 +14,11 @@ pub struct Calls {
 }
 
 impl Exporter for Calls {
-    fn check(&self, text: &[u8]) -> (u8, usize) {
-        (self.check)(text)
+    fn check(&self, edition: u8, text: &[u8]) -> (u8, usize) {
+        (self.check)(edition, text)
     }
-    fn export(&self, text: &[u8], out: &mut [u8]) -> (u8, usize, usize) {
-        (self.export)(text, out)
+    fn export(&self, edition: u8, text: &[u8], out: &mut [u8]) -> (u8, usize, usize) {
+        (self.export)(edition, text, out)
     }
 }
 
@@ -43,21 +43,21 @@ const fn wrong(name: &'static str, check: Check, export: Export) -> Calls {
 pub const WRONG: &[Calls] = &[
     wrong(
         "refuses all",
-        |text| (20, post::place(text)),
-        |text, _| (20, 0, post::place(text)),
+        |edition, text| (20, place(edition, text)),
+        |edition, text, _| (20, 0, place(edition, text)),
     ),
     wrong(
         "refuses all in the check alone",
-        |text| (20, post::place(text)),
+        |edition, text| (20, place(edition, text)),
         post::export,
     ),
-    wrong("accepts all in the check", |_| (1, 0), post::export),
+    wrong("accepts all in the check", |_, _| (1, 0), post::export),
     wrong(
         "exports the first row and acknowledges the rest",
         post::check,
-        |text, out| {
+        |edition, text, out| {
             let kept = out.to_vec();
-            let answer = post::export(text, out);
+            let answer = post::export(edition, text, out);
             if answer.1 > post::LINE {
                 out[post::LINE..].copy_from_slice(&kept[post::LINE..]);
             }
@@ -66,16 +66,16 @@ pub const WRONG: &[Calls] = &[
     ),
     wrong(
         "place always 0",
-        |text| (post::check(text).0, 0),
-        |text, out| {
-            let (number, length, _) = post::export(text, out);
+        |edition, text| (post::check(edition, text).0, 0),
+        |edition, text, out| {
+            let (number, length, _) = post::export(edition, text, out);
             (number, length, 0)
         },
     ),
     wrong(
         "place of a whole line",
-        |text| {
-            let (number, place) = post::check(text);
+        |edition, text| {
+            let (number, place) = post::check(edition, text);
             (number, place / post::LINE * post::LINE)
         },
         post::export,
@@ -83,8 +83,8 @@ pub const WRONG: &[Calls] = &[
     wrong(
         "place of the export alone one on",
         post::check,
-        |text, out| {
-            let (number, length, place) = post::export(text, out);
+        |edition, text, out| {
+            let (number, length, place) = post::export(edition, text, out);
             (number, length, place + usize::from(number == 20))
         },
     ),
@@ -95,87 +95,103 @@ pub const WRONG: &[Calls] = &[
     ),
     wrong(
         "looks for the bracket and keeps what follows",
-        |text| post::check(&up_to_brackets(text)),
-        |text, out| post::export(&up_to_brackets(text), out),
+        |edition, text| post::check(edition, &up_to_brackets(text)),
+        |edition, text, out| post::export(edition, &up_to_brackets(text), out),
     ),
     wrong(
         "accepts equal numbers",
-        |text| post::check(&without_repeats(text)),
-        |text, out| post::export(&without_repeats(text), out),
+        |edition, text| post::check(edition, &without_repeats(text)),
+        |edition, text, out| post::export(edition, &without_repeats(text), out),
     ),
     wrong(
         "does not mind what follows a post",
-        |text| post::check(&text[..post_in(text)]),
-        |text, out| post::export(&text[..post_in(text)], out),
+        |edition, text| post::check(edition, &text[..post_in(edition, text)]),
+        |edition, text, out| post::export(edition, &text[..post_in(edition, text)], out),
     ),
     wrong(
         "accepts LF without CR",
-        |text| post::check(&with_cr(text)),
-        |text, out| post::export(&with_cr(text), out),
+        |edition, text| post::check(edition, &with_cr(text)),
+        |edition, text, out| post::export(edition, &with_cr(text), out),
     ),
     wrong(
         "clears the buffer before it refuses",
         post::check,
-        |text, out| {
-            let answer = post::export(text, out);
+        |edition, text, out| {
+            let answer = post::export(edition, text, out);
             if answer.0 != 1 {
                 out.fill(0);
             }
             answer
         },
     ),
-    wrong("writes what there is room for", post::check, |text, out| {
-        let mut frames = vec![0; text.len()];
-        let answer = post::export(text, out);
-        if answer.0 == 21 {
-            post::export(text, &mut frames);
-            let room = out.len();
-            out.copy_from_slice(&frames[..room]);
-        }
-        answer
-    }),
+    wrong(
+        "writes what there is room for",
+        post::check,
+        |edition, text, out| {
+            let mut frames = vec![0; text.len()];
+            let answer = post::export(edition, text, out);
+            if answer.0 == 21 {
+                post::export(edition, text, &mut frames);
+                let room = out.len();
+                out.copy_from_slice(&frames[..room]);
+            }
+            answer
+        },
+    ),
     wrong(
         "clears the byte past the export",
         post::check,
-        |text, out| {
-            let answer = post::export(text, out);
+        |edition, text, out| {
+            let answer = post::export(edition, text, out);
             if let (1, Some(byte)) = (answer.0, out.get_mut(answer.1)) {
                 *byte = 0;
             }
             answer
         },
     ),
-    wrong("sends no parity", post::check, |text, out| {
-        let answer = post::export(text, out);
+    wrong("sends no parity", post::check, |edition, text, out| {
+        let answer = post::export(edition, text, out);
         out[..answer.1].iter_mut().for_each(|byte| *byte &= 0x7F);
         answer
     }),
-    wrong("counts SOH into the BCC", post::check, |text, out| {
-        let answer = post::export(text, out);
-        for frame in out[..answer.1].chunks_exact_mut(post::LINE) {
-            let bcc = &mut frame[post::LINE - 1];
-            *bcc = line::wire(*bcc ^ line::SOH);
-        }
-        answer
-    }),
-    wrong("21 before 20", post::check, |text, out| {
+    wrong(
+        "counts SOH into the BCC",
+        post::check,
+        |edition, text, out| {
+            let answer = post::export(edition, text, out);
+            for frame in out[..answer.1].chunks_exact_mut(post::LINE) {
+                let bcc = &mut frame[post::LINE - 1];
+                *bcc = line::wire(*bcc ^ line::SOH);
+            }
+            answer
+        },
+    ),
+    wrong("21 before 20", post::check, |edition, text, out| {
         if out.len() < text.len() / post::LINE * post::LINE {
             return (21, 0, 0);
         }
-        post::export(text, out)
-    }),
-    wrong("wants room for one more", post::check, |text, out| {
-        let room = out.len().saturating_sub(1);
-        post::export(text, &mut out[..room])
-    }),
-    wrong("gives a length with a refusal", post::check, |text, out| {
-        let (number, length, place) = post::export(text, out);
-        let lines = text.len() / post::LINE * post::LINE;
-        (number, if number == 21 { lines } else { length }, place)
+        post::export(edition, text, out)
     }),
     wrong(
+        "wants room for one more",
+        post::check,
+        |edition, text, out| {
+            let room = out.len().saturating_sub(1);
+            post::export(edition, text, &mut out[..room])
+        },
+    ),
+    wrong(
+        "gives a length with a refusal",
+        post::check,
+        |edition, text, out| {
+            let (number, length, place) = post::export(edition, text, out);
+            let lines = text.len() / post::LINE * post::LINE;
+            (number, if number == 21 { lines } else { length }, place)
+        },
+    ),
+    wrong(
         "leaves the place of a good check",
-        |text| match post::check(text) {
+        |edition, text| match post::check(edition, text) {
             (1, _) => (1, UNWRITTEN),
             other => other,
         },
@@ -184,24 +200,71 @@ pub const WRONG: &[Calls] = &[
     wrong(
         "leaves the length of a refusal",
         post::check,
-        |text, out| match post::export(text, out) {
+        |edition, text, out| match post::export(edition, text, out) {
             (1, length, place) => (1, length, place),
             (number, _, place) => (number, UNWRITTEN, place),
         },
     ),
     wrong(
-        "loses the last of 24 lines",
-        |text| match text.len() {
-            post::LONGEST => (20, 23 * post::LINE),
-            _ => post::check(text),
+        "loses the last of 25 lines",
+        |edition, text| match (edition, text.len()) {
+            (2, post::LONGEST) => (20, 24 * post::LINE),
+            _ => post::check(edition, text),
+        },
+        post::export,
+    ),
+    wrong(
+        "takes every edition for 1",
+        |_, text| post::check(1, text),
+        |_, text, out| post::export(1, text, out),
+    ),
+    wrong(
+        "takes edition 1 for 2",
+        |edition, text| post::check(edition.max(2), text),
+        |edition, text, out| post::export(edition.max(2), text, out),
+    ),
+    wrong(
+        "does not mind the edition of a good post",
+        |edition, text| match post::check(2, text) {
+            (1, 0) => (1, 0),
+            _ => post::check(edition, text),
+        },
+        post::export,
+    ),
+    wrong(
+        "20 before 16",
+        |edition, text| match post::check(2, text) {
+            (20, place) => (20, place),
+            _ => post::check(edition, text),
+        },
+        post::export,
+    ),
+    wrong(
+        "21 before 16",
+        post::check,
+        |edition, text, out| match post::export(2, text, &mut out.to_vec()) {
+            (21, ..) => (21, 0, 0),
+            _ => post::export(edition, text, out),
+        },
+    ),
+    wrong(
+        "edition 2 has no place behind 24 lines",
+        |edition, text| match post::check(edition, text) {
+            (20, place) if edition == 2 => (20, place.min(24 * post::LINE)),
+            other => other,
         },
         post::export,
     ),
 ];
 
+/// The place of a text, a post or not.
+fn place(edition: u8, text: &[u8]) -> usize {
+    post::tables_of(edition).map_or(0, |highest| post::place(highest, text))
+}
+
 /// A place that sees each column alone.
-fn check_columns(text: &[u8]) -> (u8, usize) {
-    let (number, place) = post::check(text);
+fn check_columns(edition: u8, text: &[u8]) -> (u8, usize) {
+    let (number, place) = post::check(edition, text);
     let tens = place % post::LINE == 6 && matches!(text.get(place), Some(b'0'..=b'2'));
     (number, place + usize::from(number == 20 && tens))
 }
@@ -236,10 +299,11 @@ fn without_repeats(text: &[u8]) -> Vec<u8> {
 }
 
 /// The length of the post that the text starts with, or of the text.
-fn post_in(text: &[u8]) -> usize {
-    let ends = (1..=24).map(|lines| lines * post::LINE + post::LAST.len());
+fn post_in(edition: u8, text: &[u8]) -> usize {
+    let highest = post::tables_of(edition).unwrap_or(0);
+    let ends = (1..=usize::from(highest)).map(|lines| lines * post::LINE + post::LAST.len());
     ends.take_while(|&end| end <= text.len())
-        .find(|&end| post::read(&text[..end]).is_some())
+        .find(|&end| post::read(highest, &text[..end]).is_some())
         .unwrap_or(text.len())
 }
 

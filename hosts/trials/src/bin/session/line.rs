@@ -45,7 +45,7 @@ impl Line {
     }
 
     /// The rows of the meter's tables.
-    pub fn tables(&self) -> Option<[[u8; 24]; 24]> {
+    pub fn tables(&self) -> Option<[[u8; 24]; 25]> {
         match self {
             Line::Model(meter) => Some(meter.tables),
             Line::Library(meter) => Some(meter.registers.tables),

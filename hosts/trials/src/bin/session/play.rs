@@ -4,6 +4,7 @@
 use crate::line::Line;
 use crate::Pair;
 use model::meter::Meter;
+use model::post::tables_of;
 use model::session::{answer, fact, work, Heard, Session, Told};
 use trials::chance::Chance;
 use trials::head_words::DIGITS;
@@ -31,6 +32,7 @@ pub fn play(pair: &mut Pair, seed: u64, calls: u64) -> Outcome {
 
 /// What a session is told, kept while it goes on.
 struct Task {
+    edition: u8,
     named: u8,
     serial: Vec<u8>,
     access: u8,
@@ -42,6 +44,7 @@ struct Task {
 impl Task {
     fn told(&self) -> Told<'_> {
         Told {
+            edition: self.edition,
             named: self.named,
             serial: &self.serial,
             access: self.access,
@@ -54,6 +57,7 @@ impl Task {
 
 /// A good task for this meter.
 fn good(chance: &mut Chance, meter: &Meter) -> Task {
+    let edition = meter.edition;
     let kind = chance.one_of(&[work::READS, work::READS, work::POST]);
     let access = match kind {
         work::POST => 1,
@@ -62,11 +66,12 @@ fn good(chance: &mut Chance, meter: &Meter) -> Task {
     let work = match kind {
         work::READS => {
             let count = chance.between(1, 32);
-            reads(chance, count)
+            reads(chance, edition, count)
         }
         _ => {
-            let count = chance.between(1, 24);
-            post(chance, count)
+            let highest = tables_of(edition).unwrap_or(0);
+            let count = chance.between(1, highest.into());
+            post(chance, highest, count)
         }
     };
     let named = chance.below(2) as u8;
@@ -80,6 +85,7 @@ fn good(chance: &mut Chance, meter: &Meter) -> Task {
         _ => not_looked_at(chance),
     };
     Task {
+        edition,
         named,
         serial,
         access,
@@ -128,13 +134,13 @@ fn calm(pair: &mut Pair, chance: &mut Chance) -> Outcome {
     }
     if let (work::POST, Some(tables)) = (task.kind, line.tables()) {
         let mut wanted = meter.tables;
-        for table in model::post::read(&task.work).expect("it is a post") {
+        for table in model::post::read(25, &task.work).expect("it is a post") {
             wanted[usize::from(table.number) - 1] = table.row;
         }
         if tables != wanted {
             return Err("a post was delivered, and the tables are not its".into());
         }
-        pair.reached.delivered();
+        pair.reached.delivered(meter.edition);
     }
     pair.reached.calm(&pair.session);
     again(pair, chance, &task.work)
@@ -164,6 +170,7 @@ fn disturbed(pair: &mut Pair, chance: &mut Chance) -> Outcome {
         1 => meter.mode = chance.between(1, 4) as u8,
         2 => task.password = chance.texts::<8>(DIGITS).to_vec(),
         3 => task.serial = chance.texts::<10>(DIGITS).to_vec(),
+        4 => task.edition = chance.one_of(&[0, 1, 2, 3, 255]),
         _ => {}
     }
     let mut line = Line::to(chance, &meter);
@@ -237,11 +244,11 @@ fn other_work(chance: &mut Chance, task: &Task) -> Vec<u8> {
     match chance.below(6) {
         0 => {
             let count = chance.between(1, 32);
-            reads(chance, count)
+            reads(chance, 2, count)
         }
         1 => {
-            let count = chance.between(1, 24);
-            post(chance, count)
+            let count = chance.between(1, 25);
+            post(chance, 25, count)
         }
         2 => Vec::new(),
         3 => {
@@ -261,7 +268,8 @@ fn other_work(chance: &mut Chance, task: &Task) -> Vec<u8> {
 
 /// One thing changed in a record; seldom it is a session's still.
 fn spoil(chance: &mut Chance, session: &mut Session) {
-    match chance.below(12) {
+    match chance.below(13) {
+        12 => session.edition = chance.one_of(&[0, 1, 2, 3, 255]),
         0 => session.serial[chance.below(10)] = chance.odd_byte(),
         1 => session.password[chance.below(8)] = chance.odd_byte(),
         2 => session.named = chance.one_of(&[0, 1, 2, 255]),
@@ -298,28 +306,38 @@ fn flag(chance: &mut Chance) -> u8 {
     }
 }
 
+/// An edition, at times one that there is not.
+fn edition(chance: &mut Chance) -> u8 {
+    match chance.below(20) {
+        0 => chance.byte(),
+        1 => chance.one_of(&[0, 3]),
+        odd => 1 + odd as u8 % 2,
+    }
+}
+
 /// A session told anything, on a record that may hold anything.
 fn told(pair: &mut Pair, chance: &mut Chance) -> Outcome {
-    let kind = flag(chance);
+    let (edition, kind) = (edition(chance), flag(chance));
     let mut work = match (kind, chance.below(12)) {
         (_, 0) => Vec::new(),
         (work::READS, 1..=2) => {
             let count = chance.between(31, 40);
-            reads(chance, count)
+            reads(chance, edition, count)
         }
         (_, 3) => (0..chance.below(80)).map(|_| chance.byte()).collect(),
         (work::READS, 4) => {
-            let mut half = reads(chance, 33);
+            let mut half = reads(chance, edition, 33);
             half.truncate(chance.one_of(&[1, 1, 3, 63, 65, 65]));
             half
         }
         (work::READS, _) => {
             let count = chance.between(1, 32);
-            reads(chance, count)
+            reads(chance, edition, count)
         }
         _ => {
-            let count = chance.between(1, 24);
-            post(chance, count)
+            let highest = chance.one_of(&[24, 25]);
+            let count = chance.between(1, highest.into());
+            post(chance, highest, count)
         }
     };
     match chance.below(6) {
@@ -328,6 +346,7 @@ fn told(pair: &mut Pair, chance: &mut Chance) -> Outcome {
         _ => {}
     }
     let task = Task {
+        edition,
         named: flag(chance),
         serial: field(chance, 10),
         access: flag(chance),
@@ -352,6 +371,7 @@ fn recorded(pair: &mut Pair, chance: &mut Chance) -> Outcome {
     let meter = listening(chance);
     let task = good(chance, &meter);
     let mut record = Session {
+        edition: task.edition,
         named: task.named,
         access: task.access,
         work: task.kind,
@@ -417,5 +437,6 @@ fn any(chance: &mut Chance) -> Session {
         count: chance.byte(),
         sent: chance.byte(),
         fact: chance.byte(),
+        edition: chance.one_of(&[1, 2, 3]),
     }
 }

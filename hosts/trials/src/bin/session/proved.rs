@@ -14,6 +14,7 @@ fn record_of(session: &Session) -> library::Session {
         count: session.count,
         sent: session.sent,
         fact: session.fact,
+        edition: session.edition,
     }
 }
 
@@ -27,6 +28,7 @@ fn session_of(record: &library::Session) -> Session {
         count: record.count,
         sent: record.sent,
         fact: record.fact,
+        edition: record.edition,
     }
 }
 
@@ -57,6 +59,7 @@ impl Head for Proved {
     fn start(&mut self, session: &mut Session, told: &Told, out: &mut [u8]) -> Started {
         let [serial, password, work] = &mut self.texts;
         let told = library::Told {
+            edition: told.edition,
             named: told.named,
             serial: serial.copy(told.serial),
             access: told.access,

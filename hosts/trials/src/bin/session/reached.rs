@@ -1,7 +1,8 @@
 //! Counts what the calls reached, from what was told and answered and not from what was meant.
 
-use model::session::{answer, fact, work, Heard, Session, Started, Told};
+use model::session::{answer, fact, start, work, Heard, Session, Started, Told};
 use std::collections::BTreeMap;
+use trials::session_words::identification;
 
 /// Each has to be met so often at least.
 const OFTEN: u64 = 3;
@@ -21,7 +22,7 @@ pub struct Reached {
 /// Everything that must be reached.
 pub fn aims() -> Vec<String> {
     let mut aims = Vec::new();
-    for number in [1, 9, 19, 20, 28, 29, 30] {
+    for number in [1, 9, 16, 19, 20, 28, 29, 30] {
         aims.push(format!("start: {number}"));
     }
     for number in [1, 19, 31] {
@@ -31,7 +32,7 @@ pub fn aims() -> Vec<String> {
         aims.push(format!("silence: {number}"));
     }
     // Each fact at each message that can have it, by kind of work.
-    for (kind, most) in [("reads", 32), ("post", 24)] {
+    for (kind, most) in [("reads", 32), ("post", 25)] {
         for message in 1..=most + 4 {
             for fact in [fact::NAK, fact::WRONG, fact::SILENT] {
                 aims.push(format!("{kind}: {} at {message}", FACTS[usize::from(fact)]));
@@ -52,7 +53,7 @@ pub fn aims() -> Vec<String> {
         ("L", 0..=0),
         ("K", 0..=0),
         ("E", 0..=4),
-        ("Z", 1..=24),
+        ("Z", 1..=25),
     ] {
         for number in numbers {
             aims.push(format!("{letter}{number} answered"));
@@ -79,6 +80,13 @@ pub fn aims() -> Vec<String> {
         "start: 19 with an empty list",
         "start: 1 with 32 reads",
         "start: 1 with 24 lines",
+        "start: 1 with 25 lines",
+        "start: 1 for edition 2",
+        "start: 9 for table 25 of edition 1",
+        "start: 16 and no room",
+        "start: 16 and an empty list",
+        "start: 20 for table 25 of edition 1",
+        "reply: the other edition's identification",
         "reply: 19 to no session",
         "reply: 31 of a record",
         "reply: 31 of the work",
@@ -88,6 +96,7 @@ pub fn aims() -> Vec<String> {
         "reply: half a read lent, and its message",
         "reply: a block, damaged",
         "a post delivered",
+        "a post delivered to edition 2",
     ];
     aims.extend(more.map(String::from));
     aims
@@ -178,6 +187,32 @@ impl Reached {
             "start: 1 with 24 lines",
         );
         self.when(
+            done && post && told.work.len() == 903,
+            "start: 1 with 25 lines",
+        );
+        let second = told.edition == 2;
+        self.when(done && second, "start: 1 for edition 2");
+        let other = Told {
+            edition: 2,
+            ..*told
+        };
+        let taken = || start(&mut Session::default(), &other, &mut vec![0; room]).number;
+        let first = told.edition == 1;
+        self.when(
+            first && refused && fields && reads && taken() == answer::DONE,
+            "start: 9 for table 25 of edition 1",
+        );
+        self.when(
+            first && number == answer::NO_POST && taken() == answer::DONE,
+            "start: 20 for table 25 of edition 1",
+        );
+        let none = number == answer::NO_EDITION;
+        self.when(none && room < 64, "start: 16 and no room");
+        self.when(
+            none && reads && told.work.is_empty(),
+            "start: 16 and an empty list",
+        );
+        self.when(
             number == answer::READ_ONLY && !serial,
             "start: 30 with a bad serial",
         );
@@ -229,6 +264,11 @@ impl Reached {
         }
         self.stands(before, heard);
         self.when(reply.is_empty(), "reply: an empty one");
+        let other = reply == identification(3 - before.edition);
+        self.when(
+            before.sent == 1 && heard.fact == fact::WRONG && other,
+            "reply: the other edition's identification",
+        );
         let half = before.work == work::READS
             && heard.fact == fact::GOES_ON
             && usize::from(heard.message) * 2 == lent.len() + 7;
@@ -289,7 +329,8 @@ impl Reached {
         self.reach(&format!("{kind}: a calm conversation of {}", session.count));
     }
 
-    pub fn delivered(&mut self) {
-        self.reach("a post delivered");
+    pub fn delivered(&mut self, edition: u8) {
+        self.when(edition == 1, "a post delivered");
+        self.when(edition == 2, "a post delivered to edition 2");
     }
 }

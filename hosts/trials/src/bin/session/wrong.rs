@@ -4,7 +4,7 @@ use crate::{Head, Heard, Session, Started, Told};
 use model::head::{characters, on_the_wire, part, strip, Command};
 use model::session::{answer, fact, start, tells, work};
 use trials::chance::Chance;
-use trials::session_words::right;
+use trials::session_words::{identification, right};
 
 #[derive(Clone, Copy, Debug, PartialEq, Eq)]
 pub enum Fault {
@@ -51,11 +51,17 @@ pub enum Fault {
     CountsWorkThatIsLentOnly,
     MovesOnWithoutItsWork,
     WorksInRoomOfItsOwn,
+    HasOneEdition,
+    TakesTheOtherEdition,
+    RoomBeforeTheEdition,
+    ReadsBeforeTheEdition,
+    HasNoTable25,
+    TakesTable25OfEdition1,
 }
 
 use Fault::*;
 
-pub const FAULTS: [Fault; 43] = [
+pub const FAULTS: [Fault; 49] = [
     SkipsTheBreak,
     CountsTheSignOnAsZero,
     NamesTheNextMessage,
@@ -99,6 +105,12 @@ pub const FAULTS: [Fault; 43] = [
     CountsWorkThatIsLentOnly,
     MovesOnWithoutItsWork,
     WorksInRoomOfItsOwn,
+    HasOneEdition,
+    TakesTheOtherEdition,
+    RoomBeforeTheEdition,
+    ReadsBeforeTheEdition,
+    HasNoTable25,
+    TakesTable25OfEdition1,
 ];
 
 pub struct Wrong {
@@ -173,6 +185,20 @@ impl Head for Wrong {
             Some(ChecksTheFirstReadOnly) if reads && (2..=32).contains(&count) => {
                 turned.work = &told.work[..2];
             }
+            Some(HasOneEdition) if told.edition == 2 => turned.edition = 1,
+            Some(RoomBeforeTheEdition | ReadsBeforeTheEdition)
+                if ![1, 2].contains(&told.edition) =>
+            {
+                let room = self.fault == Some(RoomBeforeTheEdition);
+                turned.edition = match (room, out.len() < 64, told.work.is_empty()) {
+                    (true, true, _) | (false, false, true) => 2,
+                    _ => told.edition,
+                };
+            }
+            Some(HasNoTable25) if told.edition == 2 && reads && told.work.contains(&25) => {
+                turned.edition = 1;
+            }
+            Some(TakesTable25OfEdition1) if told.edition == 1 && post => turned.edition = 2,
             Some(LooksAtAnUnnamedSerial) if told.named == 0 && told.serial.is_empty() => {
                 turned.named = 2;
             }
@@ -183,6 +209,7 @@ impl Head for Wrong {
             Some(ChecksTheFirstReadOnly) if started.number == 1 && reads => {
                 session.count = count as u8;
             }
+            Some(TakesTable25OfEdition1) if started.number == 1 => session.edition = told.edition,
             Some(TakesThirtyThree) if started.number == 1 && count == 33 => session.count = 33,
             Some(KeepsAnUnnamedSerial) if started.number == 1 && told.serial.len() == 10 => {
                 session.serial.copy_from_slice(told.serial);
@@ -220,9 +247,9 @@ impl Head for Wrong {
             Some(TakesAnyTable) => {
                 let number = inside.get(6..8).unwrap_or(b"00");
                 let number = String::from_utf8_lossy(number).parse().unwrap_or(0);
-                letter == b'Z' && tells(b'Z', number, reply)
+                letter == b'Z' && tells(before.edition, b'Z', number, reply)
             }
-            Some(TakesAnyZone) => letter == b'E' && (0..5).any(|zone| tells(b'E', zone, reply)),
+            Some(TakesAnyZone) => letter == b'E' && (0..5).any(|zone| tells(1, b'E', zone, reply)),
             Some(TakesLinesBehind) => {
                 let lines = inside.split_inclusive(|&byte| byte == b'\n').count();
                 letter == b'L' && lines > 1 && inside.starts_with(b"C.1.0(")
@@ -233,6 +260,10 @@ impl Head for Wrong {
             Some(TakesTheDateFirst) => letter == b'T' && inside.starts_with(b"0.9.2("),
             Some(TakesAnyEdition) => {
                 goes_on && before.sent == 1 && reply.starts_with(&on_the_wire(b"/ZZZ5SUB-VP"))
+            }
+            Some(TakesTheOtherEdition) => {
+                let both = [1, 2].map(identification);
+                goes_on && before.sent == 1 && both.iter().any(|id| id == reply)
             }
             Some(GoesOnAfterNak) => goes_on && reply == [0x95],
             Some(TakesAckWithAHighBit) => goes_on && good == [0x06] && reply == [0x86],
@@ -272,7 +303,9 @@ impl Head for Wrong {
                 };
             }
             Some(TakesOverInTheMiddle) if before.fact == fact::OVER => session.fact = fact::NAK,
-            Some(TakesTwentyFiveLines) if before.work == work::POST && before.count == 25 => {
+            Some(TakesTwentyFiveLines)
+                if before.work == work::POST && before.count == 25 && before.edition == 1 =>
+            {
                 session.count = 24;
             }
             Some(TakesAPostWithoutAPassword) if before.access == 0 && before.work == 1 => {
