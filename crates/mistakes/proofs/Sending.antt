@@ -51,7 +51,6 @@ computed = (
     «has_edition» = (flag refl, flag refl);
     «not_made» = (seen (λ (r : Made). r .number) refl, seen (λ (r : Made). r .number) refl);
     blank = (seen (λ (m : Meter). m .attempts) refl, seen (λ (m : Meter). getD (m .registers .account) 0 0) refl);
-    «not_made» = (seen (λ (r : Made). r .number) refl, seen (λ (r : Made). r .number) refl);
     make = (seen (λ (r : Made). r .number) refl, seen (λ (r : Made). getD (r .meter .registers .facts .serial) 0 0) refl);
   },
   refl,
