@@ -106,7 +106,7 @@ impl Shown {
             periods += self.periods.get(place).unwrap_or(&"0 0 0 0 0 0 0 0 0");
         }
         format!(
-            "{} {count} {} {held} {} {} {} {} {} {} {tables} {} {} {total} {periods}",
+            "{} {count} {} {held} {} {} {} {} {} {} {tables} {} {} {total} {periods} 1",
             self.mode,
             self.mark,
             hex(self.serial.bytes()),
@@ -288,7 +288,7 @@ fn by_hand() -> Fixed {
     let taken = "0 5 0 - 0\n".repeat(35) + "1 5 1 06 0";
     let state = format!(
         "4 0 0 {} 31323334353637383930 4b696c6e5f37206f6c64 3230333034303530 0 2024 2 29 8 5 9 \
-         0 0 0 0 {tables} 5 0 0 0{}",
+         0 0 0 0 {tables} 5 0 0 0{} 1",
         "00".repeat(63),
         " 0 0 0 0 0 0 0 0 0".repeat(12)
     );
