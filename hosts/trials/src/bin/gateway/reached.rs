@@ -70,7 +70,8 @@ impl Reached {
         for name in named {
             self.met(name, name.parse() == Ok(number));
         }
-        self.met("16 before 17", number == 16 && slice.is_empty());
+        let no_start = characters.first() != Some(&Some(SOH));
+        self.met("16 before 17", number == 16 && no_start);
         self.met("1 of edition 2", done && before.edition == 2);
         let (first, second) = (before.edition == 1, before.edition == 2);
         let saturday = body.get(4..8) == Some(&b"Z(25".map(Some));
