@@ -267,7 +267,7 @@ fn write_in(frame: &[u8], highest: usize, mistake: Mistake) -> Option<Write> {
         }
     };
     let account: Option<[u8; 10]> = text.get(6..16).and_then(|part| part.try_into().ok());
-    if let Some(account) = account.filter(|account| good_account(account)) {
+    if let Some(account) = account.filter(good_account) {
         if is(&[b"K", &bracketed(&account)[..]].concat()) {
             return Some(Write::Account(account));
         }

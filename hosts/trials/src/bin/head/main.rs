@@ -766,7 +766,7 @@ fn round_trips(t: &mut Trial) -> Outcome {
                 3 => Kind::Account,
                 4..=8 => Kind::Counter,
                 _ if place < 9 + registers.tables.len() => Kind::Row,
-                _ if (place - 9 - registers.tables.len()) % 5 == 0 => Kind::Period,
+                _ if (place - 9 - registers.tables.len()).is_multiple_of(5) => Kind::Period,
                 _ => Kind::Counter,
             };
             t.value(kind, &read[address.len() + 1..read.len() - 3])?;
