@@ -80,7 +80,7 @@ pub replies : Replies
 unfolding ones seven sent bccOf holding closed frameOf bareFrame blockOf bracketed stored decimal layoutText serialText tableText dateText timeText stampText counterText dataSet linesOf periodsOf closedWith periodSets archiveSets longSets longData closedTwice oldestFirst energy energyNo rowOf askedSets askedData factSets energySets tableSets blockSets blockData identification passwordAsk serial account twos newMeter used tablesOf newRows
 replies =
     record {
-      identify = (byte 0 refl, byte 11 refl);
+      identify = (byte 0 refl, byte 12 refl);
       acknowledge = (byte 0 refl, byte 0 refl);
       refuse = (byte 0 refl, byte 0 refl);
       «ask_password» = (byte 2 refl, byte 3 refl);
