@@ -11,9 +11,8 @@
  * Each is proved, for all records, numbers and buffers, to do what its paragraph says. Pointers
  * must not be null, and what they point to must not overlap.
  *
- * Stack: an event takes some 11,500 bytes (64-bit Arm; 10,900 on thumbv6m, 9,400 on thumbv7em), a
- * test 2,700, making 400; DIRGEMIST_STACK is above each, and hosts/stack and hosts/chip/count.c
- * measure them. The steps of an event hand the state on by value, and up to eight copies of its
+ * Stack: an event takes some 12,200 bytes (64-bit Arm), a whole frame 12,900, a test 3,300, making
+ * 2,000; DIRGEMIST_STACK is above each, and hosts/stack and hosts/chip/count.c measure them. The steps of an event hand the state on by value, and up to eight copies of its
  * tables and its archive are alive at once.
  *
  * Link with libfirmware.a for events, and with libkeeping.a for making, testing and showing.

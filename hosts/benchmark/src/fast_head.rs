@@ -178,9 +178,9 @@ mod tests {
                 second: 58,
             },
             counters: [1_500, 999_999_999, 0, 123_456_789],
-            tables: Vec::from_iter((0..24).map(|t| {
-                std::array::from_fn(|h| b'1' + ((7 * t + 3 * h) % 4) as u8)
-            })),
+            tables: Vec::from_iter(
+                (0..24).map(|t| std::array::from_fn(|h| b'1' + ((7 * t + 3 * h) % 4) as u8)),
+            ),
             periods: vec![Period {
                 closed: Clock {
                     year: 2024,

@@ -350,7 +350,15 @@ pub fn write_table(edition: u8, table: u8, row: &[u8], out: &mut [u8]) -> (u8, u
     let (to, room) = (out.as_mut_ptr(), out.len());
     // SAFETY: see above.
     let number = unsafe {
-        dirgemist_head_write_table(edition, table, row.as_ptr(), row.len(), to, room, &mut length)
+        dirgemist_head_write_table(
+            edition,
+            table,
+            row.as_ptr(),
+            row.len(),
+            to,
+            room,
+            &mut length,
+        )
     };
     (number, length)
 }

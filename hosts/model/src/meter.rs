@@ -246,7 +246,7 @@ impl Clock {
     }
 
     pub fn saturday(&self) -> bool {
-        self.days() % 7 == 0
+        self.days().is_multiple_of(7)
     }
 
     pub fn sunday(&self) -> bool {

@@ -71,13 +71,14 @@ fn state(chance: &mut Chance) -> Meter {
         meter = words::holding(meter, &held, chance.percent(20));
     }
     if chance.percent(2) {
-        match chance.below(6) {
+        match chance.below(8) {
+            6 | 7 => meter.edition = chance.one_of(&[0, 3, 255]),
             0 => meter.mode = chance.between(5, 255) as u8,
             1 => meter.attempts = chance.between(4, 255) as u8,
             2 => meter.total ^= 1,
             3 => meter.held[chance.below(PLACES)] = chance.between(128, 255) as u8,
             4 => meter.place = chance.between(64, 255) as u8,
-            _ => meter.tables[chance.below(24)][chance.below(24)] = b'5',
+            _ => meter.tables[chance.below(25)][chance.below(24)] = b'5',
         }
     }
     meter

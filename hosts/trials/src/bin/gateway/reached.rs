@@ -8,7 +8,7 @@ pub struct Reached(BTreeMap<&'static str, u64>);
 
 /// Each has to be met so often at least.
 const OFTEN: u64 = 20;
-const AIMS: [&str; 30] = [
+const AIMS: [&str; 35] = [
     "1",
     "1 in mode 2",
     "1 in mode 3",
@@ -27,6 +27,11 @@ const AIMS: [&str; 30] = [
     "11",
     "12",
     "14",
+    "16",
+    "16 before 17",
+    "1 of edition 2",
+    "table 25 of edition 2, done",
+    "table 25 of edition 1, 9",
     "17 in mode 0",
     "17 in mode 1",
     "17 with something held",
@@ -60,11 +65,18 @@ impl Reached {
         let body = &characters[..slice.len().saturating_sub(1)];
         let restart = body.iter().skip(1).any(|&got| got == Some(SOH));
         let named = [
-            "1", "3", "4", "5", "6", "7", "8", "9", "10", "11", "12", "14",
+            "1", "3", "4", "5", "6", "7", "8", "9", "10", "11", "12", "14", "16",
         ];
         for name in named {
             self.met(name, name.parse() == Ok(number));
         }
+        let no_start = characters.first() != Some(&Some(SOH));
+        self.met("16 before 17", number == 16 && no_start);
+        self.met("1 of edition 2", done && before.edition == 2);
+        let (first, second) = (before.edition == 1, before.edition == 2);
+        let saturday = body.get(4..8) == Some(&b"Z(25".map(Some));
+        self.met("table 25 of edition 2, done", saturday && second && done);
+        self.met("table 25 of edition 1, 9", saturday && first && number == 9);
         self.met("1 in mode 2", done && before.mode == 2);
         self.met("1 in mode 3", done && before.mode == 3);
         self.met("1 in mode 4", done && before.mode == 4);

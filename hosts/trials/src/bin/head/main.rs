@@ -648,7 +648,8 @@ fn good_value(t: &mut Trial, kind: Kind) -> (Vec<u8>, Vec<u32>) {
                 ..
             } = registers.periods[0].closed;
             let rest = [month, day, hour, minute].map(u32::from);
-            (33, [&[year.into()], &rest[..]].concat())
+            let behind = 9 + registers.tables.len();
+            (behind, [&[year.into()], &rest[..]].concat())
         }
     };
     let (_, value) = registers.data_sets().swap_remove(place);
@@ -764,8 +765,8 @@ fn round_trips(t: &mut Trial) -> Outcome {
                 2 => Kind::Time,
                 3 => Kind::Account,
                 4..=8 => Kind::Counter,
-                9..=32 => Kind::Row,
-                _ if place % 5 == 3 => Kind::Period,
+                _ if place < 9 + registers.tables.len() => Kind::Row,
+                _ if (place - 9 - registers.tables.len()).is_multiple_of(5) => Kind::Period,
                 _ => Kind::Counter,
             };
             t.value(kind, &read[address.len() + 1..read.len() - 3])?;

@@ -684,10 +684,7 @@ fn broken_states(chance: &mut Chance, player: &mut Player) {
         }),
     ));
     for edition in 0..=255 {
-        breakings.push((
-            4,
-            Box::new(move |meter, _| meter.edition = edition),
-        ));
+        breakings.push((4, Box::new(move |meter, _| meter.edition = edition)));
     }
     for table in 0..25 {
         for hour in [0, 1, 11, 22, 23] {

@@ -268,7 +268,8 @@ fn other_work(chance: &mut Chance, task: &Task) -> Vec<u8> {
 
 /// One thing changed in a record; seldom it is a session's still.
 fn spoil(chance: &mut Chance, session: &mut Session) {
-    match chance.below(13) {
+    match chance.below(14) {
+        13 => session.count = chance.one_of(&[24, 25, 26]),
         12 => session.edition = chance.one_of(&[0, 1, 2, 3, 255]),
         0 => session.serial[chance.below(10)] = chance.odd_byte(),
         1 => session.password[chance.below(8)] = chance.odd_byte(),
