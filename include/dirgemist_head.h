@@ -59,7 +59,7 @@ uint8_t dirgemist_head_sign_on_to(const uint8_t *serial, dirgemist_size serial_l
 
 /* The sign-on on the wired link: `/Annn.nnnnnnn` CR LF. The serial is ten digits; the meter of that serial answers
  * `/gnnn.nnnnnnn` CR LF, to ten zeros whichever is there, with its own. */
-uint8_t dirgemist_head_sign_on_wired(const uint8_t *serial, size_t serial_length, uint8_t *out, size_t out_length, size_t *length);
+uint8_t dirgemist_head_sign_on_wired(const uint8_t *serial, dirgemist_size serial_length, uint8_t *out, dirgemist_size out_length, dirgemist_size *length);
 
 /* The confirmation: ACK `0` speed choice CR LF. The speed is the character '0' (300 baud) or '5' (9600), the choice '0' or '7' for the data
  * block, '6' for the data block with the closed periods, '1' for a session. */
