@@ -1,4 +1,4 @@
-/* hand.c: the step of a meter of edition 1 by hand. The record is changed where it lies, and tested whole before every event, a word at a time. */
+/* hand.c: the step of a meter of edition 1 on the optical link by hand, with the tests of every meter. The record is changed where it lies, and tested whole before every event, a word at a time. */
 #include "hand.h"
 
 #include <stdbool.h>
@@ -75,7 +75,7 @@ static bool facts_good(const struct dirgemist_facts *facts) {
         bits |= digits | (digits + 0x76767676);
     }
     return (bits & 0x80808080) == 0 && (uint8_t)(facts->password[6] - '0') < 10 &&
-           (uint8_t)(facts->password[7] - '0') < 10 && facts->edition == 1 && facts->link == 1 &&
+           (uint8_t)(facts->password[7] - '0') < 10 && (facts->link == 1 || facts->link == 2) &&
            facts->decimals == 0;
 }
 
@@ -88,16 +88,16 @@ static bool account_good(const uint8_t *account) {
     return true;
 }
 
-static bool tables_good(const uint8_t *tables) {
+static bool tables_good(const uint8_t *tables, uint8_t edition) {
     const word *four = (const word *)tables;
     uint32_t bits = 0;
     for (uint32_t at = 0; at < TABLES * 6; at += 6) {
         bits |= (four[at] - 0x31313131) | (four[at + 1] - 0x31313131) | (four[at + 2] - 0x31313131);
         bits |= (four[at + 3] - 0x31313131) | (four[at + 4] - 0x31313131) | (four[at + 5] - 0x31313131);
     }
-    uint32_t spare = 0; /* the row that edition 2 has */
+    uint32_t spare = 0; /* the row that edition 2 has, and edition 1 has not */
     for (uint32_t at = TABLES * 6; at < TABLES * 6 + 6; at++) {
-        spare |= four[at];
+        spare |= edition == 2 ? (four[at] - 0x31313131) & 0xFCFCFCFC : four[at];
     }
     return (bits & 0xFCFCFCFC) == 0 && spare == 0;
 }
@@ -151,15 +151,20 @@ static bool good(const struct dirgemist_meter *meter) {
     const struct dirgemist_registers *registers = &meter->registers;
     const struct dirgemist_time *time = &registers->clock.time;
     return meter->mode <= 4 && meter->attempts <= 3 &&
-           (meter->speed == 0 || (meter->speed == 5 && meter->mode >= 2)) && receiver_good(meter) &&
+           (meter->speed == (registers->facts.link == 2 ? 5 : 0) || (meter->speed == 5 && meter->mode >= 2)) &&
+           receiver_good(meter) &&
            facts_good(&registers->facts) && account_good(registers->account) &&
            date_good(&registers->clock.date) && time->hour < 24 && time->minute < 60 &&
-           time->second < 60 && counters_good(&registers->counters) && tables_good(registers->tables) &&
+           time->second < 60 && counters_good(&registers->counters) && tables_good(registers->tables, registers->facts.edition) &&
            archive_good(&registers->archive);
 }
 
+static bool edition_good(const struct dirgemist_meter *meter) {
+    return meter->registers.facts.edition == 1 || meter->registers.facts.edition == 2;
+}
+
 uint8_t hand_check(const struct dirgemist_meter *meter) {
-    return good(meter) ? 1 : 14;
+    return !edition_good(meter) ? 16 : good(meter) ? 1 : 14;
 }
 
 /* ---- The data block. */
@@ -403,6 +408,9 @@ uint8_t hand_meet(struct dirgemist_meter *meter, uint8_t kind, uint32_t value, u
     *length = 0;
     *speed = 0;
     *place = 0;
+    if (!edition_good(meter)) {
+        return 16;
+    }
     if (kind > DIRGEMIST_POWER_UP || (kind == DIRGEMIST_CHARACTER && value > 255)) {
         return DIRGEMIST_NO_EVENT;
     }

@@ -47,7 +47,7 @@ int main(void) {
     open_port(LINK);
     open_port(MEASURING);
     /* What stands in the memory is the state before power was lost, or anything at all. */
-    if (meet(DIRGEMIST_POWER_UP, 0) == 14) {
+    if (meet(DIRGEMIST_POWER_UP, 0) != 1) {
         make();
     }
     for (second = silent = milliseconds;; wait()) {
