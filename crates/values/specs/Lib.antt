@@ -1,4 +1,5 @@
 pub mod Edition
+pub mod Family
 pub mod Registers
 pub mod Texts
 pub mod Numbers
