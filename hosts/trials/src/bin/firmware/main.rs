@@ -209,7 +209,7 @@ fn run() -> Result<(), String> {
     println!("firmware: {lines} lines to eight meters on one wire, only the one called answered");
     println!(
         "firmware: {} events, {} of slow sessions, {} with a place, {} cases of closed months ({} \
-         periods closed, {} blocks with periods), {} on the wired link, {} of EQM meters ({} pulses out), {} meters made, {} records \
+         periods closed, {} blocks with periods), {} on the wired link, {} cases of EQM meters ({} pulses out), {} meters made, {} records \
          checked, all equal; reached all of {}; answers {}",
         reached.events,
         reached.slow,

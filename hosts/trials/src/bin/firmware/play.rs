@@ -23,7 +23,7 @@ pub fn play(pair: &mut Pair, seed: u64, events: u64) -> Outcome {
     let chance = &mut Chance::new(seed);
     while pair.reached.events < events {
         let filling = chance.byte();
-        match chance.weighed(&[80, 5, 5, 4, 3, 4, 4, 3, 2, 2, 1, 60, 100]) {
+        match chance.weighed(&[80, 5, 5, 4, 3, 4, 4, 3, 2, 2, 1, 60, 100, 10]) {
             0 => {
                 for character in message(chance, &pair.model) {
                     let damage = u8::from(chance.one_in(400)) << 7;
@@ -60,6 +60,7 @@ pub fn play(pair: &mut Pair, seed: u64, events: u64) -> Outcome {
             }
             11 => hurt_frame(pair, chance, filling)?,
             12 => months(pair, chance, filling)?,
+            13 => both_ways(pair, chance, filling)?,
             _ => {
                 let meter = any_bytes(chance);
                 let kept = std::mem::replace(&mut pair.model, Meter::blank());
@@ -263,6 +264,36 @@ fn pulses(pair: &mut Pair, chance: &mut Chance, filling: u8) -> Outcome {
             _ => chance.below(1_000_001) as u32,
         };
         pair.meet(kind, units, chance.one_of(&[0, ROOM]), filling)?;
+    }
+    Ok(())
+}
+
+/// Energy of an EQM meter in either direction, in the zones of any hour; what it then shows.
+fn both_ways(pair: &mut Pair, chance: &mut Chance, filling: u8) -> Outcome {
+    let mode = chance.weighed(&[3, 1, 1, 3, 3]) as u8;
+    let decimals = chance.one_of(&[2, 3, 4]);
+    let mut meter = state(chance, mode);
+    meter = of_family(chance, meter, decimals);
+    meter = on_some_link(chance, meter);
+    pair.put(meter);
+    for _ in 0..chance.between(10, 30) {
+        if chance.one_in(3) {
+            let mut meter = pair.model.clone();
+            meter.clock = clock(chance);
+            pair.put(meter);
+        }
+        pulses(pair, chance, filling)?;
+    }
+    let asked = match mode {
+        1 => confirmation(chance.one_of(b"06")),
+        3 | 4 => {
+            let (letter, zone) = (chance.one_of(b"EG"), chance.one_of(b"012345"));
+            read(&[letter, zone, b'(', b')'])
+        }
+        _ => return Ok(()),
+    };
+    for character in asked {
+        pair.meet(0, with_parity(character).into(), ROOM, filling)?;
     }
     Ok(())
 }

@@ -255,7 +255,8 @@ pub struct Reached {
     pub wired: u64,
     /// Events of a good meter of edition 2.
     pub second: u64,
-    /// Events of a good EQM meter, and energy that went out of one.
+    /// Energy of either direction, counters shown and periods closed of an EQM meter, what another
+    /// does not count, and records that are no family's.
     pub eqm: u64,
     pub pulses_out: u64,
     numbers: BTreeMap<u8, u64>,
@@ -404,6 +405,12 @@ impl Reached {
         }
     }
 
+    /// One more case of request [10].
+    fn eqm_case(&mut self) {
+        self.eqm += 1;
+        self.when(self.eqm == 500_000, "half a million cases of EQM meters");
+    }
+
     /// A pulse out of any meter.
     fn out(&mut self, before: &Meter, good: bool, number: u8, value: u32) {
         let ours = before.decimals == 0 && value <= 1_000_000 && number == 13;
@@ -425,8 +432,6 @@ impl Reached {
     }
 
     fn of_eqm(&mut self, before: &Meter, kind: u8, answer: Answer, after: &Meter) {
-        self.eqm += 1;
-        self.when(self.eqm == 500_000, "half a million cases of EQM meters");
         let rolled = |after: &[u32; 4], before: &[u32; 4]| {
             after
                 .iter()
@@ -435,6 +440,7 @@ impl Reached {
         };
         match kind {
             0 if before.mode == 1 && answer.length >= before.block_length() => {
+                self.eqm_case();
                 self.reach(format!("eqm: block of {} decimals", before.decimals));
                 let second = before.edition == 2;
                 self.when(second, "eqm: block of edition 2");
@@ -448,11 +454,15 @@ impl Reached {
                 if let Some(&[letter @ (b'E' | b'G'), zone, b'(', b')']) = before.held().get(4..8) {
                     let asked = format!("{}{}", char::from(letter), char::from(zone));
                     let read = answer.number == 1 && before.held().starts_with(b"\x01R1");
+                    if read {
+                        self.eqm_case();
+                    }
                     self.when(read, &format!("eqm: read {asked}"));
                     self.when(answer.number == 9 && asked == "G5", "eqm: G5 refused");
                 }
             }
             3 if answer.number == 1 => {
+                self.eqm_case();
                 self.when(
                     rolled(&after.counters, &before.counters),
                     "eqm: counter rolls over",
@@ -460,6 +470,7 @@ impl Reached {
                 self.when(after.total < before.total, "eqm: total rolls over");
             }
             5 if answer.number == 1 => {
+                self.eqm_case();
                 self.pulses_out += 1;
                 self.when(
                     rolled(&after.exported, &before.exported),
@@ -484,6 +495,9 @@ impl Reached {
             _ => {}
         }
         let closed = after.periods != before.periods;
+        if closed {
+            self.eqm_case();
+        }
         self.when(
             closed && after.periods[0].exported != [0; 4],
             "eqm: closed with exported counters that are not 0",
@@ -531,7 +545,10 @@ impl Reached {
                     "counter of nine digits in an EQM meter",
                 );
             }
-            _ => self.reach("decimals that are none"),
+            _ => {
+                self.eqm_case();
+                self.reach("decimals that are none");
+            }
         }
     }
 
