@@ -135,7 +135,7 @@ pub fn of_family(chance: &mut Chance, mut meter: Meter, decimals: u8) -> Meter {
     meter.decimals = decimals;
     meter.counters = counters(chance, decimals);
     meter.exported = exported(chance, decimals);
-    for place in 0..usize::from(meter.closed) {
+    for place in 0..usize::from(meter.closed).min(PERIODS) {
         meter.periods[place].counters = counters(chance, decimals);
         meter.periods[place].exported = exported(chance, decimals);
     }
