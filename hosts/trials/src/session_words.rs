@@ -112,6 +112,11 @@ pub fn right(chance: &mut Chance, session: &Session, given: &[u8]) -> Vec<u8> {
 
 /// Registers of a family, with a row for every table that can be asked for.
 fn registers(chance: &mut Chance, decimals: u8) -> Registers {
+    // A record may say decimals that no meter has; then nothing is right.
+    let decimals = match decimals {
+        2..=4 => decimals,
+        _ => 0,
+    };
     let mut registers = chance.registers_of(decimals, 0);
     registers.tables.resize_with(25, || chance.texts(ZONES));
     registers
