@@ -1,5 +1,5 @@
-//! Cards of edition 1 by hand in plain Rust, for speed: a field is tested whole, and the place is looked for only
-//! in the field that failed.
+//! Cards by hand in plain Rust, for speed, those that are read of edition 1: a field is tested whole, and the
+//! place is looked for only in the field that failed.
 
 use crate::fast_meter;
 use model::meter::Meter;
@@ -125,10 +125,12 @@ pub fn read(text: &[u8], out: &mut [u8]) -> (u8, usize, usize) {
 
 /// The card of a state: the number, and its length.
 pub fn write(meter: &Meter, out: &mut [u8]) -> (u8, usize) {
-    if !fast_meter::well_formed(meter) {
-        return (14, 0);
+    let (number, _) = fast_meter::total(meter);
+    if number != 1 {
+        return (number, 0);
     }
-    let Some(card) = out.first_chunk_mut::<CARD>() else {
+    let length = CARD + TABLE_FIELD * usize::from(meter.edition - 1);
+    let Some(card) = out.get_mut(..length) else {
         return (41, 0);
     };
     card[..3].copy_from_slice(&[1, 0, 10]);
@@ -138,5 +140,5 @@ pub fn write(meter: &Meter, out: &mut [u8]) -> (u8, usize) {
         field[..4].copy_from_slice(&[2, 0, 25, number]);
         field[4..].copy_from_slice(row);
     }
-    (1, CARD)
+    (1, length)
 }

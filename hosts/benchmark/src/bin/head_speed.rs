@@ -3,7 +3,7 @@
 
 use benchmark::fast_head;
 use dirgemist::head as library;
-use model::head::{self, answer, Clock, Lookup, Registers, Step};
+use model::head::{self, answer, Clock, Lookup, Registers, Step, COMMAND_ROOM};
 use std::cell::RefCell;
 use std::hint::black_box;
 use std::process::ExitCode;
@@ -31,7 +31,9 @@ fn registers() -> Registers {
             minute: 59,
             second: 58,
         },
+        decimals: 0,
         counters: [1_500, 999_999_999, 0, 123_456_789],
+        exported: [0; 4],
         tables: (0..24)
             .map(|table| std::array::from_fn(|hour| b'1' + ((7 * table + 3 * hour) % 4) as u8))
             .collect(),
@@ -87,6 +89,42 @@ fn fast_next(sets: &[u8], at: usize) -> Step {
 #[inline(never)]
 fn fast_find(sets: &[u8], address: &[u8]) -> Lookup {
     fast_head::find(sets, address)
+}
+
+#[inline(never)]
+fn fast_value_eqm(decimals: u8, value: &[u8]) -> (u8, u32) {
+    fast_head::value_eqm(decimals, value)
+}
+
+#[inline(never)]
+fn fast_read_zone_out(zone: u8, out: &mut [u8]) -> (u8, usize) {
+    fast_head::read_zone_out(zone, out)
+}
+
+/// The two sides of what an EQM meter is asked and of what it says.
+fn eqm_equal() -> bool {
+    let asks = (0..=255).all(|zone| {
+        [63, 64].into_iter().all(|room| {
+            let (mut one, mut other) = (vec![0x5A; room], vec![0x5A; room]);
+            fast_head::read_zone_out(zone, &mut one) == library::read_zone_out(zone, &mut other)
+                && one == other
+        })
+    });
+    let values = (0..=6).all(|decimals| {
+        ["123456.78*kWh", "12345.678*kWh", "1234.5678*kWh"]
+            .into_iter()
+            .all(|good| {
+                (0..good.len()).all(|place| {
+                    (0..=255).all(|byte| {
+                        let mut value = good.as_bytes().to_vec();
+                        value[place] = byte;
+                        fast_head::value_eqm(decimals, &value)
+                            == library::value_eqm(decimals, &value)
+                    })
+                })
+            })
+    });
+    asks && values
 }
 
 /// Reads all data sets through one reader: the last answer, how many were read, and where it stays.
@@ -162,7 +200,7 @@ fn main() -> ExitCode {
     let block = head::block(&sets);
     let wire = head::on_the_wire(&block);
     assert_eq!(wire.len(), 1_063);
-    if !all_equal(&wire, &block, &sets) {
+    if !all_equal(&wire, &block, &sets) || !eqm_equal() {
         println!("head: the sides differ; nothing is timed");
         return ExitCode::FAILURE;
     }
@@ -216,6 +254,28 @@ fn main() -> ExitCode {
             },
         )
     });
+    let eqm_value = medians(
+        || {
+            black_box(fast_value_eqm(black_box(3), black_box(b"12345.678*kWh")));
+        },
+        || {
+            black_box(library::value_eqm(
+                black_box(3),
+                black_box(b"12345.678*kWh"),
+            ));
+        },
+    );
+    let command = RefCell::new([0; COMMAND_ROOM]);
+    let eqm_ask = medians(
+        || {
+            let out = &mut command.borrow_mut()[..];
+            black_box(fast_read_zone_out(black_box(3), black_box(out)));
+        },
+        || {
+            let out = &mut command.borrow_mut()[..];
+            black_box(library::read_zone_out(black_box(3), black_box(out)));
+        },
+    );
     println!(
         "{:<28}{:>10}{:>12}{:>8}",
         "name", "rust_ns", "rattle_ns", "ratio"
@@ -227,6 +287,8 @@ fn main() -> ExitCode {
         ("33 data sets, Rust inlined", inlined),
         ("find the total, ninth of 33", total),
         ("find the last of 33", last),
+        ("an EQM value read", eqm_value),
+        ("G3() built", eqm_ask),
     ] {
         println!(
             "{name:<28}{rust:>10.1}{library:>12.1}{:>8.2}",

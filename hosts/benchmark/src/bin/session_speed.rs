@@ -50,7 +50,9 @@ fn right(session: &Session, work: &[u8]) -> Vec<u8> {
                 b'T' => [line("0.9.1", "23:59:58"), line("0.9.2", "28-02-29")].concat(),
                 b'L' => line("C.1.0", "123 4567890"),
                 b'K' => line("0.0.0", "Kiln_7 old"),
-                b'E' => line(&format!("15.8.{n}"), "000123.456*kWh"),
+                b'E' if session.decimals == 0 => line(&format!("15.8.{n}"), "000123.456*kWh"),
+                b'E' => line(&format!("1.8.{n}"), "01234.567*kWh"),
+                b'G' => line(&format!("2.8.{n}"), "01234.567*kWh"),
                 _ => line(&format!("131.0.{n:02}"), "123412341234123412341234"),
             };
             block(&data)
@@ -84,6 +86,9 @@ fn compared(told: &Told) -> Result<usize, &'static str> {
         right.then_some(()).ok_or("the two sides differ")
     };
     see(same_start(told, MESSAGE_ROOM) && same_start(told, 63) && started.number == DONE)?;
+    for decimals in 0..=255 {
+        see(same_start(&told.eqm(decimals), MESSAGE_ROOM))?;
+    }
     for cut in 0..told.work.len() {
         let work = &told.work[..cut];
         see(same_start(&Told { work, ..*told }, MESSAGE_ROOM))?;
@@ -137,6 +142,10 @@ fn compared(told: &Told) -> Result<usize, &'static str> {
                 },
                 Session {
                     fact: value,
+                    ..session
+                },
+                Session {
+                    decimals: value,
                     ..session
                 },
                 Session {
@@ -229,7 +238,8 @@ fn main() -> ExitCode {
     let reading = Told::reads(READS).to(SERIAL).with(PASSWORD);
     let posting = Told::post(&post).to(SERIAL).with(PASSWORD);
     let any = Told::reads(b"E\0K\0");
-    for told in [&reading, &posting, &any] {
+    let eqm = Told::reads(b"E\0G\0G\x04K\0").eqm(3);
+    for told in [&reading, &posting, &any, &eqm] {
         match compared(told) {
             Ok(calls) => println!("equal on {calls} calls"),
             Err(complaint) => {
@@ -247,6 +257,7 @@ fn main() -> ExitCode {
         ("start, the longest post", starts(&posting)),
         ("identification heard, confirmation", replies(&reading, 1)),
         ("a row heard, the next read", replies(&reading, 10)),
+        ("an EQM counter heard, the next read", replies(&eqm, 5)),
         ("ACK heard, the next row written", replies(&posting, 10)),
     ] {
         println!(
