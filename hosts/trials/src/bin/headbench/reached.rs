@@ -277,10 +277,12 @@ impl Reached {
                     self.reach("a value of other decimals");
                 }
             }
-            ("session", false) if told[0] == "9" && rest[0] == "0" => {
-                if rest.iter().any(|word| word.starts_with('G')) {
-                    self.reach("session: 9 for G in document 01's family");
-                }
+            ("session", false)
+                if told[0] == "9"
+                    && rest[0] == "0"
+                    && rest.iter().any(|word| word.starts_with('G')) =>
+            {
+                self.reach("session: 9 for G in document 01's family");
             }
             ("build table" | "build settable", true) if rest[2] == "24" => self.reach("table 24"),
             ("build table" | "build settable", true) if rest[2] == "25" => self.reach("table 25"),
