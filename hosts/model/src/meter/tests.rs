@@ -1196,3 +1196,161 @@ fn family_edition_and_link_go_together_freely() {
         }
     }
 }
+
+/// What can happen to a meter on the wire in the next test.
+enum Happens {
+    Byte(u8),
+    Silence,
+    Tick,
+    PowerUp,
+    Pulse,
+}
+
+/// An event on the wire, derived from the optical link and document 02 [14] alone: number, place, the
+/// characters sent, and the next state. Every speed is 5.
+fn on_the_wire(meter: &Meter, event: &Happens) -> (u8, u8, Vec<u8>, Meter) {
+    let mut twin = Meter {
+        link: OPTICAL,
+        speed: if meter.mode < PASSWORD { 0 } else { 5 },
+        ..meter.clone()
+    };
+    let mut buffer = [0xAA; ROOM];
+    let answer = match event {
+        Happens::Byte(byte) => twin.character(*byte, &mut buffer),
+        Happens::Silence => twin.silence(&mut buffer),
+        Happens::Tick => twin.tick(),
+        Happens::PowerUp => twin.power_up(),
+        Happens::Pulse => twin.pulse(Way::In, 5),
+    };
+    let mut sent: Vec<u8> = buffer[..answer.length].iter().map(|b| b & 0x7F).collect();
+    let mut number = answer.number;
+    let mut next = Meter {
+        link: WIRED,
+        speed: 5,
+        ..twin
+    };
+    let back = |mode: u8| Meter {
+        mode,
+        count: 0,
+        mark: 0,
+        place: 0,
+        held: [0; PLACES],
+        ..meter.clone()
+    };
+    match event {
+        Happens::Byte(0x0A) if meter.mode == LISTENING && meter.count > 0 => {
+            // A line ends: only `/Annn.nnnnnnn` calls, with our serial or with zeros.
+            let called = |serial: &[u8]| {
+                let line = [b"/A", &serial[..3], b".", &serial[3..], b"\r"].concat();
+                meter.mark == 0 && meter.held() == line
+            };
+            let calls = called(&meter.serial) || called(b"0000000000");
+            number = calls.into();
+            next = back(if calls { CONFIRMATION } else { LISTENING });
+            let answered = [b"/g", &meter.serial[..3], b".", &meter.serial[3..], b"\r\n"];
+            sent = if calls { answered.concat() } else { Vec::new() };
+        }
+        Happens::Byte(_) if meter.mode == CONFIRMATION && meter.count == 5 => {
+            // The confirmation's digit must be 5.
+            if meter.held[2] != b'5' {
+                (number, sent, next) = (2, Vec::new(), back(LISTENING));
+            }
+        }
+        Happens::Silence if meter.mode == CONFIRMATION => sent.clear(),
+        _ if (3..=11).contains(&number) => {
+            // No reply, and the session is dropped; attempts count as before.
+            sent.clear();
+            next = Meter {
+                attempts: next.attempts,
+                ..back(LISTENING)
+            };
+        }
+        _ => {}
+    }
+    (number, answer.place, sent, next)
+}
+
+#[test]
+fn the_wire_is_the_optical_link_but_for_what_the_page_says() {
+    let mut seed = 14_u64;
+    let mut chance = |most: usize| {
+        seed = seed
+            .wrapping_mul(6_364_136_223_846_793_005)
+            .wrapping_add(1_442_695_040_888_963_407);
+        (seed >> 33) as usize % most
+    };
+    let mut numbers = [0; 12];
+    let mut meter = wired_in(LISTENING);
+    for _ in 0..60_000 {
+        let lines: [&[u8]; 7] = [
+            b"/A123.4567890\r\n",
+            b"/A123.4567890\r\n",
+            b"/A000.0000000\r\n",
+            b"/A123.4567891\r\n",
+            b"/?!\r\n",
+            b"/C!\r\n",
+            b"/g123.4567890\r\n",
+        ];
+        let frames = [
+            true_frame("P1", "()"),
+            true_frame("P1", "(20304050)"),
+            true_frame("P1", "(20304051)"),
+            true_frame("P1", "(2030405)"),
+            true_frame("R1", "E0()"),
+            true_frame("R1", "G0()"),
+            true_frame("R1", "T()"),
+            true_frame("W1", &format!("Z(07;{ALL_ONES})")),
+            true_frame("W1", "K(Kiln-7 old)"),
+            true_frame("X1", "()"),
+            frame("R1", "T()", 0),
+            true_frame("W1", &"x".repeat(59)),
+            true_frame("R1", "T(\x1F)"),
+            b"\x01B0\x03\x71".to_vec(),
+        ];
+        let message = match meter.mode {
+            LISTENING => lines[chance(lines.len())].to_vec(),
+            CONFIRMATION => {
+                let (speed, choice) = (b"50"[chance(9) / 8], b"11106712"[chance(8)]);
+                vec![ACK, b'0', speed, choice, CR, LF]
+            }
+            PASSWORD => frames[[2, 2, 2, 2, 1, 0, 3, 7][chance(8)]].clone(),
+            _ => frames[chance(frames.len())].clone(),
+        };
+        let mut events: Vec<Happens> = message
+            .iter()
+            .map(|&character| Happens::Byte(with_parity(character)))
+            .collect();
+        if chance(6) == 0 {
+            let place = chance(events.len());
+            events[place] = Happens::Byte(chance(256) as u8);
+        }
+        match chance(40) {
+            0 => events.insert(chance(message.len()), Happens::Silence),
+            1 => events.insert(chance(message.len()), Happens::PowerUp),
+            2 => events.insert(chance(message.len()), Happens::Tick),
+            3 => events.push(Happens::Pulse),
+            _ => {}
+        }
+        for event in &events {
+            let wanted = on_the_wire(&meter, event);
+            let mut buffer = [0xAA; ROOM];
+            let answer = match event {
+                Happens::Byte(byte) => meter.character(*byte, &mut buffer),
+                Happens::Silence => meter.silence(&mut buffer),
+                Happens::Tick => meter.tick(),
+                Happens::PowerUp => meter.power_up(),
+                Happens::Pulse => meter.pulse(Way::In, 5),
+            };
+            let (sent, kept) = buffer.split_at(answer.length);
+            let sent: Vec<u8> = sent.iter().map(|b| b & 0x7F).collect();
+            let given = (answer.number, answer.place, sent, meter.clone());
+            assert_eq!(given, wanted);
+            assert!(answer.speed == 5 && kept.iter().all(|&byte| byte == 0xAA));
+            assert!(meter.well_formed());
+            numbers[usize::from(answer.number)] += 1;
+        }
+    }
+    for (number, times) in numbers.iter().enumerate() {
+        assert!(*times > 20, "{number} came {times} times");
+    }
+}
