@@ -11,9 +11,10 @@
  * Each is proved, for all records, numbers and buffers, to do what its paragraph says. Pointers
  * must not be null, and what they point to must not overlap.
  *
- * Stack: an event takes some 12,200 bytes (64-bit Arm), a whole frame 12,900, a test 3,300, making
- * 2,000; DIRGEMIST_STACK is above each, and hosts/stack and hosts/chip/count.c measure them. The steps of an event hand the state on by value, and up to eight copies of its
- * tables and its archive are alive at once.
+ * Stack: an event takes some 15,900 bytes (x86-64), a whole frame 16,600, a test 3,500, making
+ * 4,100; DIRGEMIST_STACK is above each, and hosts/stack and hosts/chip/count.c measure them. The
+ * steps of an event hand the state on by value, and up to eight copies of its tables and its archive
+ * are alive at once.
  *
  * Link with libfirmware.a for events, and with libkeeping.a for making, testing and showing.
  */
@@ -27,7 +28,7 @@ extern "C" {
 #endif
 
 #define DIRGEMIST_REPLY_ROOM 4096 /* the least room of a reply buffer */
-#define DIRGEMIST_STACK 16384     /* the most stack that a call takes, in bytes */
+#define DIRGEMIST_STACK 20480     /* the most stack that a call takes, in bytes */
 
 struct dirgemist_date {
     uint16_t year; /* 2000 to 2099 */
