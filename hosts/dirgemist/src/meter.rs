@@ -138,8 +138,8 @@ pub struct Registers {
     pub archive: Archive,
 }
 
-/// The record. Any numbers may stand in it: a call tells by 14 that they are no meter's, and leaves
-/// them as they were.
+/// The record. Any numbers may stand in it: a call tells by 14 or 16 that they are no meter's, and
+/// leaves them as they were.
 #[repr(C)]
 #[derive(Clone, Copy, Debug, PartialEq, Eq)]
 pub struct Meter {
@@ -285,13 +285,13 @@ impl Meter {
         (number, unsafe { meter.assume_init() })
     }
 
-    /// 1 for a well-formed record, else 14.
+    /// 1 for a well-formed record, else 14, or 16 for an edition that is none.
     pub fn check(&self) -> u8 {
         // SAFETY: the record has the library's layout and is only read.
         unsafe { dirgemist_meter_check(self) }
     }
 
-    /// The total for a display with 1, or 0 with 14.
+    /// The total for a display, of what came in, with 1, or 0 with 14 or 16.
     pub fn total(&self) -> (u8, u32) {
         let mut total = u32::MAX;
         // SAFETY: both pointers are those of live borrows.
