@@ -648,12 +648,14 @@ static void every_damage(const struct dirgemist_session *base, struct text work)
     }
 }
 
-/* Everything above, for one edition and one family. */
+/* Everything above, for one edition and one family. A post is the same to every family: what it is damaged to be is tried with one. */
 static void try_meters(uint8_t of, uint8_t family) {
     edition = of;
     decimals = family;
     every_start();
-    every_post();
+    if (family == 0) {
+        every_post();
+    }
 
     static const struct text reads = TEXT("T\0L\0K\0E\0E\1E\2E\3E\4Z\1Z\12Z\30");
     struct told told = {1, 1, 0, serial_told, password_told, reads};
@@ -673,7 +675,7 @@ static void try_meters(uint8_t of, uint8_t family) {
         play(&told, false);
     }
     told = (struct told){1, 1, 1, serial_told, password_told, post_of(9, 3)};
-    play(&told, true);
+    play(&told, family == 0);
     for (unsigned lines = 1; lines <= tables_of(edition); lines++) {
         told = (struct told){0, 1, 1, nobody, password_told, post_of(tables_of(edition) + 1 - lines, lines)};
         play(&told, false);
@@ -687,7 +689,9 @@ static void try_meters(uint8_t of, uint8_t family) {
         every_damage(&base, reads);
         base = (struct dirgemist_session){.access = 1, .work = 1, .count = 2, .sent = sent, .fact = sent > 4 ? sent - 2u : 0, .edition = edition, .decimals = decimals};
         memcpy(base.password, password_told.at, 8);
-        every_damage(&base, post_of(1, 2));
+        if (family == 0) {
+            every_damage(&base, post_of(1, 2));
+        }
         base = (struct dirgemist_session){.count = 2, .sent = sent, .fact = sent == 6, .edition = edition, .decimals = decimals};
         every_damage(&base, reads);
     }
