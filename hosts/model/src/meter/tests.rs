@@ -1250,11 +1250,11 @@ fn on_the_wire(meter: &Meter, event: &Happens) -> (u8, u8, Vec<u8>, Meter) {
             let answered = [b"/g", &meter.serial[..3], b".", &meter.serial[3..], b"\r\n"];
             sent = if calls { answered.concat() } else { Vec::new() };
         }
-        Happens::Byte(_) if meter.mode == CONFIRMATION && meter.count == 5 => {
+        Happens::Byte(_)
+            if meter.mode == CONFIRMATION && meter.count == 5 && meter.held[2] != b'5' =>
+        {
             // The confirmation's digit must be 5.
-            if meter.held[2] != b'5' {
-                (number, sent, next) = (2, Vec::new(), back(LISTENING));
-            }
+            (number, sent, next) = (2, Vec::new(), back(LISTENING));
         }
         Happens::Silence if meter.mode == CONFIRMATION => sent.clear(),
         _ if (3..=11).contains(&number) => {
