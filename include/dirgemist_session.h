@@ -62,15 +62,17 @@ struct dirgemist_session {
 
 #define DIRGEMIST_SESSION_ROOM 64 /* the least buffer that a message is built in */
 
-/* Starts a session with meters of an edition and of a family in *session, whatever stood there: only that edition's identification is
- * then right, and energy only in that family's lines. decimals is 0, or 2, 3 or 4 for EQM meters. named is 1 with the ten digits of a serial at serial, or 0 for any meter;
- * access is 1 with the eight digits of a password at password, or 0 for `()`; what is not named is not looked at. kind is 0 for
- * reads, two bytes each at work: a letter 'T', 'L', 'K', 'E', 'G' or 'Z', and the number of the energy, 0 to 4 (0 the total), or of
- * the table, 1 to 24, or to 25 for edition 2; with the other letters the number may be any. 'G', what went out, is for EQM meters alone, and else 9. kind is 1 for the text of a post at work.
+/* Starts a session with meters of an edition and of a family in *session, whatever stood there: only that edition's
+ * identification is then right, and energy only in that family's lines. decimals is 0, or 2, 3 or 4 for EQM meters. named is 1
+ * with the ten digits of a serial at serial, or 0 for any meter; access is 1 with the eight digits of a password at password, or
+ * 0 for `()`; what is not named is not looked at. kind is 0 for reads, two bytes each at work: a letter 'T', 'L', 'K', 'E', 'G'
+ * or 'Z', and the number of the energy, 0 to 4 (0 the total), or of the table, 1 to 24, or to 25 for edition 2; with the other
+ * letters the number may be any. 'G', what went out, is for EQM meters alone, and else 9. kind is 1 for the text of a post at
+ * work.
  * Returns DIRGEMIST_SESSION_DONE: the sign-on stands at the front of out, *length is its length, and every byte past it is as it
- * was. Or a refusal, in the order 16, 18, 19, 28, 29, 20, 30, 9: *session is then all zeros, which is no session, *length is 0, and every
- * byte of out is as it was. *place is 0 but for 20, where it is the length of the longest beginning that some post shares. A list
- * of reads with an odd number of bytes, a flag that is neither 0 nor 1, and a kind that is neither, are 9. */
+ * was. Or a refusal, in the order 16, 18, 19, 28, 29, 20, 30, 9: *session is then all zeros, which is no session, *length is 0,
+ * and every byte of out is as it was. *place is 0 but for 20, where it is the length of the longest beginning that some post
+ * shares. A list of reads with an odd number of bytes, a flag that is neither 0 nor 1, and a kind that is neither, are 9. */
 uint8_t dirgemist_session_start(struct dirgemist_session *session, uint8_t edition, uint8_t decimals, uint8_t named, const uint8_t *serial, dirgemist_size serial_length, uint8_t access, const uint8_t *password, dirgemist_size password_length, uint8_t kind, const uint8_t *work, dirgemist_size work_length, uint8_t *out, dirgemist_size out_length, dirgemist_size *length, dirgemist_size *place);
 
 /* A reply has come, all of it, as the bytes of the line. Returns
