@@ -17,6 +17,7 @@ use Rattle.state.specs.declared.Facts.{Facts}
 use Rattle.state.specs.WellFormed.{wellFormed}
 use Rattle.state.specs.Making.{emptyReceiver, noCounters, factsOf, meterOf, madeOf}
 use Rattle.state.specs.Setting.{withMark, withReceiver, inMode, withSpeed, withAttempts, withRegisters, withCounters, withZones, withTotal, rowStart}
+use Rattle.replies.specs.Fixed.{passwordAsk}
 use Rattle.meter.specs.Outcomes.{Outcome, answerOf, saying, nak}
 use Rattle.meter.specs.Character.{character}
 use Rattle.meter.specs.Events.{tick}
@@ -24,11 +25,13 @@ use Rattle.meter.specs.declared.Event.the-variants.{Silence}
 use Rattle.meter.specs.Life.{refusal}
 use Rattle.settling.specs.Settling.{goesOn}
 use Rattle.firmware.specs.Replies.{settledReply}
-use Rattle.post.specs.Grammar.{lineText}
+use Rattle.post.specs.Grammar.{lineText, postText}
 use Rattle.post.specs.Place.{CheckedAs}
 use Rattle.reading.specs.Sets.{setRead}
 use Rattle.mistakes.specs.RuledOut.{RuledOut}
 use Rattle.mistakes.specs.Samples.{noon, serial, account, password, twos, newMeter, heldIn}
+use Rattle.mistakes.specs.Events.{slowConfirmed}
+use Rattle.mistakes.specs.Posts.{entry}
 use Rattle.mistakes.specs.Commands.{NotLeft, room}
 use Rattle.mistakes.specs.Replying.{twoSets}
 
@@ -51,6 +54,10 @@ wrongPassword = heldIn 2 (take 15 (frameOf P1 (bracketed (replicate 8 48))))
 unfoldable pub wrongTried : Outcome
 wrongTried = character wrongPassword replyRoom (sent (getD (frameOf P1 (bracketed (replicate 8 48))) 15 0))
 
+-- a row whose eighth character is a bracket, which is column 16 of its line
+unfoldable pub bracketWithin : List ℕ
+bracketWithin = postText (entry 7 (replicate 7 49 ++ (chars ")" ++ replicate 16 49)) ∷ [])
+
 pub record State : Type 0 where
   -- the rows of all tables but the first go past the last one
   pub first-row-only : RuledOut (rowStart 2) (tablePlaces * rowLength)
@@ -70,6 +77,8 @@ pub record Meters : Type 0 where
   pub calls-a-small-buffer-malformed : RuledOut (refusal 4095 Silence) 14
   -- 10, and no attempt more
   pub forgives-a-wrong-password : RuledOut (answerOf wrongTried) (answerOf (nak 10 wrongPassword))
+  -- the slow confirmation answered at 9600 baud, and the session at 9600
+  pub answers-the-slow-at-9600 : RuledOut (answerOf slowConfirmed) (answerOf (saying 1 5 passwordAsk (withSpeed (inMode newMeter 2) 5)))
   -- the mode for the speed, where nothing is replied
   pub gives-the-wrong-speed : RuledOut (answerOf (tick fast)) (answerOf (saying 1 4 [] (tick fast .next)))
   -- a settled character with a reply of one byte
@@ -84,3 +93,5 @@ pub record Head : Type 0 where
 pub record Post : Type 0 where
   -- the line's place twice over, for a '1' below table 24
   pub makes-up-the-place : CheckedAs 24 (lineText 24 twos ++ chars "1") 20 72 → ⊥
+  -- a bracket in one of the four columns that are not looked at
+  pub keeps-what-follows-a-bracket : CheckedAs 24 bracketWithin 1 0 → ⊥
