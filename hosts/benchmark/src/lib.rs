@@ -4,3 +4,4 @@ pub mod fast_mercury;
 pub mod fast_meter;
 pub mod fast_post;
 pub mod fast_session;
+pub mod turns;
