@@ -226,7 +226,7 @@ fn shared_with_last(bytes: &[u8], above: u8) -> usize {
 
 /// Eight characters with their parity bits.
 #[inline(always)]
-fn wires(characters: u64) -> u64 {
+pub fn wires(characters: u64) -> u64 {
     let mut odd = characters ^ (characters >> 4);
     odd ^= odd >> 2;
     odd ^= odd >> 1;

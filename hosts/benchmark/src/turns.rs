@@ -22,9 +22,10 @@ pub fn only_compares() -> bool {
 /// Says whether the sides are equal. Hands back the exit status where that is all: they differ, or
 /// nothing is to be timed.
 pub fn compared(name: &str, equal: bool) -> Option<ExitCode> {
+    let only_compares = only_compares();
     if equal {
         println!("{name}: the sides are equal");
-        only_compares().then_some(ExitCode::SUCCESS)
+        only_compares.then_some(ExitCode::SUCCESS)
     } else {
         println!("{name}: the sides differ; nothing is timed");
         Some(ExitCode::FAILURE)
