@@ -120,7 +120,7 @@ static DAYS: [u8; 256] = {
 /// Whether a day is one of the month, by the year's last two digits.
 #[inline(always)]
 pub fn is_date(year: u8, month: u8, day: u8) -> bool {
-    let leap = (month == 2) & (year % 4 == 0);
+    let leap = (month == 2) & year.is_multiple_of(4);
     (day >= 1) & (day <= DAYS[usize::from(month)] + u8::from(leap))
 }
 
