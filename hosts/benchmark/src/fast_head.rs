@@ -6,14 +6,32 @@ use model::head::{answer, Lookup, Step};
 const STX: u8 = 0x02;
 const ETX: u8 = 0x03;
 
+/// Whether some byte has an odd count of ones: without a way out, so that many are taken at a time;
+/// eight as one number, or by the vectors' count of ones where they have it.
+#[inline(always)]
+fn any_damaged(reply: &[u8]) -> bool {
+    if cfg!(target_arch = "aarch64") {
+        return reply.iter().fold(0, |all, b| all | b.count_ones() as u8) & 1 == 1;
+    }
+    let odd = |eight: u64| {
+        let four = eight ^ eight >> 4;
+        let two = four ^ four >> 2;
+        two ^ two >> 1
+    };
+    let (eights, rest) = reply.as_chunks::<8>();
+    let eights = eights
+        .iter()
+        .fold(0, |all, eight| all | odd(u64::from_le_bytes(*eight)));
+    let all = rest.iter().fold(eights, |all, &b| all | odd(u64::from(b)));
+    all & 0x0101_0101_0101_0101 != 0
+}
+
 /// Strips a reply's parity into `out`: answer, length, and with 24 the place of the first damaged byte.
 pub fn strip(reply: &[u8], out: &mut [u8]) -> (u8, usize, usize) {
     let Some(copy) = out.get_mut(..reply.len()) else {
         return (answer::SHORT_COPY, 0, 0);
     };
-    // The lowest bit gathers every odd count; without a way out the loop takes many bytes at a time.
-    let counts = reply.iter().fold(0, |all, b| all | b.count_ones() as u8);
-    if counts & 1 == 1 {
+    if any_damaged(reply) {
         let first = reply.iter().position(|b| b.count_ones() % 2 == 1);
         return (answer::DAMAGED, 0, first.unwrap_or(0));
     }
