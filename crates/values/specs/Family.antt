@@ -18,7 +18,7 @@ unfoldable pub counterDigits : ℕ → ℕ
 counterDigits family = cond (eqb family 0) 9 8
 
 unfoldable pub counterDecimals : ℕ → ℕ
-counterDecimals family = cond (eqb family 0) 3 family
+counterDecimals family = cond (eqb family 0) 3 (cond (eqb family 2) 2 (cond (eqb family 3) 3 4))
 
 -- a counter rolls over here, and so does a total
 unfoldable pub counterEnd : ℕ → ℕ
