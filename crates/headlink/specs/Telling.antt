@@ -8,14 +8,14 @@ use lib.ListN.{length}
 use Rattle.text.specs.Writing.{holding}
 use Rattle.values.specs.Family.{isFamily, isEqm}
 use Rattle.values.specs.Reading.{energyRead}
-use Rattle.headlink.specs.declared.fields.Eqm.{Eqm}
+use Rattle.headlink.specs.declared.fields.Counted.{Counted}
 
 -- 1, or 25 for a value that is not in its line's form
 unfoldable pub valueNumber : Bool → ℕ
 valueNumber ok = cond ok 1 25
 
 -- [10]: 18 before all else for decimals that no EQM meter has
-unfoldable pub eqmTold : ℕ → List ℕ → Eqm
+unfoldable pub eqmTold : ℕ → List ℕ → Counted
 eqmTold decimals value =
     cond (isFamily decimals && isEqm decimals)
     (record { number = valueNumber (energyRead decimals value .ok); count = energyRead decimals value .number })

@@ -135,23 +135,23 @@ pub extern "C" fn dirgemist_head_value_counter(value: &[u8], wh: &mut u32) -> u8
 }
 
 // What is told of an EQM meter's counter.
-pub struct Eqm {
+pub struct Counted {
     pub number: u8,
     pub count: u32,
 }
 
-fn eqm(decimals: u8, value: &[u8]) -> Eqm
+fn read_eqm(decimals: u8, value: &[u8]) -> Counted
     ensures { λ r. ⌜ r ≡ eqmTold decimals (now (value .entry)) ⌝ }
 {
     let known = values::family::is_family(decimals) & values::family::is_eqm(decimals);
     if known {
         let v = values::reading::read_counter(value, decimals);
-        return Eqm {
+        return Counted {
             number: number(v.ok),
             count: v.number,
         };
     }
-    Eqm {
+    Counted {
         number: NO_FAMILY,
         count: 0,
     }
@@ -162,7 +162,7 @@ fn eqm(decimals: u8, value: &[u8]) -> Eqm
 pub extern "C" fn dirgemist_head_value_eqm(decimals: u8, value: &[u8], count: &mut u32) -> u8
     ensures { λ r. ⌜ record { number = r; count = now (count .exit) } ≡ eqmTold decimals (now (value .entry)) ⌝ }
 {
-    let t = eqm(decimals, value);
+    let t = read_eqm(decimals, value);
     *count = t.count;
     t.number
 }

@@ -1,8 +1,8 @@
--- `headlink::fields::eqm` meets its contract: what was read is handed on, or 18. Assumes nothing.
+-- `headlink::fields::read_eqm` meets its contract: what was read is handed on, or 18. Assumes nothing.
 use borrow.Author.Needs.{needs}
 use Rattle.headlink.specs.Telling.{eqmTold}
-use Rattle.headlink.proofs.fields.eqm.Statement.{statement}
-use Rattle.headlink.proofs.fields.eqm.Tie as tie
+use Rattle.headlink.proofs.fields.read_eqm.Statement.{statement}
+use Rattle.headlink.proofs.fields.read_eqm.Tie as tie
 
 returns : tie.Need-returns
 unfolding eqmTold
@@ -15,5 +15,5 @@ returns-2 : tie.Need-returns-2
 unfolding eqmTold
 returns-2 c = rw (← c .before .before .is-family .ensures, ← c .before .is-eqm .ensures, c .if1 .left)
 
-pub eqm-spec : {M : Type 1} → statement M
-eqm-spec = tie.close (tie.spec (λ c κs. search needs) (λ c κs. search needs) (λ c κs. search needs) (λ c κs. search needs) returns returns-2)
+pub read-eqm-spec : {M : Type 1} → statement M
+read-eqm-spec = tie.close (tie.spec (λ c κs. search needs) (λ c κs. search needs) (λ c κs. search needs) (λ c κs. search needs) returns returns-2)
