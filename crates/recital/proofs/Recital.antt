@@ -1,8 +1,9 @@
 -- Every block of a well-formed meter, its data block and its answers to R1, reads back to the meter's own registers. Assumes nothing.
 use mathlib.Core.Path.{_≡_, refl, sym, ap, subst, _∙_}
-use mathlib.Core.Bool.{Bool, true}
+use mathlib.Core.Bool.{Bool, true, false, cond}
 use mathlib.Core.List.{List, [], _∷_, _++_, map, map-append}
 use Prim.Native.Nat.{ℕ, zero, suc, _+_, _*_, _≤_}
+use native.Mathlib.Nat.{suc-mul}
 use native.Mathlib.Omega.{arith}
 use borrow.Author.Tests.{leb-true, le-leb}
 use lib.Dec.{leb, lit≤}
@@ -10,6 +11,7 @@ use lib.ListN.{length, take, length-append, length-map}
 use Rattle.line.specs.Runs.{every}
 use Rattle.line.proofs.Runs.{and-left, and-right, every-append, every-weaker}
 use Rattle.text.specs.Classes.{between}
+use Rattle.values.specs.Family.{isEqm, counterEnd, exportEnd}
 use Rattle.values.specs.Registers.{goodTable}
 use Rattle.frames.specs.Frames.{blockOf}
 use Rattle.state.specs.declared.Period.{Period}
@@ -37,7 +39,7 @@ use Rattle.deciding.specs.declared.Verdict.the-variants.{Read}
 use Rattle.deciding.specs.Verdict.{verdict}
 use Rattle.meter.specs.Acting.{acted}
 use Rattle.promises.proofs.Verdicts.{read-answerable}
-use Rattle.recital.specs.Recital.{Register, row, Recites, tableNumbers, rows, blockSays, periodSays, periodsSay, longSays, answerSays, ReadsBack, energiesSay, inAndOut, directionsSay, keptSay}
+use Rattle.recital.specs.Recital.{Register, row, Recites, tableNumbers, rows, blockSays, periodSays, periodsSay, longSays, answerSays, ReadsBack, energiesSay, inAndOut, directionsSay, closed, keptSay, setsBefore, setsKept}
 use Rattle.recital.proofs.Registers.{and-then, and-none, and-all, period-reads, import-reads, export-reads, directions-read, serial-reads, account-reads, date-reads, time-reads, row-reads}
 
 -- what a meter shows may stand in a block
@@ -173,17 +175,20 @@ unfolding blockSays rows inAndOut energiesSay setsBefore
 sets-and-tables g =
     let came = energiesSay (familyIn g) false (counterEnd (familyIn g)) (g .counters) in
     let went = energiesSay (familyIn g) true (exportEnd (familyIn g)) (g .exported) in
-    omega (arith, length-append (directionsSay g) (rows (g .tables) (tableNumbers (tablesIn g))), both-many (isEqm (familyIn g)) came went,
-      fourteen (isEqm (familyIn g)), length-map (tableNumbers (tablesIn g)) (λ n. row n (rowOf (g .tables) n)), numbers-many (tablesIn g))
+    omega (
+      arith,
+      length-append (directionsSay g) (rows (g .tables) (tableNumbers (tablesIn g))),
+      both-many (isEqm (familyIn g)) came went,
+      fourteen (isEqm (familyIn g)),
+      length-map (tableNumbers (tablesIn g)) (λ n. row n (rowOf (g .tables) n)),
+      numbers-many (tablesIn g),
+    )
   where
     fourteen : (b : Bool) → 9 + cond b 5 0 ≡ cond b 14 9
     fourteen true = refl
     fourteen false = refl
 
 -- and for each closed period its time with four counters, or with eight
-unfoldable pub setsKept : ℕ → ℕ
-setsKept family = cond (isEqm family) 9 5
-
 period-many : (family k : ℕ) (p : Period) → length (periodSays family k p) ≡ setsKept family
 unfolding periodSays inAndOut keptSay setsKept
 period-many family k p = by (isEqm family)

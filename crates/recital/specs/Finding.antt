@@ -1,17 +1,17 @@
 -- Document 02, [6], end to end: one register of a meter's data block, found by its address.
 use mathlib.Core.Path.{_≡_}
-use mathlib.Core.Bool.{false, cond}
+use mathlib.Core.Bool.{false}
 use mathlib.Core.List.{List, _++_}
 use Prim.Native.Nat.{ℕ, _+_}
 use Rattle.line.specs.Quoted.{chars}
-use Rattle.values.specs.Family.{isEqm, importName, counterEnd}
+use Rattle.values.specs.Family.{importName, counterEnd}
 use Rattle.values.specs.Texts.{tableText}
 use Rattle.state.specs.declared.Registers.{Registers}
 use Rattle.state.specs.WellFormed.{tablesIn, familyIn, total}
 use Rattle.replies.specs.Shown.{rowOf}
 use Rattle.replies.specs.Block.{blockData}
 use Rattle.finding.specs.Finding.{lookup, pointedAt}
-use Rattle.recital.specs.Recital.{Register, energy, row, ReadsAs}
+use Rattle.recital.specs.Recital.{Register, energy, row, ReadsAs, setsBefore}
 
 -- the address is found at this position, and what stands there reads as this register
 pub record FoundAs (content a : List ℕ) (n : ℕ) (x : Register) : Type 0 where
@@ -26,10 +26,6 @@ totalAddress family = importName family ++ chars "0"
 -- of a table's row
 unfoldable pub rowAddress : ℕ → List ℕ
 rowAddress n = chars "131.0." ++ tableText n
-
--- so many sets stand before the tables
-unfoldable pub setsBefore : ℕ → ℕ
-setsBefore family = cond (isEqm family) 14 9
 
 -- the total is the ninth set of the data block; the row of the last table is the last, the 33rd or the 34th, or with what went out the 38th or the 39th
 pub record FoundInBlock (g : Registers) : Type 0 where

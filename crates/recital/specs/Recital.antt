@@ -110,6 +110,13 @@ periodsSay family k (p ∷ ps) = periodSays family k p ++ periodsSay family (k +
 unfoldable pub longSays : Registers → List Register
 longSays g = blockSays g ++ periodsSay (familyIn g) 1 (periodsOf (g .archive))
 
+-- how many a block says before its tables, and of each closed period
+unfoldable pub setsBefore : ℕ → ℕ
+setsBefore family = cond (isEqm family) 14 9
+
+unfoldable pub setsKept : ℕ → ℕ
+setsKept family = cond (isEqm family) 9 5
+
 -- the sum of the four counters, or one of them; a total that a meter keeps is no register of its own
 unfoldable pub counts : ℕ → Counters → Energy → ℕ
 counts end c Total = total end c
