@@ -28,7 +28,7 @@ use Rattle.values.specs.Texts.{serialText, tableText, dateText, timeText, clock
 use Rattle.values.specs.Reading.{dateRead, timeRead, clockRead, stampRead, counterRead, energyRead, tableRead}
 use Rattle.values.specs.Serials.{serialRead, accountRead, rowRead}
 use Rattle.mistakes.specs.Samples.{serial}
-use Rattle.mistakes.specs.Values.{Clock, Rules, Reading, Characters, Writing}
+use Rattle.mistakes.specs.Values.{Clock, Rules, Families, Reading, Characters, Writing}
 use Rattle.mistakes.proofs.Differing.{seen, number, flag, byte}
 
 pub clock : Clock
@@ -47,17 +47,11 @@ clock =
     }
 
 pub rules : Rules
-unfolding every between isDigit isLetter isEdition tablesOf isFamily isEqm counterDigits counterDecimals counterEnd exportEnd goodDigits isAccountCharacter goodAccount goodRow goodTable goodZone energyNo
+unfolding every between isDigit isLetter isEdition tablesOf goodDigits isAccountCharacter goodAccount goodRow goodTable goodZone energyNo
 rules =
     record {
       «is_edition» = (flag refl, flag refl);
       «tables_of» = (number refl, number refl);
-      «is_family» = (flag refl, flag refl);
-      «is_eqm» = (flag refl, flag refl);
-      «counter_digits» = (number refl, number refl);
-      «counter_decimals» = (number refl, number refl);
-      «counter_end» = (number refl, number refl);
-      «export_end» = (number refl, number refl);
       «is_digits» = (flag refl, flag refl);
       «is_account_character» = (flag refl, flag refl);
       «is_account» = (flag refl, flag refl);
@@ -65,6 +59,18 @@ rules =
       «is_table» = (flag refl, flag refl);
       «is_zone» = (flag refl, flag refl);
       «energy_no» = (number refl, number refl);
+    }
+
+pub families : Families
+unfolding between isFamily isEqm counterDigits counterDecimals counterEnd exportEnd
+families =
+    record {
+      «is_family» = (flag refl, flag refl);
+      «is_eqm» = (flag refl, flag refl);
+      «counter_digits» = (number refl, number refl);
+      «counter_decimals» = (number refl, number refl);
+      «counter_end» = (number refl, number refl);
+      «export_end» = (number refl, number refl);
     }
 
 pub reading : Reading × Characters

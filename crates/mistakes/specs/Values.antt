@@ -46,18 +46,6 @@ pub record Rules : Type 0 where
   pub «is_edition» : RuledOut (isEdition 3) true × RuledOut (isEdition 2) false
   -- 24 tables in edition 2; 25 in edition 1
   pub «tables_of» : RuledOut (tablesOf 2) 24 × RuledOut (tablesOf 1) 25
-  -- [10]: a family of one decimal; document 01's as none
-  pub «is_family» : RuledOut (isFamily 1) true × RuledOut (isFamily 0) false
-  -- document 01's family among the EQM ones; two decimals not
-  pub «is_eqm» : RuledOut (isEqm 0) true × RuledOut (isEqm 2) false
-  -- nine digits of an EQM meter; eight in document 01's family
-  pub «counter_digits» : RuledOut (counterDigits 4) 9 × RuledOut (counterDigits 0) 8
-  -- no decimals in document 01's family; three of a meter with two
-  pub «counter_decimals» : RuledOut (counterDecimals 0) 0 × RuledOut (counterDecimals 2) 3
-  -- 1,000,000,000 of an EQM meter; 100,000,000 in document 01's family
-  pub «counter_end» : RuledOut (counterEnd 3) 1000000000 × RuledOut (counterEnd 0) 100000000
-  -- a counter of what goes out in document 01's family; 1,000,000,000 for it
-  pub «export_end» : RuledOut (exportEnd 0) 1000000000 × RuledOut (exportEnd 4) 1000000000
   -- any number of digits; ':' among them
   pub «is_digits» : RuledOut (goodDigits 8 (replicate 7 49)) true × RuledOut (goodDigits 2 (chars "1:")) true
   -- no underscore; a hyphen
@@ -72,6 +60,21 @@ pub record Rules : Type 0 where
   pub «is_zone» : RuledOut (goodZone 0) true × RuledOut (goodZone 4) false
   -- a number of its own for the total; the total's for a zone
   pub «energy_no» : RuledOut (energyNo Total) 5 × RuledOut (energyNo (zoneEnergy 2)) 0
+
+-- of `values::family`
+pub record Families : Type 0 where
+  -- a family of one decimal; document 01's as none
+  pub «is_family» : RuledOut (isFamily 1) true × RuledOut (isFamily 0) false
+  -- document 01's family among the EQM ones; two decimals not
+  pub «is_eqm» : RuledOut (isEqm 0) true × RuledOut (isEqm 2) false
+  -- nine digits of an EQM meter; eight in document 01's family
+  pub «counter_digits» : RuledOut (counterDigits 4) 9 × RuledOut (counterDigits 0) 8
+  -- no decimals in document 01's family; three of a meter with two
+  pub «counter_decimals» : RuledOut (counterDecimals 0) 0 × RuledOut (counterDecimals 2) 3
+  -- 1,000,000,000 of an EQM meter; 100,000,000 in document 01's family
+  pub «counter_end» : RuledOut (counterEnd 3) 1000000000 × RuledOut (counterEnd 0) 100000000
+  -- a counter of what goes out in document 01's family; 1,000,000,000 for it
+  pub «export_end» : RuledOut (exportEnd 0) 1000000000 × RuledOut (exportEnd 4) 1000000000
 
 -- of `values::reading`
 pub record Reading : Type 0 where
