@@ -86,6 +86,7 @@ events = (
     «pass_second» = (seen (λ (a : Answer). a .next .registers .clock .time .second) refl, seen (λ (a : Answer). a .number) refl);
     «take_pulse» = (seen (λ (a : Answer). counterOf (a .next .registers .counters) 1) refl, seen (λ (a : Answer). a .number) refl);
     take-pulse-out = (seen (λ (a : Answer). counterOf (a .next .registers .exported) 1) refl, seen (λ (a : Answer). a .number) refl);
+    take-pulse-out-first = (seen (λ (a : Answer). a .number) refl, seen (λ (a : Answer). a .number) refl);
     «family_of» = (number refl, number refl);
     «refuses_pulse» = (flag refl, flag refl);
     «power_up» = (seen (λ (a : Answer). a .next .attempts) refl, seen (λ (a : Answer). a .next .mode) refl);

@@ -41,7 +41,7 @@ frames = record { seal = (byte 4 refl, byte 5 refl); send = (byte 1 refl, byte 0
 
 -- the states, and that a new meter in programming mode is well-formed
 computed : States × (wellFormed (inMode newMeter 4) ≡ true)
-unfolding every between isDigit isLetter decimal leap thirty daysIn realDate realTime realClock goodDigits isAccountCharacter goodAccount limit firstGood heldGood markGood hurtGood receiverGood below zonesBelow counterEnd exportEnd sumOf total tablesGood isEdition tablesOf linkGood isFamily factsGood factoryGood registersGood wellFormed factsRefused madeOf serial account password newMeter heldIn stored speedGood isWired restSpeed realStamp noTime unused bothBelow periodGood everyPeriod archiveGood newRows
+unfolding every between isDigit isLetter decimal leap thirty daysIn realDate realTime realClock goodDigits isAccountCharacter goodAccount limit firstGood heldGood markGood hurtGood receiverGood below zonesBelow counterEnd exportEnd sumOf total tablesGood isEdition tablesOf linkGood isFamily factsGood factoryGood registersGood wellFormed factsRefused madeOf serial account password newMeter heldIn stored speedGood isWired restSpeed realStamp noTime unused bothBelow periodGood everyPeriod archiveGood periodsOf closedWith newEqm newRows
 computed = (
   record {
     «limit_of» = (number refl, number refl);
@@ -49,6 +49,8 @@ computed = (
     is-well-formed-place = (flag refl, flag refl);
     is-well-formed-total = (flag refl, flag refl);
     is-well-formed-family = (flag refl, flag refl);
+    is-well-formed-directions = (flag refl, flag refl);
+    is-well-formed-ends = (flag refl, flag refl);
     is-well-formed-archive = (flag refl, flag refl);
     «has_edition» = (flag refl, flag refl);
     «not_made» = (seen (λ (r : Made). r .number) refl, seen (λ (r : Made). r .number) refl);

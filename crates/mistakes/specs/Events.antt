@@ -143,6 +143,9 @@ pub record Passing : Type 0 where
       (answerOf (silent 1 (withRegisters newMeter (withCounters (newMeter .registers) (withZones noCounters (1000001 ∷ 0 ∷ 0 ∷ 0 ∷ []))))))
   -- [10]: what goes out counted as what comes in; taken by a meter of document 01's family
   pub take-pulse-out : RuledOut (answerOf (pulse newEqm true 5)) (answerOf (pulse newEqm false 5)) × RuledOut (answerOf (pulse newMeter true 5)) (answerOf (silent 1 newMeter))
+  -- a malformed state said before a pulse out that nothing counts; before one that is too much
+  pub take-pulse-out-first : RuledOut (answerOf (pulse (withAttempts newMeter 4) true 5)) (answerOf (unheard 14 (withAttempts newMeter 4)))
+      × RuledOut (answerOf (pulse (withAttempts newEqm 4) true 1000001)) (answerOf (unheard 14 (withAttempts newEqm 4)))
   -- no family; an EQM meter's for one of document 01's
   pub «family_of» : RuledOut (familyOf newEqm) 0 × RuledOut (familyOf newMeter) 3
   -- what goes out of a meter of document 01's family let through; that of an EQM meter refused

@@ -15,6 +15,7 @@ use Rattle.frames.specs.Frames.{sealed, frameOf, bareFrame, blockOf, onWire}
 use Rattle.frames.specs.Commands.{P0, P1, bracketed}
 use Rattle.state.specs.Sizes.{rowLength, replyRoom, periodPlaces, tablePlaces}
 use Rattle.state.specs.WellFormed.{editionOf, limit, wellFormed}
+use Rattle.state.specs.Closing.{closedWith}
 use Rattle.state.specs.Making.{emptyReceiver, noCounters, noPeriod, factsOf, meterOf, blankMeter, notMade, madeOf}
 use Rattle.datasets.specs.Sets.{dataSet, linesOf, lineOf, timeSet, dateSet, serialSet, accountSet, energySet, tableSet, closedSet, keptSet}
 use Rattle.replies.specs.declared.Ask.the-variants.{Energy, Export, Table}
@@ -24,7 +25,7 @@ use Rattle.replies.specs.Periods.{longData}
 use Rattle.replies.specs.Fixed.{identification, passwordAsk, accepted, refused}
 use Rattle.state.specs.Setting.{withMark, withReceiver, withAttempts, withRegisters, withAccount, withTables, withArchive, withCounters, withExported, withZones, withTotal}
 use Rattle.mistakes.specs.RuledOut.{RuledOut}
-use Rattle.mistakes.specs.Samples.{noon, stampAt, serial, account, password, twos, newMeter, used, usedEqm, closedTwice, oldestFirst, heldIn}
+use Rattle.mistakes.specs.Samples.{noon, stampAt, serial, account, password, twos, newMeter, used, newEqm, usedEqm, closedTwice, oldestFirst, heldIn}
 
 -- of `frames`
 pub record Frames : Type 0 where
@@ -51,6 +52,13 @@ pub record States : Type 0 where
   -- [10]: something gone out of a meter of document 01's family; one decimal
   pub is-well-formed-family : RuledOut (wellFormed (withRegisters newMeter (withExported (newMeter .registers) (withTotal (withZones noCounters (1 ∷ 0 ∷ 0 ∷ 0 ∷ [])) 1)))) true
       × RuledOut (wellFormed (meterOf (factsOf serial password 1 1 1) account noon)) true
+  -- one total for both directions, kept of what went out; of what came in
+  pub is-well-formed-directions : RuledOut (wellFormed (withRegisters newEqm (withExported (withCounters (newEqm .registers) (withTotal (withZones noCounters (1 ∷ 0 ∷ 0 ∷ 0 ∷ [])) 1)) (withTotal (withZones noCounters (2 ∷ 0 ∷ 0 ∷ 0 ∷ [])) 3)))) true
+      × RuledOut (wellFormed (withRegisters newEqm (withExported (withCounters (newEqm .registers) (withTotal (withZones noCounters (1 ∷ 0 ∷ 0 ∷ 0 ∷ [])) 3)) (withTotal (withZones noCounters (2 ∷ 0 ∷ 0 ∷ 0 ∷ [])) 2)))) true
+  -- an EQM meter's counter at 100,000,000; a period of document 01's family in which something went out
+  pub is-well-formed-ends : RuledOut (wellFormed (withRegisters newEqm (withCounters (newEqm .registers) (withTotal (withZones noCounters (100000000 ∷ 0 ∷ 0 ∷ 0 ∷ [])) 0)))) true
+      × RuledOut (wellFormed (withRegisters newMeter (withArchive (newMeter .registers)
+      (closedWith (record { closed = stampAt 2001 2 3 4 5; zones = replicate 4 0; exported = 1 ∷ 0 ∷ 0 ∷ 0 ∷ [] }) (newMeter .registers .archive))))) true
   -- [12]: a period without a time; a thirteenth
   pub is-well-formed-archive : RuledOut (wellFormed (withRegisters newMeter (withArchive (newMeter .registers) (record { periods = replicate periodPlaces noPeriod; count = 1 })))) true
       × RuledOut (wellFormed (withRegisters newMeter (withArchive (newMeter .registers) (record { periods = replicate periodPlaces noPeriod; count = 13 })))) true
