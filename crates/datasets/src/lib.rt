@@ -162,7 +162,7 @@ pub fn put_closed_set(buf: &mut [u8], at: usize, k: u8, stamp: Stamp) -> usize
     text::put(buf, b, b")\r\n")
 }
 
-// A zone's counter in the period numbered k as `15.8.n*kk(eeeeee.eee*kWh)`, and so on.
+// A zone's counter in the period numbered k: the same with `*kk` behind n.
 pub fn put_kept_set(
     buf: &mut [u8],
     at: usize,

@@ -27,7 +27,7 @@ use Rattle.values.specs.Reading.{tableRead, someTable, noTable}
 use Rattle.values.specs.declared.reading.TableRead.{TableRead}
 use Rattle.values.proofs.RoundTrip.{clock-reads-back, table-reads-back}
 use Rattle.values.proofs.Rules.{digits-long}
-use Rattle.frames.specs.Commands.{bracketed, askClock, askSerial, askAccount, lettered, askEnergy, askExport, askTable, setClock, setAccount, setTable}
+use Rattle.frames.specs.Commands.{bracketed, askClock, askSerial, askAccount, askEnergy, askExport, askTable, setClock, setAccount, setTable}
 use Rattle.frames.specs.Session.{enterData, passwordData}
 use Rattle.replies.specs.declared.Ask.the-variants as ask
 use Rattle.deciding.specs.declared.Verdict.the-variants.{Refuse, Enter, Password, Read, WriteClock, WriteAccount, WriteTable}

@@ -1,23 +1,25 @@
 -- What a family fixes of its counters: their digits and decimals, where they end, and their text's length and round trip.
 -- The law of digits and decimals (`counter-reads-back`, `counter-read-is-text`) read at a family's. Assumes nothing.
 use mathlib.Core.Path.{_≡_, refl, sym, ap, _∙_}
-use mathlib.Core.Bool.{Bool, true, false, cond}
+use mathlib.Core.Bool.{Bool, true, false, cond, _||_}
 use mathlib.Core.List.{List, [], _∷_, _++_, append-assoc}
 use Prim.Native.Nat.{ℕ, _+_, _-_, _*_, _/_, _%_, _^_, _≤_, _<_}
 use native.Mathlib.Nat.{add-mul, mul-le-mul-right}
 use native.Mathlib.Omega.{arith}
-use lib.Dec.{eqb}
+use borrow.Author.Tests.{not-true, leb-true, eqb-true, eqb-false}
+use lib.Dec.{eqb, leb}
 use lib.Pow.{pow-add}
 use lib.Seq.{take-at, drop-at, take-all}
 use lib.ListN.{length, take, drop, length-append, length-replicate, replicate}
-use Rattle.text.specs.Decimal.{decimal, numberAt}
+use Rattle.line.proofs.Runs.{and-left, and-right}
+use Rattle.text.specs.Classes.{between}
+use Rattle.text.specs.Decimal.{decimal}
 use Rattle.text.specs.Layout.{pattern, fits, layoutText, numbersFrom}
 use Rattle.text.proofs.Decimal.{length-decimal, decimal-split, decimal-mod}
 use Rattle.text.proofs.Forms.{form-within}
-use Rattle.values.specs.declared.reading.CounterRead.{CounterRead}
-use Rattle.values.specs.Family.{counterDigits, counterDecimals, counterEnd, exportEnd, importName}
+use Rattle.values.specs.Family.{isFamily, isEqm, counterDigits, counterDecimals, counterEnd}
 use Rattle.values.specs.Texts.{counterForm, counterText, energyText}
-use Rattle.values.specs.Reading.{counterIn, counterRead, energyRead}
+use Rattle.values.specs.Reading.{counterIn, energyRead}
 use Rattle.values.specs.Numbers.{CounterAt}
 use Rattle.values.proofs.Fields.{fits-long}
 use Rattle.values.proofs.RoundTrip.{counter-reads-back, counter-read-is-text}
@@ -38,6 +40,24 @@ shown family = by (eqb family 0) (eqb family 2) (eqb family 3)
     by false true d = record { digits-least = omega arith; digits-most = omega arith; decimals-least = omega arith; decimals-most = omega arith }
     by false false true = record { digits-least = omega arith; digits-most = omega arith; decimals-least = omega arith; decimals-most = omega arith }
     by false false false = record { digits-least = omega arith; digits-most = omega arith; decimals-least = omega arith; decimals-most = omega arith }
+
+-- an EQM meter has as many decimals as its family's number says
+chosen-by : (family : ℕ) (two three : Bool) → eqb family 2 ≡ two → eqb family 3 ≡ three → 2 ≤ family → family ≤ 4 → cond two 2 (cond three 3 4) ≡ family
+chosen-by family true three e f low high = sym (eqb-true family 2 e)
+chosen-by family false true e f low high = sym (eqb-true family 3 f)
+chosen-by family false false e f low high =
+    let other : family ≡ 2 → ⊥ = eqb-false family 2 e in
+    let another : family ≡ 3 → ⊥ = eqb-false family 3 f in
+    omega (arith, other, another)
+
+pub decimals-are : (family : ℕ) → isFamily family ≡ true → isEqm family ≡ true → counterDecimals family ≡ family
+unfolding isFamily isEqm counterDecimals between
+decimals-are family is eqm =
+    let old : eqb family 0 ≡ false = not-true (eqb family 0) eqm in
+    let within = rw old at is in
+    rw old
+    (chosen-by family (eqb family 2) (eqb family 3) refl refl
+    (leb-true 2 family (and-left (leb 2 family) (leb family 4) within)) (leb-true family 4 (and-right (leb 2 family) (leb family 4) within)))
 
 -- a counter rolls over where its digits end
 pub end-is : (family : ℕ) → 10 ^ counterDigits family ≡ counterEnd family

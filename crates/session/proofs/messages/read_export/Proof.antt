@@ -1,6 +1,5 @@
 -- `session::messages::read_export` meets its contract: each way out is the case of the definition that its tests name. Assumes nothing.
 use borrow.Author.Tests.{eq-eqb, ne-eqb}
-use mathlib.Core.Bool.{_&&_}
 use Rattle.text.specs.Classes.{between}
 use Rattle.values.specs.Family.{isEqm}
 use Rattle.values.specs.Registers.{goodZone}
