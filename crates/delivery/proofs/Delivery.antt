@@ -3,7 +3,7 @@
 use mathlib.Core.Path.{_≡_, refl, sym, ap, ap₂, subst, _∙_}
 use mathlib.Core.Bool.{true, false}
 use mathlib.Core.List.{List, [], _∷_, map}
-use Prim.Native.Nat.{ℕ, _*_, _≤_, _<_}
+use Prim.Native.Nat.{ℕ, _*_, _≤_}
 use native.Mathlib.Omega.{arith}
 use borrow.Author.Tests.{leb-true}
 use lib.Dec.{leb}
@@ -16,7 +16,8 @@ use Rattle.text.specs.Classes.{between}
 use Rattle.text.specs.Writing.{holding}
 use Rattle.values.specs.Registers.{goodTable}
 use Rattle.state.specs.Sizes.{replyRoom}
-use Rattle.values.proofs.Editions.{tables-most}
+use Rattle.values.specs.Edition.{tablesOf}
+use Rattle.values.proofs.Editions.{tables-most, tables-least}
 use Rattle.state.specs.declared.Meter.{Meter}
 use Rattle.state.specs.Link.{linkOf, isWired}
 use Rattle.state.specs.WellFormed.{tablesIn, editionOf}
@@ -32,7 +33,7 @@ use Rattle.dialogue.specs.Feeding.{Said, answered, left}
 use Rattle.dialogue.proofs.Feeding.{Fed, fed-in}
 use Rattle.dialogue.proofs.Held.{Fit, idle, idle-is, fit-is}
 use Rattle.delivery.specs.Acknowledged.{acknowledgedOnce, deliveredTo}
-use Rattle.delivery.specs.Other.{answeredOnce, takenOf}
+use Rattle.delivery.specs.Other.{answeredOnce, leftBy}
 use Rattle.delivery.specs.Delivery.{Ready, Delivered}
 use Rattle.delivery.proofs.Frames.{frames-fed, others-fed}
 use Rattle.delivery.proofs.Rows.{others-kept, named-held}
@@ -70,17 +71,19 @@ module _ (m : Meter) (r : Ready m) where
       subst (λ (s : List Said). Delivered m es s (left m rooms (framesOf es))) (sym (f .0))
       (subst (λ (x : Meter). Delivered m es (acknowledgedOnce (m .speed) es) x) (sym (f .1)) (entries-delivered es h))
 
-  -- [3]: a post for meters of another edition, on the optical link: each line of a table that this meter has is acknowledged and taken, each other
-  -- one is refused with 9, and nothing else changes. On the wired link a refusal ends the session
-  pub other-edition : isWired (linkOf m) ≡ false → (tables : ℕ) → tables < 100 → (text : List ℕ) (p : IsPost tables text) (rooms : ℕ → ℕ) → ((i : ℕ) → replyRoom ≤ rooms i)
-      → (answered m rooms (framesOf (p .entries)) ≡ answeredOnce (tablesIn (m .registers)) (m .speed) (p .entries))
-      × (left m rooms (framesOf (p .entries)) ≡ deliveredTo m (takenOf (tablesIn (m .registers)) (p .entries)))
-  other-edition optical tables few text p rooms room =
+  -- [3]: a post for meters of another edition: each line of a table that this meter has is acknowledged and taken, each other one is refused with
+  -- 9, and nothing else changes, but that on the wired link the refusal ends the session. No edition has more than one table that another has not
+  pub other-edition : (edition : ℕ) (text : List ℕ) (p : IsPost (tablesOf edition) text) (rooms : ℕ → ℕ) → ((i : ℕ) → replyRoom ≤ rooms i)
+      → (answered m rooms (framesOf (p .entries)) ≡ answeredOnce (linkOf m) (tablesIn (m .registers)) (m .speed) (p .entries))
+      × (left m rooms (framesOf (p .entries)) ≡ leftBy m (p .entries))
+  other-edition edition text p rooms room =
       let es = p .entries in
-      let own = tablesIn (m .registers) in
-      fed-in m rooms (framesOf es) (answeredOnce own (m .speed) es) (deliveredTo m (takenOf own es)) room
-      (subst (λ (x : Meter). Fed x (framesOf es) (answeredOnce own (m .speed) es) (deliveredTo x (takenOf own es))) (sym ready-is)
-      (others-fed tables few (m .attempts) (m .speed) (m .registers) 0 es fit-four optical (good-rising tables es (p .good))))
+      let tables = tablesOf edition in
+      let said = answeredOnce (linkOf m) (tablesIn (m .registers)) (m .speed) es in
+      fed-in m rooms (framesOf es) said (leftBy m es) room
+      (subst (λ (x : Meter). Fed x (framesOf es) said (leftBy x es)) (sym ready-is)
+      (others-fed tables (omega (arith, tables-most edition)) (m .attempts) (m .speed) (isWired (linkOf m)) (m .registers) 0 es fit-four refl
+      (λ w. omega (arith, tables-most edition, tables-least (editionOf m))) (good-rising tables es (p .good))))
 
 length-frames : (tables above : ℕ) (es : List Entry) → rising tables above es ≡ true → length (framesOf es) ≡ 36 * length es
 unfolding framesOf entryFrame

@@ -7,7 +7,8 @@ use lib.ListN.{replicate}
 use Rattle.state.specs.declared.Meter.{Meter}
 use Rattle.post.specs.Grammar.{Entry}
 use Rattle.state.specs.Setting.{withRegisters, withTables, withRow}
-use Rattle.replies.specs.Fixed.{accepted, refused}
+use Rattle.replies.specs.Fixed.{accepted}
+use Rattle.meter.specs.Link.{refusedReply}
 use Rattle.dialogue.specs.Feeding.{Said}
 
 -- how many are answered 1
@@ -26,9 +27,9 @@ nothing speed = record { number = 0; speed = speed; reply = []; place = 0 }
 abbrev pub acknowledgement : ℕ → Said
 acknowledgement speed = record { number = 1; speed = speed; reply = accepted; place = 0 }
 
--- [3]: answer 9 and NAK
-abbrev pub refusal : ℕ → Said
-refusal speed = record { number = 9; speed = speed; reply = refused; place = 0 }
+-- [3]: answer 9, and what the link replies to a refusal
+abbrev pub refusal : ℕ → ℕ → Said
+refusal link speed = record { number = 9; speed = speed; reply = refusedReply link; place = 0 }
 
 -- a frame of 36 bytes: nothing at each but the last, which is acknowledged
 unfoldable pub acknowledgedOnce : ℕ → List Entry → List Said

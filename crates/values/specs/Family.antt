@@ -13,12 +13,13 @@ isFamily family = eqb family 0 || between 2 4 family
 unfoldable pub isEqm : ℕ → Bool
 isEqm family = not (eqb family 0)
 
--- a counter is shown in so many digits, so many of them decimals of a kWh
+-- a counter is shown in so many digits
 unfoldable pub counterDigits : ℕ → ℕ
 counterDigits family = cond (eqb family 0) 9 8
 
+-- so many of them are decimals of a kWh; there is no other family than these
 unfoldable pub counterDecimals : ℕ → ℕ
-counterDecimals family = cond (eqb family 0) 3 family
+counterDecimals family = cond (eqb family 0) 3 (cond (eqb family 2) 2 (cond (eqb family 3) 3 4))
 
 -- a counter rolls over here, and so does a total
 unfoldable pub counterEnd : ℕ → ℕ

@@ -1,15 +1,14 @@
-//! Cards by hand in plain Rust, for speed, those that are read of edition 1: a field is tested whole, and the
-//! place is looked for only in the field that failed.
+//! Cards by hand in plain Rust, for speed: a field is tested whole, and the place is looked for only
+//! in the field that failed.
 
 use crate::fast_meter;
+use crate::fast_post::tables_of;
 use model::meter::Meter;
 
 const ACCOUNT_FIELD: usize = 13;
 const TABLE_FIELD: usize = 28;
 const ACCOUNT_FRAME: usize = 19;
 const TABLE_FRAME: usize = 36;
-const TABLES: u8 = 24;
-const CARD: usize = ACCOUNT_FIELD + TABLES as usize * TABLE_FIELD;
 
 #[inline(always)]
 fn account_column(column: usize, byte: u8) -> bool {
@@ -26,25 +25,28 @@ fn zone(byte: u8) -> bool {
     byte.wrapping_sub(b'1') < 4
 }
 
-fn table_column(column: usize, byte: u8, above: u8) -> bool {
+fn table_column(highest: u8, column: usize, byte: u8, above: u8) -> bool {
     match column {
-        0 => (byte == 2) & (above < TABLES),
+        0 => (byte == 2) & (above < highest),
         1 => byte == 0,
         2 => byte == 25,
-        3 => (above < byte) & (byte <= TABLES),
+        3 => (above < byte) & (byte <= highest),
         _ => zone(byte),
     }
 }
 
 #[inline(always)]
-fn stands(field: &[u8; TABLE_FIELD], above: u8) -> bool {
+fn stands(highest: u8, field: &[u8; TABLE_FIELD], above: u8) -> bool {
     let head = (field[0] == 2) & (field[1] == 0) & (field[2] == 25);
-    let follows = (above < field[3]) & (field[3] <= TABLES);
+    let follows = (above < field[3]) & (field[3] <= highest);
     head & follows & field[4..].iter().fold(true, |all, &byte| all & zone(byte))
 }
 
 /// Whether a text is a card: the number, and the place.
-pub fn check(text: &[u8]) -> (u8, usize) {
+pub fn check(edition: u8, text: &[u8]) -> (u8, usize) {
+    let Some(highest) = tables_of(edition) else {
+        return (16, 0);
+    };
     let front = &text[..text.len().min(ACCOUNT_FIELD)];
     let account = front
         .iter()
@@ -58,25 +60,23 @@ pub fn check(text: &[u8]) -> (u8, usize) {
     let (fields, rest) = text[ACCOUNT_FIELD..].as_chunks::<TABLE_FIELD>();
     let mut above = 0;
     for (number, field) in fields.iter().enumerate() {
-        if !stands(field, above) {
-            return (
-                40,
-                ACCOUNT_FIELD + TABLE_FIELD * number + place(field, above),
-            );
+        if !stands(highest, field, above) {
+            let start = ACCOUNT_FIELD + TABLE_FIELD * number;
+            return (40, start + place(highest, field, above));
         }
         above = field[3];
     }
     match rest.len() {
         0 => (1, 0),
-        _ => (40, text.len() - rest.len() + place(rest, above)),
+        _ => (40, text.len() - rest.len() + place(highest, rest, above)),
     }
 }
 
-fn place(field: &[u8], above: u8) -> usize {
+fn place(highest: u8, field: &[u8], above: u8) -> usize {
     field
         .iter()
         .enumerate()
-        .position(|(column, &byte)| !table_column(column, byte, above))
+        .position(|(column, &byte)| !table_column(highest, column, byte, above))
         .unwrap_or(field.len())
 }
 
@@ -99,8 +99,8 @@ fn frame<const SIZE: usize>(front: &[u8], content: &[u8]) -> [u8; SIZE] {
 }
 
 /// The frames of a card: the number, their length, and the place.
-pub fn read(text: &[u8], out: &mut [u8]) -> (u8, usize, usize) {
-    let (number, place) = check(text);
+pub fn read(edition: u8, text: &[u8], out: &mut [u8]) -> (u8, usize, usize) {
+    let (number, place) = check(edition, text);
     if number != 1 {
         return (number, 0, place);
     }
@@ -126,16 +126,17 @@ pub fn read(text: &[u8], out: &mut [u8]) -> (u8, usize, usize) {
 /// The card of a state: the number, and its length.
 pub fn write(meter: &Meter, out: &mut [u8]) -> (u8, usize) {
     let (number, _) = fast_meter::total(meter);
-    if number != 1 {
+    let Some(highest) = tables_of(meter.edition).filter(|_| number == 1) else {
         return (number, 0);
-    }
-    let length = CARD + TABLE_FIELD * usize::from(meter.edition - 1);
+    };
+    let length = ACCOUNT_FIELD + usize::from(highest) * TABLE_FIELD;
     let Some(card) = out.get_mut(..length) else {
         return (41, 0);
     };
-    card[..3].copy_from_slice(&[1, 0, 10]);
-    card[3..ACCOUNT_FIELD].copy_from_slice(&meter.account);
-    let (fields, _) = card[ACCOUNT_FIELD..].as_chunks_mut::<TABLE_FIELD>();
+    let (account, tables) = card.split_at_mut(ACCOUNT_FIELD);
+    account[..3].copy_from_slice(&[1, 0, 10]);
+    account[3..].copy_from_slice(&meter.account);
+    let (fields, _) = tables.as_chunks_mut::<TABLE_FIELD>();
     for ((field, row), number) in fields.iter_mut().zip(&meter.tables).zip(1..) {
         field[..4].copy_from_slice(&[2, 0, 25, number]);
         field[4..].copy_from_slice(row);

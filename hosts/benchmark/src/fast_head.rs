@@ -2,19 +2,37 @@
 //! Rust: the yardstick for the proved head. The same checks and answers as the model, which the tests
 //! below hold it to.
 
-use model::head::{answer, Lookup, Step, COMMAND_ROOM};
+use model::head::{answer, Lookup, Step};
 
 const STX: u8 = 0x02;
 const ETX: u8 = 0x03;
+
+/// Whether some byte has an odd count of ones: without a way out, so that many are taken at a time;
+/// eight as one number, or by the vectors' count of ones where they have it.
+#[inline(always)]
+fn any_damaged(reply: &[u8]) -> bool {
+    if cfg!(target_arch = "aarch64") {
+        return reply.iter().fold(0, |all, b| all | b.count_ones() as u8) & 1 == 1;
+    }
+    let odd = |eight: u64| {
+        let four = eight ^ eight >> 4;
+        let two = four ^ four >> 2;
+        two ^ two >> 1
+    };
+    let (eights, rest) = reply.as_chunks::<8>();
+    let eights = eights
+        .iter()
+        .fold(0, |all, eight| all | odd(u64::from_le_bytes(*eight)));
+    let all = rest.iter().fold(eights, |all, &b| all | odd(u64::from(b)));
+    all & 0x0101_0101_0101_0101 != 0
+}
 
 /// Strips a reply's parity into `out`: answer, length, and with 24 the place of the first damaged byte.
 pub fn strip(reply: &[u8], out: &mut [u8]) -> (u8, usize, usize) {
     let Some(copy) = out.get_mut(..reply.len()) else {
         return (answer::SHORT_COPY, 0, 0);
     };
-    // The lowest bit gathers every odd count; without a way out the loop takes many bytes at a time.
-    let counts = reply.iter().fold(0, |all, b| all | b.count_ones() as u8);
-    if counts & 1 == 1 {
+    if any_damaged(reply) {
         let first = reply.iter().position(|b| b.count_ones() % 2 == 1);
         return (answer::DAMAGED, 0, first.unwrap_or(0));
     }
@@ -159,50 +177,10 @@ pub fn find(sets: &[u8], address: &[u8]) -> Lookup {
     }
 }
 
-/// Asks an EQM meter for what went out in a zone.
-pub fn read_zone_out(zone: u8, out: &mut [u8]) -> (u8, usize) {
-    const ASK: [u8; 10] = *b"\x81\xD2\xB1\x82G0(\xA9\x03\x14";
-    let Some(out) = out.first_chunk_mut::<COMMAND_ROOM>() else {
-        return (answer::SHORT_ROOM, 0);
-    };
-    if zone.wrapping_sub(1) > 3 {
-        return (answer::FIELD, 0);
-    }
-    // The zone changes one digit, and the BCC by as much; of either the parity by its ones.
-    let odd = (zone.count_ones() as u8 & 1) << 7;
-    out[..ASK.len()].copy_from_slice(&ASK);
-    out[5] ^= zone | odd;
-    out[9] ^= zone | odd;
-    (answer::DONE, ASK.len())
-}
-
-/// A counter of an EQM meter in units of its last place.
-pub fn value_eqm(decimals: u8, value: &[u8]) -> (u8, u32) {
-    if !(2..=4).contains(&decimals) {
-        return (answer::NO_DECIMALS, 0);
-    }
-    let point = 8 - usize::from(decimals);
-    let Ok(value) = <&[u8; 13]>::try_from(value) else {
-        return (answer::MALFORMED, 0);
-    };
-    let mut digits = [0; 8];
-    digits[..point].copy_from_slice(&value[..point]);
-    digits[point..].copy_from_slice(&value[point + 1..9]);
-    let (mut units, mut most) = (0, 0);
-    for digit in digits.map(|c| c.wrapping_sub(b'0')) {
-        units = units * 10 + u32::from(digit);
-        most = most.max(digit);
-    }
-    if most > 9 || value[point] != b'.' || value[9..] != *b"*kWh" {
-        return (answer::MALFORMED, 0);
-    }
-    (answer::DONE, units)
-}
-
 #[cfg(test)]
 mod tests {
     use super::*;
-    use ::model::head::{self as model, Clock, Command, Kind, Period, Registers};
+    use ::model::head::{self as model, Clock, Period, Registers};
 
     const EDGES: &[u8] = b"\x00\x02\x03\n\r\x1F !()*-./09:@AZ[_`az{~\x7F\x80\x82\x83\xAE\xFF";
 
@@ -326,47 +304,6 @@ mod tests {
             for value_length in 0..=34 {
                 let (address, value) = ("a".repeat(address_length), "v".repeat(value_length));
                 same_next(&model::line(&address, &value), 0);
-            }
-        }
-    }
-
-    #[test]
-    fn asks_for_what_went_out_as_the_model_does() {
-        for zone in 0..=255 {
-            for room in [0, 63, 64, 70] {
-                let (mut fast, mut plain) = (vec![0x5A; room], vec![0x5A; room]);
-                let command = Command::ReadZoneOut(zone);
-                assert_eq!(
-                    read_zone_out(zone, &mut fast),
-                    model::build(&command, &mut plain)
-                );
-                assert_eq!(fast, plain);
-            }
-        }
-    }
-
-    #[test]
-    fn reads_eqm_values_as_the_model_does() {
-        let same = |decimals: u8, value: &[u8]| {
-            let (number, read) = model::value(Kind::Eqm(decimals), value);
-            assert_eq!(value_eqm(decimals, value), (number, read[0]), "{value:?}");
-        };
-        for good in ["123456.78*kWh", "99999.999*kWh", "0000.0000*kWh"] {
-            for decimals in 0..=255 {
-                same(decimals, good.as_bytes());
-            }
-            for decimals in 2..=4 {
-                for place in 0..good.len() {
-                    same(decimals, &good.as_bytes()[place..]);
-                    same(decimals, &good.as_bytes()[..place]);
-                    for byte in 0..=255 {
-                        let mut value = good.as_bytes().to_vec();
-                        value[place] = byte;
-                        same(decimals, &value);
-                        value.insert(place, byte);
-                        same(decimals, &value);
-                    }
-                }
             }
         }
     }

@@ -1,10 +1,8 @@
-//! The check and the export for edition 1 by hand in plain Rust, for speed: a line is tested whole, with no
-//! way out before its end, and the place is looked for only in the line that failed.
+//! The check and the export by hand in plain Rust, for speed: a line is tested whole, with no way
+//! out before its end, and the place is looked for only in the line that failed.
 
 /// The bytes of a line, and of its frame.
 const LINE: usize = 36;
-/// The highest table number, and so the most lines.
-const TABLES: u8 = 24;
 /// What stands below the lines.
 const LAST: &[u8; 3] = b"!\r\n";
 /// Where the number and the row stand, in a line as in a frame.
@@ -33,6 +31,13 @@ const STRAY: [u8; LINE] = {
 /// The BCC's part that every frame has.
 const SUM: u8 = b'W' ^ b'1' ^ 0x02 ^ b'Z' ^ b'(' ^ b';' ^ b')' ^ 0x03;
 
+/// The highest table number of an edition, and so the most lines; nothing where there is no such
+/// edition.
+#[inline(always)]
+pub fn tables_of(edition: u8) -> Option<u8> {
+    matches!(edition, 1 | 2).then_some(23 + edition)
+}
+
 /// The number that two digits make; one above all tables if they are no digits, or too large.
 #[inline(always)]
 fn number(tens: u8, unit: u8) -> u8 {
@@ -46,8 +51,23 @@ fn number(tens: u8, unit: u8) -> u8 {
 
 /// Whether a number may stand below another.
 #[inline(always)]
-fn follows(above: u8, number: u8) -> bool {
-    (above < number) & (number <= TABLES)
+fn follows(highest: u8, above: u8, number: u8) -> bool {
+    (above < number) & (number <= highest)
+}
+
+/// What strays in the first eight columns because of the number: no line stands below the last
+/// table; a tens digit needs some number that may follow, the largest that starts with it; a unit
+/// digit has to make one.
+#[inline(always)]
+fn number_strays(highest: u8, above: u8, tens: u8, unit: u8) -> u64 {
+    let most = if tens == b'2' {
+        b'0' + highest % 10
+    } else {
+        b'9'
+    };
+    u64::from(above == highest)
+        | u64::from(!follows(highest, above, number(tens, most))) << (8 * TENS)
+        | u64::from(!follows(highest, above, number(tens, unit))) << (8 * UNIT)
 }
 
 /// The stray bits of a column, the digits left out.
@@ -58,9 +78,9 @@ fn stray(line: &[u8; LINE], column: usize) -> u8 {
 
 /// The lines of a post, or nothing.
 #[inline(always)]
-fn lines_of(text: &[u8]) -> Option<&[[u8; LINE]]> {
+fn lines_of(highest: u8, text: &[u8]) -> Option<&[[u8; LINE]]> {
     let (lines, rest) = text.as_chunks::<LINE>();
-    if rest != LAST || lines.is_empty() || lines.len() > TABLES as usize {
+    if rest != LAST || lines.is_empty() || lines.len() > usize::from(highest) {
         return None;
     }
     let mut strays = [0; LINE];
@@ -75,26 +95,20 @@ fn lines_of(text: &[u8]) -> Option<&[[u8; LINE]]> {
         above = number;
     }
     let any = strays.iter().fold(0, |any, stray| any | stray);
-    ((any == 0) & rising & (above <= TABLES)).then_some(lines)
+    ((any == 0) & rising & (above <= highest)).then_some(lines)
 }
 
 /// The first column in which no line below table `above` is like this one, or `LINE`.
 #[inline(always)]
-fn first_stray(line: &[u8; LINE], above: u8) -> usize {
+fn first_stray(highest: u8, line: &[u8; LINE], above: u8) -> usize {
     // A last byte that always strays stops the search behind the line.
     let mut strays = [0xFF; LINE + 4];
     for (column, strays) in strays[..LINE].iter_mut().enumerate() {
         *strays = stray(line, column);
     }
     let (words, _) = strays.as_chunks::<8>();
-    // No line stands below the last table; a tens digit needs some number that may follow, the
-    // largest that starts with it; a unit digit has to make one.
-    let tens = line[TENS];
-    let largest = number(tens, if tens == b'2' { b'4' } else { b'9' });
-    let first = u64::from_le_bytes(words[0])
-        | u64::from(above == TABLES)
-        | u64::from(!follows(above, largest)) << (8 * TENS)
-        | u64::from(!follows(above, number(tens, line[UNIT]))) << (8 * UNIT);
+    let first =
+        u64::from_le_bytes(words[0]) | number_strays(highest, above, line[TENS], line[UNIT]);
     if first != 0 {
         return first.trailing_zeros() as usize / 8;
     }
@@ -110,29 +124,29 @@ fn first_stray(line: &[u8; LINE], above: u8) -> usize {
 }
 
 /// The place of a text that is no post.
-fn place_of(text: &[u8]) -> usize {
+fn place_of(highest: u8, text: &[u8]) -> usize {
     let (lines, rest) = text.as_chunks::<LINE>();
     let mut above = 0;
     for (at, line) in lines.iter().enumerate() {
-        let column = first_stray(line, above);
+        let column = first_stray(highest, line, above);
         if column < LINE {
             return at * LINE + column.max(shared_with_last(line, above));
         }
         above = number(line[TENS], line[UNIT]);
     }
-    lines.len() * LINE + rest_place(rest, above)
+    lines.len() * LINE + rest_place(highest, rest, above)
 }
 
 /// The place in what stands behind the whole lines.
 #[inline(always)]
-fn rest_place(rest: &[u8], above: u8) -> usize {
+fn rest_place(highest: u8, rest: &[u8], above: u8) -> usize {
     let column = if rest.len() < 16 {
-        short_stray(rest, above)
+        short_stray(highest, rest, above)
     } else {
         // A byte 0 strays in every column, so what is missing is never shared.
         let mut line = [0; LINE];
         line[..rest.len()].copy_from_slice(rest);
-        first_stray(&line, above)
+        first_stray(highest, &line, above)
     };
     column.max(shared_with_last(rest, above))
 }
@@ -156,7 +170,7 @@ fn word(bytes: &[u8], from: usize) -> u64 {
 
 /// The first column that strays in under sixteen bytes, eight at a time and without a copy.
 #[inline(always)]
-fn short_stray(rest: &[u8], above: u8) -> usize {
+fn short_stray(highest: u8, rest: &[u8], above: u8) -> usize {
     const HIGH: u64 = 0x8080_8080_8080_8080;
     let strays = |from: usize| {
         let low = u64::from_le_bytes(LOWEST[from..from + 8].try_into().unwrap());
@@ -166,12 +180,7 @@ fn short_stray(rest: &[u8], above: u8) -> usize {
         less & mask
     };
     let bytes = word(rest, 0).to_le_bytes();
-    let (tens, unit) = (bytes[TENS], bytes[UNIT]);
-    let largest = number(tens, if tens == b'2' { b'4' } else { b'9' });
-    let first = strays(0)
-        | u64::from(above == TABLES)
-        | u64::from(!follows(above, largest)) << (8 * TENS)
-        | u64::from(!follows(above, number(tens, unit))) << (8 * UNIT);
+    let first = strays(0) | number_strays(highest, above, bytes[TENS], bytes[UNIT]);
     if first != 0 {
         return first.trailing_zeros() as usize / 8;
     }
@@ -181,14 +190,18 @@ fn short_stray(rest: &[u8], above: u8) -> usize {
 
 /// The check once over the text: each line is judged before the next is looked at.
 #[inline(never)]
-pub fn check_once(text: &[u8], place: &mut usize) -> u8 {
+pub fn check_once(edition: u8, text: &[u8], place: &mut usize) -> u8 {
+    let Some(highest) = tables_of(edition) else {
+        *place = 0;
+        return 16;
+    };
     let (lines, rest) = text.as_chunks::<LINE>();
     let mut above = 0;
     for (at, line) in lines.iter().enumerate() {
         let any = (0..LINE).fold(0, |any, column| any | stray(line, column));
         let number = number(line[TENS], line[UNIT]);
-        if (any != 0) | !follows(above, number) {
-            let column = first_stray(line, above);
+        if (any != 0) | !follows(highest, above, number) {
+            let column = first_stray(highest, line, above);
             *place = at * LINE + column.max(shared_with_last(line, above));
             return 20;
         }
@@ -198,7 +211,7 @@ pub fn check_once(text: &[u8], place: &mut usize) -> u8 {
         *place = 0;
         return 1;
     }
-    *place = lines.len() * LINE + rest_place(rest, above);
+    *place = lines.len() * LINE + rest_place(highest, rest, above);
     20
 }
 
@@ -213,7 +226,7 @@ fn shared_with_last(bytes: &[u8], above: u8) -> usize {
 
 /// Eight characters with their parity bits.
 #[inline(always)]
-fn wires(characters: u64) -> u64 {
+pub fn wires(characters: u64) -> u64 {
     let mut odd = characters ^ (characters >> 4);
     odd ^= odd >> 2;
     odd ^= odd >> 1;
@@ -254,22 +267,34 @@ fn write(line: &[u8; LINE], frame: &mut [u8; LINE]) {
 /// The check. Its form is the library's, place written to the caller's, and it is never
 /// inlined, so that both sides pay the same for being called.
 #[inline(never)]
-pub fn check(text: &[u8], place: &mut usize) -> u8 {
-    if lines_of(text).is_some() {
-        *place = 0;
+pub fn check(edition: u8, text: &[u8], place: &mut usize) -> u8 {
+    *place = 0;
+    let Some(highest) = tables_of(edition) else {
+        return 16;
+    };
+    if lines_of(highest, text).is_some() {
         return 1;
     }
-    *place = place_of(text);
+    *place = place_of(highest, text);
     20
 }
 
 /// The export, in the library's form too.
 #[inline(never)]
-pub fn export(text: &[u8], out: &mut [u8], length: &mut usize, place: &mut usize) -> u8 {
+pub fn export(
+    edition: u8,
+    text: &[u8],
+    out: &mut [u8],
+    length: &mut usize,
+    place: &mut usize,
+) -> u8 {
     *length = 0;
     *place = 0;
-    let Some(lines) = lines_of(text) else {
-        *place = place_of(text);
+    let Some(highest) = tables_of(edition) else {
+        return 16;
+    };
+    let Some(lines) = lines_of(highest, text) else {
+        *place = place_of(highest, text);
         return 20;
     };
     let (frames, _) = out.as_chunks_mut::<LINE>();

@@ -1,17 +1,21 @@
-//! The head's session with meters of edition 1 and of any family, written by hand for speed in safe Rust: the yardstick for the
-//! proved one. The same checks and answers; `session_speed` holds the two equal before it times them.
+//! The head's session written by hand for speed in safe Rust: the yardstick for the proved one. The
+//! same checks and answers; `session_speed` holds the two equal before it times them.
 
-use crate::{fast_head, fast_post};
+use crate::fast_head;
+use crate::fast_post::{self, tables_of};
+use crate::fast_values;
 use dirgemist::session::{
     Session, Started, Told, Turn, DONE, FIELD, GOES_ON, MANY_READS, MESSAGE_ROOM, NAK, NONE,
     NO_DECIMALS, NO_EDITION, NO_POST, NO_READS, NO_ROOM, OVER, READ_ONLY, SILENT, WRONG,
 };
 
 const LINE: usize = 36;
-const TABLES: u8 = 24;
 
-/// The fixed replies, as they come over the line.
-const IDENTIFICATION: &[u8] = b"\xAFZZZ5SUB-VP0\xB1.00\xAA\x8D\n";
+/// The fixed replies, as they come over the line; the identification of either edition.
+const IDENTIFICATIONS: [&[u8]; 2] = [
+    b"\xAFZZZ5SUB-VP0\xB1.00\xAA\x8D\n",
+    b"\xAFZZZ5SUB-VP0\xB2.00\xAA\x8D\n",
+];
 const PASSWORD_ASK: &[u8] = b"\x81P0\x82(0000\xA9\x03\x60";
 const ACK: &[u8] = b"\x06";
 const NOT_ACK: &[u8] = b"\x95";
@@ -82,13 +86,14 @@ fn is_family(decimals: u8) -> bool {
     matches!(decimals, 0 | 2..=4)
 }
 
+/// What may be asked of meters that have so many tables and write energy with so many decimals.
 #[inline(always)]
-fn good_read(decimals: u8, letter: u8, n: u8) -> bool {
+fn good_read(highest: u8, decimals: u8, letter: u8, n: u8) -> bool {
     match letter {
         b'T' | b'L' | b'K' => true,
         b'E' => n <= 4,
         b'G' => n <= 4 && decimals != 0,
-        b'Z' => (1..=TABLES).contains(&n),
+        b'Z' => (1..=highest).contains(&n),
         _ => false,
     }
 }
@@ -112,7 +117,7 @@ fn read_at(work: &[u8], i: usize) -> (u8, u8) {
 }
 
 /// The message of a number, or nothing where the work has none.
-fn message(s: &Session, work: &[u8], n: u8, out: &mut [u8]) -> Option<usize> {
+fn message(s: &Session, highest: u8, work: &[u8], n: u8, out: &mut [u8]) -> Option<usize> {
     let mut w = writer(out);
     match n {
         2 => {
@@ -133,7 +138,7 @@ fn message(s: &Session, work: &[u8], n: u8, out: &mut [u8]) -> Option<usize> {
             let (number, row) = (&line[6..8], &line[9..33]);
             let table = two([number[0], number[1]])?;
             let framed = line.starts_with(b"131.0.") && line[8] == b'(' && line[33..] == *b")\r\n";
-            if !framed || !(1..=TABLES).contains(&table) || !is_row(row) {
+            if !framed || !(1..=highest).contains(&table) || !is_row(row) {
                 return None;
             }
             w.put(b"\x01W1\x02Z(");
@@ -144,7 +149,7 @@ fn message(s: &Session, work: &[u8], n: u8, out: &mut [u8]) -> Option<usize> {
         }
         n => {
             let (letter, number) = read_at(work, usize::from(n - 4));
-            if !good_read(s.decimals, letter, number) {
+            if !good_read(highest, s.decimals, letter, number) {
                 return None;
             }
             w.put(b"\x01R1\x02");
@@ -209,7 +214,7 @@ fn tells(decimals: u8, letter: u8, n: u8, data: &[u8]) -> bool {
                         b'0' + n,
                         b'(',
                     ]
-                && fast_head::value_eqm(decimals, &data[6..19]).0 == DONE
+                && fast_values::eqm(decimals, &data[6..19]).0 == DONE
                 && data.ends_with(b")\r\n")
         }
         b'E' => {
@@ -228,22 +233,22 @@ fn tells(decimals: u8, letter: u8, n: u8, data: &[u8]) -> bool {
     }
 }
 
-fn answers(decimals: u8, letter: u8, n: u8, reply: &[u8]) -> bool {
+fn answers(highest: u8, decimals: u8, letter: u8, n: u8, reply: &[u8]) -> bool {
     let mut plain = [0; 64];
-    if !good_read(decimals, letter, n) || fast_head::strip(reply, &mut plain).0 != 1 {
+    if !good_read(highest, decimals, letter, n) || fast_head::strip(reply, &mut plain).0 != 1 {
         return false;
     }
     let (number, start, length) = fast_head::part(&plain[..reply.len()]);
     number == 1 && tells(decimals, letter, n, &plain[start..start + length])
 }
 
-fn right(s: &Session, work: &[u8], reply: &[u8]) -> bool {
+fn right(s: &Session, highest: u8, work: &[u8], reply: &[u8]) -> bool {
     match s.sent {
-        1 => reply == IDENTIFICATION,
+        1 => reply == IDENTIFICATIONS[usize::from(s.edition == 2)],
         2 => reply == PASSWORD_ASK,
         n if n > 3 && n <= s.count + 3 && s.work == 0 => {
             let (letter, number) = read_at(work, usize::from(n - 4));
-            answers(s.decimals, letter, number, reply)
+            answers(highest, s.decimals, letter, number, reply)
         }
         _ => reply == ACK,
     }
@@ -259,13 +264,12 @@ fn told_well(flag: u8, bytes: &[u8]) -> bool {
     }
 }
 
-/// Whether a session may stand so.
+/// Whether a session with meters that have so many tables may stand so.
 #[inline(always)]
-fn good(s: &Session) -> bool {
-    let work = s.work == 0 || (s.work == 1 && s.access == 1 && s.count <= TABLES);
+fn good(s: &Session, highest: u8) -> bool {
+    let work = s.work == 0 || (s.work == 1 && s.access == 1 && s.count <= highest);
     let place = (1..=32).contains(&s.count) && (1..=s.count + 4).contains(&s.sent);
     place
-        && s.edition == 1
         && is_family(s.decimals)
         && work
         && s.fact <= SILENT
@@ -275,10 +279,10 @@ fn good(s: &Session) -> bool {
 }
 
 #[inline(always)]
-fn reads_good(told: &Told) -> bool {
+fn reads_good(told: &Told, highest: u8) -> bool {
     told.work
         .chunks_exact(2)
-        .all(|r| good_read(told.decimals, r[0], r[1]))
+        .all(|r| good_read(highest, told.decimals, r[0], r[1]))
 }
 
 /// Starts a session.
@@ -301,9 +305,11 @@ pub fn start(told: &Told, out: &mut [u8]) -> (Started, Session) {
         length: 0,
     };
     let length = told.work.len();
-    started.number = if told.edition != 1 {
-        NO_EDITION
-    } else if !is_family(told.decimals) {
+    let Some(highest) = tables_of(told.edition) else {
+        started.number = NO_EDITION;
+        return (started, session);
+    };
+    started.number = if !is_family(told.decimals) {
         NO_DECIMALS
     } else if out.len() < MESSAGE_ROOM {
         NO_ROOM
@@ -312,9 +318,9 @@ pub fn start(told: &Told, out: &mut [u8]) -> (Started, Session) {
             0 if length == 0 => NO_READS,
             0 if length > 64 => MANY_READS,
             0 if length % 2 == 1 => FIELD,
-            0 if !reads_good(told) => FIELD,
+            0 if !reads_good(told, highest) => FIELD,
             0 => DONE,
-            1 if fast_post::check(told.work, &mut started.place) != 1 => NO_POST,
+            1 if fast_post::check(told.edition, told.work, &mut started.place) != 1 => NO_POST,
             1 if told.access == 0 => READ_ONLY,
             1 => DONE,
             _ => FIELD,
@@ -346,7 +352,7 @@ pub fn start(told: &Told, out: &mut [u8]) -> (Started, Session) {
             count: (length / if told.kind == 1 { LINE } else { 2 }) as u8,
             sent: 1,
             fact: GOES_ON,
-            edition: 1,
+            edition: told.edition,
             decimals: told.decimals,
         };
         started.length = sign_on(&session, out);
@@ -365,18 +371,18 @@ pub fn reply(s: &mut Session, work: &[u8], reply: &[u8], out: &mut [u8]) -> Turn
     if out.len() < MESSAGE_ROOM {
         return unturned(NO_ROOM);
     }
-    if !good(s) {
+    let Some(highest) = tables_of(s.edition).filter(|&highest| good(s, highest)) else {
         return unturned(NONE);
-    }
+    };
     if s.fact == GOES_ON {
         if reply == NOT_ACK {
             s.fact = NAK;
-        } else if !right(s, work, reply) {
+        } else if !right(s, highest, work, reply) {
             s.fact = WRONG;
         } else if s.sent == s.count + 4 {
             s.fact = OVER;
         } else {
-            let Some(length) = message(s, work, s.sent + 1, out) else {
+            let Some(length) = message(s, highest, work, s.sent + 1, out) else {
                 return unturned(NONE);
             };
             s.sent += 1;

@@ -50,6 +50,7 @@ extern "C" {
 /// assert_eq!(card::check(1, b"\x01\x00\x0aSTUDIO_7  "), (card::DONE, 0));
 /// assert_eq!(card::check(2, b"\x01\x0a\x00"), (card::NOT_A_CARD, 1));
 /// ```
+#[inline]
 pub fn check(edition: u8, text: &[u8]) -> (u8, usize) {
     let mut place = UNWRITTEN;
     // SAFETY: the pointers and the length are those of live borrows.
@@ -58,6 +59,7 @@ pub fn check(edition: u8, text: &[u8]) -> (u8, usize) {
 }
 
 /// Writes the frames of a card for meters of an edition: the number, their length in bytes, and the place of a refusal.
+#[inline]
 pub fn read(edition: u8, text: &[u8], out: &mut [u8]) -> (u8, usize, usize) {
     let (mut length, mut place) = (UNWRITTEN, UNWRITTEN);
     // SAFETY: as above; the buffer is borrowed for the call alone, so nothing overlaps it.
@@ -76,6 +78,7 @@ pub fn read(edition: u8, text: &[u8], out: &mut [u8]) -> (u8, usize, usize) {
 }
 
 /// Writes the card of a meter: the number, and its length in bytes.
+#[inline]
 pub fn write(meter: &Meter, out: &mut [u8]) -> (u8, usize) {
     let mut length = UNWRITTEN;
     // SAFETY: as above.

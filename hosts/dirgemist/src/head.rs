@@ -231,6 +231,7 @@ fn lettered(build: Lettered, field: &[u8], out: &mut [u8]) -> (u8, usize) {
 }
 
 /// The sign-on to any meter.
+#[inline]
 pub fn sign_on(out: &mut [u8]) -> (u8, usize) {
     plain(dirgemist_head_sign_on, out)
 }
@@ -243,6 +244,7 @@ pub fn sign_on(out: &mut [u8]) -> (u8, usize) {
 /// assert_eq!(head::close(&mut out), (head::DONE, 5));
 /// assert_eq!(out[..5], [0xAF, 0xC3, 0x21, 0x8D, 0x0A]);
 /// ```
+#[inline]
 pub fn close(out: &mut [u8]) -> (u8, usize) {
     plain(dirgemist_head_close, out)
 }
@@ -255,6 +257,7 @@ pub fn close(out: &mut [u8]) -> (u8, usize) {
 /// assert_eq!(head::sign_on_to(b"1234567890", &mut out), (head::DONE, 16));
 /// assert_eq!(head::sign_on_to(b"123456789", &mut out), (9, 0));
 /// ```
+#[inline]
 pub fn sign_on_to(serial: &[u8], out: &mut [u8]) -> (u8, usize) {
     lettered(dirgemist_head_sign_on_to, serial, out)
 }
@@ -267,6 +270,7 @@ pub fn sign_on_to(serial: &[u8], out: &mut [u8]) -> (u8, usize) {
 /// assert_eq!(head::sign_on_wired(b"1234567890", &mut out), (head::DONE, 15));
 /// assert_eq!(head::sign_on_wired(b"123456789", &mut out), (9, 0));
 /// ```
+#[inline]
 pub fn sign_on_wired(serial: &[u8], out: &mut [u8]) -> (u8, usize) {
     lettered(dirgemist_head_sign_on_wired, serial, out)
 }
@@ -280,6 +284,7 @@ pub fn sign_on_wired(serial: &[u8], out: &mut [u8]) -> (u8, usize) {
 /// assert_eq!(head::confirm(b'0', b'1', &mut out), (head::DONE, 6));
 /// assert_eq!(head::confirm(b'1', b'1', &mut out), (9, 0));
 /// ```
+#[inline]
 pub fn confirm(speed: u8, choice: u8, out: &mut [u8]) -> (u8, usize) {
     let mut length = UNWRITTEN;
     let (to, room) = (out.as_mut_ptr(), out.len());
@@ -289,36 +294,43 @@ pub fn confirm(speed: u8, choice: u8, out: &mut [u8]) -> (u8, usize) {
 }
 
 /// The start of a session that only reads.
+#[inline]
 pub fn enter(out: &mut [u8]) -> (u8, usize) {
     plain(dirgemist_head_enter, out)
 }
 
 /// The start of a session that may write, with the password's eight digits.
+#[inline]
 pub fn password(password: &[u8], out: &mut [u8]) -> (u8, usize) {
     lettered(dirgemist_head_password, password, out)
 }
 
 /// Asks for the clock.
+#[inline]
 pub fn read_clock(out: &mut [u8]) -> (u8, usize) {
     plain(dirgemist_head_read_clock, out)
 }
 
 /// Asks for the serial.
+#[inline]
 pub fn read_serial(out: &mut [u8]) -> (u8, usize) {
     plain(dirgemist_head_read_serial, out)
 }
 
 /// Asks for the account.
+#[inline]
 pub fn read_account(out: &mut [u8]) -> (u8, usize) {
     plain(dirgemist_head_read_account, out)
 }
 
 /// Asks for the total of all zones.
+#[inline]
 pub fn read_total(out: &mut [u8]) -> (u8, usize) {
     plain(dirgemist_head_read_total, out)
 }
 
 /// Asks for a zone's energy.
+#[inline]
 pub fn read_zone(zone: u8, out: &mut [u8]) -> (u8, usize) {
     numbered(dirgemist_head_read_zone, zone, out)
 }
@@ -334,6 +346,7 @@ pub fn read_zone_out(zone: u8, out: &mut [u8]) -> (u8, usize) {
 }
 
 /// Asks a meter of an edition for a table.
+#[inline]
 pub fn read_table(edition: u8, table: u8, out: &mut [u8]) -> (u8, usize) {
     let mut length = UNWRITTEN;
     let (to, room) = (out.as_mut_ptr(), out.len());
@@ -343,6 +356,7 @@ pub fn read_table(edition: u8, table: u8, out: &mut [u8]) -> (u8, usize) {
 }
 
 /// Sets the clock to `[month, day, hour, minute, second]` of a year.
+#[inline]
 pub fn write_clock(year: u16, rest: [u8; 5], out: &mut [u8]) -> (u8, usize) {
     let [month, day, hour, minute, second] = rest;
     let mut length = UNWRITTEN;
@@ -365,11 +379,13 @@ pub fn write_clock(year: u16, rest: [u8; 5], out: &mut [u8]) -> (u8, usize) {
 }
 
 /// Sets the account, ten characters.
+#[inline]
 pub fn write_account(account: &[u8], out: &mut [u8]) -> (u8, usize) {
     lettered(dirgemist_head_write_account, account, out)
 }
 
 /// Sets a table of a meter of an edition to a row of 24 characters.
+#[inline]
 pub fn write_table(edition: u8, table: u8, row: &[u8], out: &mut [u8]) -> (u8, usize) {
     let mut length = UNWRITTEN;
     let (to, room) = (out.as_mut_ptr(), out.len());
@@ -389,12 +405,14 @@ pub fn write_table(edition: u8, table: u8, row: &[u8], out: &mut [u8]) -> (u8, u
 }
 
 /// Ends the session.
+#[inline]
 pub fn sign_off(out: &mut [u8]) -> (u8, usize) {
     plain(dirgemist_head_sign_off, out)
 }
 
 /// Strips a reply's parity into a buffer: the number, the length, and with 24 the place of the first
 /// damaged byte.
+#[inline]
 pub fn strip(reply: &[u8], out: &mut [u8]) -> (u8, usize, usize) {
     let (mut length, mut place) = (UNWRITTEN, UNWRITTEN);
     let (from, to) = ((reply.as_ptr(), reply.len()), (out.as_mut_ptr(), out.len()));
@@ -405,6 +423,7 @@ pub fn strip(reply: &[u8], out: &mut [u8]) -> (u8, usize, usize) {
 }
 
 /// Finds the part of a stripped block: the number, where it starts and how long it is.
+#[inline]
 pub fn part(stripped: &[u8]) -> (u8, usize, usize) {
     let (mut start, mut length) = (UNWRITTEN, UNWRITTEN);
     // SAFETY: see above.
@@ -464,6 +483,7 @@ pub fn next(sets: &[u8], at: usize) -> Step {
 }
 
 /// Reads the data set behind the first so many: where that is, and what was found there.
+#[inline]
 pub fn set_after(sets: &[u8], count: usize) -> (usize, Step) {
     let (mut start, mut step) = (UNWRITTEN, UNREAD);
     // SAFETY: see above.
@@ -541,6 +561,7 @@ pub fn find(sets: &[u8], address: &[u8]) -> Lookup {
 /// A function that reads characters back.
 type Reads = unsafe extern "C" fn(*const u8, usize, *mut u8, usize) -> u8;
 
+#[inline]
 fn characters<const N: usize>(read: Reads, value: &[u8]) -> (u8, [u8; N]) {
     let mut characters = [UNWRITTEN_BYTE; N];
     // SAFETY: see above.
@@ -549,21 +570,25 @@ fn characters<const N: usize>(read: Reads, value: &[u8]) -> (u8, [u8; N]) {
 }
 
 /// A serial's ten digits.
+#[inline]
 pub fn value_serial(value: &[u8]) -> (u8, [u8; 10]) {
     characters(dirgemist_head_value_serial, value)
 }
 
 /// An account's ten characters.
+#[inline]
 pub fn value_account(value: &[u8]) -> (u8, [u8; 10]) {
     characters(dirgemist_head_value_account, value)
 }
 
 /// A row's 24 characters.
+#[inline]
 pub fn value_row(value: &[u8]) -> (u8, [u8; 24]) {
     characters(dirgemist_head_value_row, value)
 }
 
 /// A date's year, month and day.
+#[inline]
 pub fn value_date(value: &[u8]) -> (u8, (u16, u8, u8)) {
     let mut date = (UNWRITTEN as u16, UNWRITTEN_BYTE, UNWRITTEN_BYTE);
     let (year, month, day) = (&mut date.0, &mut date.1, &mut date.2);
@@ -574,6 +599,7 @@ pub fn value_date(value: &[u8]) -> (u8, (u16, u8, u8)) {
 }
 
 /// A time's hour, minute and second.
+#[inline]
 pub fn value_time(value: &[u8]) -> (u8, (u8, u8, u8)) {
     let mut time = (UNWRITTEN_BYTE, UNWRITTEN_BYTE, UNWRITTEN_BYTE);
     let (hour, minute, second) = (&mut time.0, &mut time.1, &mut time.2);
@@ -590,6 +616,7 @@ pub fn value_time(value: &[u8]) -> (u8, (u8, u8, u8)) {
 /// assert_eq!(head::value_period(b"24-03-01 00:00"), (head::DONE, (2024, 3, 1, 0, 0)));
 /// assert_eq!(head::value_period(b"24-03-01 24:00"), (25, (0, 0, 0, 0, 0)));
 /// ```
+#[inline]
 pub fn value_period(value: &[u8]) -> (u8, (u16, u8, u8, u8, u8)) {
     let byte = UNWRITTEN_BYTE;
     let mut at = (UNWRITTEN as u16, byte, byte, byte, byte);
@@ -602,6 +629,7 @@ pub fn value_period(value: &[u8]) -> (u8, (u16, u8, u8, u8, u8)) {
 }
 
 /// A counter's Wh.
+#[inline]
 pub fn value_counter(value: &[u8]) -> (u8, u32) {
     let mut wh = UNWRITTEN as u32;
     // SAFETY: see above.

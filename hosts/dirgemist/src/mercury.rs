@@ -57,6 +57,7 @@ pub enum Answer {
 pub type Told = (u8, u8, u8, [u32; 4]);
 
 /// Builds the request for accumulated energy: the number, and its length.
+#[inline]
 pub fn ask(address: u8, array: u8, month: u8, tariff: u8, out: &mut [u8]) -> (u8, usize) {
     let mut length = UNWRITTEN;
     // SAFETY: the pointers and the length are those of live borrows.
@@ -75,6 +76,7 @@ pub fn ask(address: u8, array: u8, month: u8, tariff: u8, out: &mut [u8]) -> (u8
 }
 
 /// Reads the answer of the meter of an address, as the call hands it out.
+#[inline]
 pub fn told(address: u8, answer: &[u8]) -> Told {
     let (mut status, mut measured) = (UNWRITTEN_BYTE, UNWRITTEN_BYTE);
     let mut numbers = [UNWRITTEN as u32; 4];
@@ -119,6 +121,7 @@ pub fn read(address: u8, answer: &[u8]) -> Answer {
 }
 
 /// The CRC of a message.
+#[inline]
 pub fn crc(message: &[u8]) -> u16 {
     // SAFETY: the pointer and the length are those of a live borrow.
     unsafe { dirgemist_mercury_crc(message.as_ptr(), message.len()) }

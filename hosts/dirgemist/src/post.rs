@@ -44,6 +44,7 @@ extern "C" {
 /// assert_eq!(post::check(3, b""), (post::NO_EDITION, 0));
 /// assert_eq!(post::check(1, b"131.0.01(111111111111111111111111)\r\n!\r\n"), (post::DONE, 0));
 /// ```
+#[inline]
 pub fn check(edition: u8, text: &[u8]) -> (u8, usize) {
     let mut place = UNWRITTEN;
     // SAFETY: the pointers and the length are those of live borrows.
@@ -52,6 +53,7 @@ pub fn check(edition: u8, text: &[u8]) -> (u8, usize) {
 }
 
 /// Writes the frames of a post for meters of an edition: the number, their length in bytes, and the place of a refusal.
+#[inline]
 pub fn export(edition: u8, text: &[u8], out: &mut [u8]) -> (u8, usize, usize) {
     let (mut length, mut place) = (UNWRITTEN, UNWRITTEN);
     // SAFETY: as above; the buffer is borrowed for the call alone, so nothing overlaps it.

@@ -322,6 +322,7 @@ impl Session {
     /// let mut damaged = Session { count: 33, ..session };
     /// assert_eq!(damaged.silence().number, NONE);
     /// ```
+    #[inline]
     pub fn silence(&mut self) -> Turn {
         let mut turn = Turn {
             number: UNWRITTEN_BYTE,

@@ -2,17 +2,11 @@
 //! data block.
 
 use benchmark::fast_head;
+use benchmark::turns::{compared, medians, show};
 use dirgemist::head as library;
-use model::head::{self, answer, Clock, Lookup, Registers, Step, COMMAND_ROOM};
-use std::cell::RefCell;
+use model::head::{self, answer, Clock, Lookup, Registers, Step};
 use std::hint::black_box;
 use std::process::ExitCode;
-use std::time::Instant;
-
-/// Calls in a batch, and batches on each side; the median batch counts. A batch lasts a fraction of a
-/// millisecond, so that few are cut in two by another process's turn.
-const CALLS: u32 = 200;
-const BATCHES: usize = 2_001;
 
 /// The address of the total, the ninth of the 33 sets, and that of the last table.
 const TOTAL: &[u8] = b"15.8.0";
@@ -91,42 +85,6 @@ fn fast_find(sets: &[u8], address: &[u8]) -> Lookup {
     fast_head::find(sets, address)
 }
 
-#[inline(never)]
-fn fast_value_eqm(decimals: u8, value: &[u8]) -> (u8, u32) {
-    fast_head::value_eqm(decimals, value)
-}
-
-#[inline(never)]
-fn fast_read_zone_out(zone: u8, out: &mut [u8]) -> (u8, usize) {
-    fast_head::read_zone_out(zone, out)
-}
-
-/// The two sides of what an EQM meter is asked and of what it says.
-fn eqm_equal() -> bool {
-    let asks = (0..=255).all(|zone| {
-        [63, 64].into_iter().all(|room| {
-            let (mut one, mut other) = (vec![0x5A; room], vec![0x5A; room]);
-            fast_head::read_zone_out(zone, &mut one) == library::read_zone_out(zone, &mut other)
-                && one == other
-        })
-    });
-    let values = (0..=6).all(|decimals| {
-        ["123456.78*kWh", "12345.678*kWh", "1234.5678*kWh"]
-            .into_iter()
-            .all(|good| {
-                (0..good.len()).all(|place| {
-                    (0..=255).all(|byte| {
-                        let mut value = good.as_bytes().to_vec();
-                        value[place] = byte;
-                        fast_head::value_eqm(decimals, &value)
-                            == library::value_eqm(decimals, &value)
-                    })
-                })
-            })
-    });
-    asks && values
-}
-
 /// Reads all data sets through one reader: the last answer, how many were read, and where it stays.
 #[inline(always)]
 fn read_all(next: impl Fn(&[u8], usize) -> Step, sets: &[u8]) -> (u8, usize, usize) {
@@ -139,28 +97,6 @@ fn read_all(next: impl Fn(&[u8], usize) -> Step, sets: &[u8]) -> (u8, usize, usi
         count += 1;
         at = step.next;
     }
-}
-
-/// The median time of a call on either side, in nanoseconds. The sides take turns, so that
-/// whatever else the machine does meets both.
-fn medians(mut rust: impl FnMut(), mut library: impl FnMut()) -> (f64, f64) {
-    let batch = |call: &mut dyn FnMut()| {
-        let start = Instant::now();
-        call();
-        start.elapsed().as_nanos() as f64 / f64::from(CALLS)
-    };
-    let mut times = (Vec::new(), Vec::new());
-    for _ in 0..BATCHES {
-        times.0.push(batch(&mut || (0..CALLS).for_each(|_| rust())));
-        times
-            .1
-            .push(batch(&mut || (0..CALLS).for_each(|_| library())));
-    }
-    let median = |mut times: Vec<f64>| {
-        times.sort_by(f64::total_cmp);
-        times[times.len() / 2]
-    };
-    (median(times.0), median(times.1))
 }
 
 /// Both sides give the same answers and the same bytes, on the block that is timed and on it
@@ -200,100 +136,62 @@ fn main() -> ExitCode {
     let block = head::block(&sets);
     let wire = head::on_the_wire(&block);
     assert_eq!(wire.len(), 1_063);
-    if !all_equal(&wire, &block, &sets) || !eqm_equal() {
-        println!("head: the sides differ; nothing is timed");
-        return ExitCode::FAILURE;
+    if let Some(status) = compared("head", all_equal(&wire, &block, &sets)) {
+        return status;
     }
-    // One buffer for both sides, so that both write to the same places of a page.
-    let out = RefCell::new(vec![0; wire.len()]);
     let strip = medians(
-        || {
-            black_box(fast_strip(
-                black_box(&wire),
-                black_box(&mut out.borrow_mut()),
-            ));
+        &mut vec![0; wire.len()],
+        |out| {
+            black_box(fast_strip(black_box(&wire), black_box(out)));
         },
-        || {
-            black_box(library::strip(
-                black_box(&wire),
-                black_box(&mut out.borrow_mut()),
-            ));
+        |out| {
+            black_box(library::strip(black_box(&wire), black_box(out)));
         },
     );
     let part = medians(
-        || {
+        &mut [],
+        |_| {
             black_box(fast_part(black_box(&block)));
         },
-        || {
+        |_| {
             black_box(library::part(black_box(&block)));
         },
     );
     let called = medians(
-        || {
+        &mut [],
+        |_| {
             black_box(read_all(fast_next, black_box(&sets)));
         },
-        || {
+        |_| {
             black_box(read_all(library_next, black_box(&sets)));
         },
     );
     let inlined = medians(
-        || {
+        &mut [],
+        |_| {
             black_box(fast_head::read_all(black_box(&sets)));
         },
-        || {
+        |_| {
             black_box(read_all(library_next, black_box(&sets)));
         },
     );
     let [total, last] = [TOTAL, LAST].map(|address| {
         medians(
-            || {
+            &mut [],
+            |_| {
                 black_box(fast_find(black_box(&sets), black_box(address)));
             },
-            || {
+            |_| {
                 black_box(library_find(black_box(&sets), black_box(address)));
             },
         )
     });
-    let eqm_value = medians(
-        || {
-            black_box(fast_value_eqm(black_box(3), black_box(b"12345.678*kWh")));
-        },
-        || {
-            black_box(library::value_eqm(
-                black_box(3),
-                black_box(b"12345.678*kWh"),
-            ));
-        },
-    );
-    let command = RefCell::new([0; COMMAND_ROOM]);
-    let eqm_ask = medians(
-        || {
-            let out = &mut command.borrow_mut()[..];
-            black_box(fast_read_zone_out(black_box(3), black_box(out)));
-        },
-        || {
-            let out = &mut command.borrow_mut()[..];
-            black_box(library::read_zone_out(black_box(3), black_box(out)));
-        },
-    );
-    println!(
-        "{:<28}{:>10}{:>12}{:>8}",
-        "name", "rust_ns", "rattle_ns", "ratio"
-    );
-    for (name, (rust, library)) in [
+    show([
         ("strip, data block", strip),
         ("part, data block", part),
         ("33 data sets, each a call", called),
         ("33 data sets, Rust inlined", inlined),
         ("find the total, ninth of 33", total),
         ("find the last of 33", last),
-        ("an EQM value read", eqm_value),
-        ("G3() built", eqm_ask),
-    ] {
-        println!(
-            "{name:<28}{rust:>10.1}{library:>12.1}{:>8.2}",
-            library / rust
-        );
-    }
-    ExitCode::SUCCESS
+    ])
 }

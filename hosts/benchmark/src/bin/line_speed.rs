@@ -1,13 +1,10 @@
 //! The speed of the checksum and of the parity: the proved library beside Rust by hand, in one run,
 //! on the same 1,024 bytes.
 
+use benchmark::fast_post::wires;
+use benchmark::turns::{compared, medians, show};
 use std::hint::black_box;
 use std::process::ExitCode;
-use std::time::Instant;
-
-/// Calls in a batch, and batches on each side; the median batch counts.
-const CALLS: u32 = 20_000;
-const BATCHES: usize = 81;
 
 #[link(name = "speed", kind = "static")]
 extern "C" {
@@ -33,67 +30,55 @@ fn rust_bcc(bytes: &[u8]) -> u8 {
     bytes.iter().fold(0, |sum, byte| sum ^ byte) & 0x7f
 }
 
-/// The parity by hand.
+/// The parity by hand: eight bytes as one number, or by the vectors' count of ones where they have it.
 #[inline(never)]
 fn rust_parity(bytes: &mut [u8]) {
-    for byte in bytes {
-        let seven = *byte & 0x7f;
-        *byte = seven | ((seven.count_ones() as u8 & 1) << 7);
+    if cfg!(target_arch = "aarch64") {
+        for byte in bytes {
+            let seven = *byte & 0x7F;
+            *byte = seven | (seven.count_ones() as u8 & 1) << 7;
+        }
+        return;
+    }
+    let (eights, rest) = bytes.as_chunks_mut::<8>();
+    for eight in eights {
+        *eight = wires(u64::from_le_bytes(*eight) & 0x7F7F_7F7F_7F7F_7F7F).to_le_bytes();
+    }
+    for byte in rest {
+        *byte = wires(u64::from(*byte & 0x7F)) as u8;
     }
 }
 
-/// The median time of a call on either side, in nanoseconds. The sides take turns, so that
-/// whatever else the machine does meets both.
-fn medians(mut rust: impl FnMut(), mut library: impl FnMut()) -> (f64, f64) {
-    let batch = |call: &mut dyn FnMut()| {
-        let start = Instant::now();
-        (0..CALLS).for_each(|_| call());
-        start.elapsed().as_nanos() as f64 / f64::from(CALLS)
+/// Both sides give the same, on the bytes that are timed, cut anywhere, and with any byte before them.
+fn all_equal(bytes: &[u8]) -> bool {
+    let equal = |bytes: &[u8]| {
+        let (mut hand, mut proved) = (bytes.to_vec(), bytes.to_vec());
+        rust_parity(&mut hand);
+        library_parity(&mut proved);
+        rust_bcc(bytes) == library_bcc(bytes) && hand == proved
     };
-    let (mut hand, mut proved) = (Vec::new(), Vec::new());
-    for _ in 0..BATCHES {
-        hand.push(batch(&mut rust));
-        proved.push(batch(&mut library));
-    }
-    let median = |mut times: Vec<f64>| {
-        times.sort_by(f64::total_cmp);
-        times[times.len() / 2]
-    };
-    (median(hand), median(proved))
+    (0..=bytes.len()).all(|length| equal(&bytes[..length]) && equal(&bytes[length..]))
+        && (0..=255).all(|byte| equal(&[&[byte], bytes].concat()))
 }
 
 fn main() -> ExitCode {
-    let bytes: Vec<u8> = (0..1024u32).map(|i| (i * 37 % 251) as u8).collect();
-    let (mut hand, mut proved) = (bytes.clone(), bytes.clone());
-    rust_parity(&mut hand);
-    library_parity(&mut proved);
-    if rust_bcc(&bytes) != library_bcc(&bytes) || hand != proved {
-        println!("the two sides differ");
-        return ExitCode::FAILURE;
+    let mut bytes: Vec<u8> = (0..1024u32).map(|i| (i * 37 % 251) as u8).collect();
+    if let Some(status) = compared("line", all_equal(&bytes)) {
+        return status;
     }
-    println!(
-        "{:<24} {:>10} {:>10} {:>7}",
-        "name", "rust_ns", "rattle_ns", "ratio"
-    );
-    let show = |name: &str, (rust, library): (f64, f64)| {
-        println!(
-            "{name:<24} {rust:>10.1} {library:>10.1} {:>7.2}",
-            library / rust
-        );
-    };
     let sums = medians(
-        || {
+        &mut [],
+        |_| {
             black_box(rust_bcc(black_box(&bytes)));
         },
-        || {
+        |_| {
             black_box(library_bcc(black_box(&bytes)));
         },
     );
-    show("bcc, 1 KiB", sums);
     let parities = medians(
-        || rust_parity(black_box(&mut hand)),
-        || library_parity(black_box(&mut proved)),
+        &mut bytes,
+        |bytes| rust_parity(black_box(bytes)),
+        |bytes| library_parity(black_box(bytes)),
     );
-    show("parity, 1 KiB", parities);
-    ExitCode::SUCCESS
+    show([("bcc, 1 KiB", sums), ("parity, 1 KiB", parities)])
 }

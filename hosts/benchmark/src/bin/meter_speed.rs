@@ -2,6 +2,7 @@
 //! same bytes. A character in programming mode and the data block, the whole state checked at every call.
 
 use benchmark::fast_meter;
+use benchmark::turns::only_compares;
 use dirgemist::meter::{self as library, Event};
 use model::meter::{bcc, with_parity, Answer, Clock, Meter, Period, Way, PERIODS, ROOM};
 use std::hint::black_box;
@@ -151,13 +152,15 @@ fn medians(parts: usize, mut rust: impl FnMut(), mut library: impl FnMut()) -> (
         start.elapsed().as_nanos() as f64 / parts as f64
     };
     let mut times = (Vec::new(), Vec::new());
-    for _ in 0..BATCHES {
+    // One batch is enough to compare what the sides come to.
+    let batches = if only_compares() { 1 } else { BATCHES };
+    for _ in 0..batches {
         times.0.push(batch(&mut rust));
         times.1.push(batch(&mut library));
     }
     let median = |mut times: Vec<f64>| {
         times.sort_by(f64::total_cmp);
-        times[BATCHES / 2]
+        times[batches / 2]
     };
     (median(times.0), median(times.1))
 }
@@ -328,11 +331,7 @@ fn main() {
         &frame("R1", "Z(17)"),
     ]
     .concat();
-    println!(
-        "{:<34}{:>9}{:>11}{:>7}",
-        "name", "rust_ns", "rattle_ns", "ratio"
-    );
-    for (name, (rust, library)) in [
+    let rows = [
         ("a character of table writes", stream(&writes)),
         ("a character of mixed frames", stream(&mixed)),
         ("a table write that comes whole", whole(&writes)),
@@ -343,7 +342,16 @@ fn main() {
         ("a pulse out of an EQM meter", pulse_out()),
         ("the tick that closes a month", closing()),
         ("the total for a display", display()),
-    ] {
+    ];
+    if only_compares() {
+        println!("meter: the sides are equal");
+        return;
+    }
+    println!(
+        "{:<34}{:>9}{:>11}{:>7}",
+        "name", "rust_ns", "rattle_ns", "ratio"
+    );
+    for (name, (rust, library)) in rows {
         println!(
             "{name:<34}{rust:>9.1}{library:>11.1}{:>7.2}",
             library / rust

@@ -2,15 +2,11 @@
 //! starts and replies.
 
 use benchmark::fast_session;
+use benchmark::turns::{compared, medians, show};
 use dirgemist::session::{Session, Started, Told, Turn, DONE, GOES_ON, MESSAGE_ROOM, OVER};
 use model::head::{block, line, on_the_wire};
 use std::hint::black_box;
 use std::process::ExitCode;
-use std::time::Instant;
-
-/// Calls in a batch, and batches on each side; the median batch counts.
-const CALLS: u32 = 500;
-const BATCHES: usize = 2_001;
 
 const SERIAL: &[u8] = b"1234567890";
 const PASSWORD: &[u8] = b"20304050";
@@ -28,10 +24,10 @@ fn fast_reply(session: &mut Session, work: &[u8], reply: &[u8], out: &mut [u8]) 
     fast_session::reply(session, work, reply, out)
 }
 
-/// The longest post.
-fn post() -> Vec<u8> {
+/// The longest post of an edition.
+fn post(edition: u8) -> Vec<u8> {
     let mut text = Vec::new();
-    for table in 1..=24 {
+    for table in 1..=23 + edition {
         text.extend(format!("131.0.{table:02}(123412341234123412341234)\r\n").bytes());
     }
     text.extend(b"!\r\n");
@@ -42,17 +38,19 @@ fn post() -> Vec<u8> {
 fn right(session: &Session, work: &[u8]) -> Vec<u8> {
     let read = usize::from(session.sent).wrapping_sub(4) * 2;
     let text = match session.sent {
-        1 => b"/ZZZ5SUB-VP01.00*\r\n".to_vec(),
+        1 => format!("/ZZZ5SUB-VP0{}.00*\r\n", session.edition).into_bytes(),
         2 => b"\x01P0\x02(0000)\x03\x60".to_vec(),
         n if n > 3 && n < session.count + 4 && session.work == 0 => {
             let n = work[read + 1];
+            let (whole, part) = "01234567".split_at(8 - usize::from(session.decimals));
+            let energy = format!("{whole}.{part}*kWh");
             let data = match work[read] {
                 b'T' => [line("0.9.1", "23:59:58"), line("0.9.2", "28-02-29")].concat(),
                 b'L' => line("C.1.0", "123 4567890"),
                 b'K' => line("0.0.0", "Kiln_7 old"),
                 b'E' if session.decimals == 0 => line(&format!("15.8.{n}"), "000123.456*kWh"),
-                b'E' => line(&format!("1.8.{n}"), "01234.567*kWh"),
-                b'G' => line(&format!("2.8.{n}"), "01234.567*kWh"),
+                b'E' => line(&format!("1.8.{n}"), &energy),
+                b'G' => line(&format!("2.8.{n}"), &energy),
                 _ => line(&format!("131.0.{n:02}"), "123412341234123412341234"),
             };
             block(&data)
@@ -75,19 +73,18 @@ fn same_start(told: &Told, room: usize) -> bool {
     fast_session::start(told, &mut out) == told.start(&mut wire) && out == wire
 }
 
-/// Every session of the right replies, and at each message every reply that is hurt, other work,
-/// a small buffer, and each byte of the record hurt. Returns how many calls were equal.
-fn compared(told: &Told) -> Result<usize, &'static str> {
+/// A session of the right replies, and at each message every reply that is hurt, other work, a
+/// small buffer, and each byte of the record hurt; its start with every edition and family, and with
+/// the work cut and hurt. Nothing where the sides differ somewhere.
+fn same(told: &Told) -> Option<()> {
     let mut out = [0; MESSAGE_ROOM];
     let (started, mut session) = told.start(&mut out);
-    let mut calls = 0;
-    let mut see = |right: bool| {
-        calls += 1;
-        right.then_some(()).ok_or("the two sides differ")
-    };
-    see(same_start(told, MESSAGE_ROOM) && same_start(told, 63) && started.number == DONE)?;
-    for decimals in 0..=255 {
-        see(same_start(&told.eqm(decimals), MESSAGE_ROOM))?;
+    let see = |right: bool| right.then_some(());
+    see(started.number == DONE)?;
+    for number in 0..=255 {
+        for told in [told.of(number), told.eqm(number)] {
+            see(same_start(&told, MESSAGE_ROOM) && same_start(&told, 63))?;
+        }
     }
     for cut in 0..told.work.len() {
         let work = &told.work[..cut];
@@ -145,6 +142,10 @@ fn compared(told: &Told) -> Result<usize, &'static str> {
                     ..session
                 },
                 Session {
+                    edition: value,
+                    ..session
+                },
+                Session {
                     decimals: value,
                     ..session
                 },
@@ -163,107 +164,82 @@ fn compared(told: &Told) -> Result<usize, &'static str> {
         see(same_turn(session, told.work, &reply, MESSAGE_ROOM))?;
         session.reply(told.work, &reply, &mut out);
     }
-    if session.fact != OVER {
-        return Err("a session that should be done is not");
-    }
-    Ok(calls)
-}
-
-/// The median time of a call on either side, in nanoseconds. The sides take turns, so that
-/// whatever else the machine does meets both.
-fn medians(mut rust: impl FnMut(), mut library: impl FnMut()) -> (f64, f64) {
-    let batch = |call: &mut dyn FnMut()| {
-        let start = Instant::now();
-        call();
-        start.elapsed().as_nanos() as f64 / f64::from(CALLS)
-    };
-    let mut times = (Vec::new(), Vec::new());
-    for _ in 0..BATCHES {
-        times.0.push(batch(&mut || (0..CALLS).for_each(|_| rust())));
-        times
-            .1
-            .push(batch(&mut || (0..CALLS).for_each(|_| library())));
-    }
-    let median = |mut times: Vec<f64>| {
-        times.sort_by(f64::total_cmp);
-        times[times.len() / 2]
-    };
-    (median(times.0), median(times.1))
+    see(session.fact == OVER)
 }
 
 fn starts(told: &Told) -> (f64, f64) {
-    let (mut one, mut other) = ([0; MESSAGE_ROOM], [0; MESSAGE_ROOM]);
     medians(
-        || {
-            black_box(fast_start(black_box(told), black_box(&mut one)));
+        &mut [0; MESSAGE_ROOM],
+        |out| {
+            black_box(fast_start(black_box(told), black_box(out)));
         },
-        || {
-            black_box(black_box(told).start(black_box(&mut other)));
+        |out| {
+            black_box(black_box(told).start(black_box(out)));
         },
     )
 }
 
 /// A right reply to the message of a number, and the next one built.
 fn replies(told: &Told, sent: u8) -> (f64, f64) {
-    let (mut one, mut other) = ([0; MESSAGE_ROOM], [0; MESSAGE_ROOM]);
-    let (_, mut session) = told.start(&mut one);
+    let mut out = [0; MESSAGE_ROOM];
+    let (_, mut session) = told.start(&mut out);
     while session.sent < sent {
         let reply = right(&session, told.work);
-        let turn = session.reply(told.work, &reply, &mut one);
+        let turn = session.reply(told.work, &reply, &mut out);
         assert_eq!((turn.number, turn.fact), (DONE, GOES_ON));
     }
     let reply = right(&session, told.work);
     let (work, reply) = (told.work, &reply[..]);
     medians(
-        || {
+        &mut out,
+        |out| {
             let mut now = black_box(session);
             black_box(fast_reply(
                 &mut now,
                 black_box(work),
                 black_box(reply),
-                black_box(&mut one),
+                black_box(out),
             ));
             black_box(now);
         },
-        || {
+        |out| {
             let mut now = black_box(session);
-            black_box(now.reply(black_box(work), black_box(reply), black_box(&mut other)));
+            black_box(now.reply(black_box(work), black_box(reply), black_box(out)));
             black_box(now);
         },
     )
 }
 
 fn main() -> ExitCode {
-    let post = post();
+    let (post, saturday) = (post(1), post(2));
     let reading = Told::reads(READS).to(SERIAL).with(PASSWORD);
     let posting = Told::post(&post).to(SERIAL).with(PASSWORD);
+    let posting_two = Told::post(&saturday).to(SERIAL).with(PASSWORD).of(2);
     let any = Told::reads(b"E\0K\0");
+    let last = Told::reads(b"Z\x19").of(2);
     let eqm = Told::reads(b"E\0G\0G\x04K\0").eqm(3);
-    for told in [&reading, &posting, &any, &eqm] {
-        match compared(told) {
-            Ok(calls) => println!("equal on {calls} calls"),
-            Err(complaint) => {
-                println!("{complaint}");
-                return ExitCode::FAILURE;
-            }
-        }
+    let eqm_two = Told::reads(b"G\x01Z\x19").eqm(4).of(2);
+    let equal = [
+        &reading,
+        &posting,
+        &posting_two,
+        &any,
+        &last,
+        &eqm,
+        &eqm_two,
+    ]
+    .iter()
+    .all(|told| same(told).is_some());
+    if let Some(status) = compared("session", equal) {
+        return status;
     }
-    println!(
-        "{:<44}{:>10}{:>12}{:>8}",
-        "name", "rust_ns", "rattle_ns", "ratio"
-    );
-    for (name, (rust, library)) in [
+    show([
         ("start, eight reads", starts(&reading)),
-        ("start, the longest post", starts(&posting)),
+        ("start, longest post of edition 1", starts(&posting)),
+        ("start, longest post of edition 2", starts(&posting_two)),
         ("identification heard, confirmation", replies(&reading, 1)),
         ("a row heard, the next read", replies(&reading, 10)),
         ("an EQM counter heard, the next read", replies(&eqm, 5)),
         ("ACK heard, the next row written", replies(&posting, 10)),
-    ] {
-        println!(
-            "{name:<44}{rust:>10.1}{library:>12.1}{:>8.2}",
-            library / rust
-        );
-    }
-    ExitCode::SUCCESS
+    ])
 }
