@@ -25,6 +25,7 @@ extern "C" {
 #define DIRGEMIST_HEAD_DONE 1        /* built, stripped, found or read */
 #define DIRGEMIST_HEAD_FIELD 9       /* a field outside its rule; nothing written */
 #define DIRGEMIST_HEAD_NO_EDITION 16 /* an edition that there is not; before all others, nothing written */
+#define DIRGEMIST_HEAD_NO_DECIMALS 18 /* decimals that no EQM meter has; before all others */
 #define DIRGEMIST_HEAD_NO_ROOM 19    /* a command buffer under DIRGEMIST_HEAD_COMMAND_ROOM; nothing written */
 #define DIRGEMIST_HEAD_NO_BLOCK 22   /* not STX .. ETX and one character */
 #define DIRGEMIST_HEAD_WRONG_BCC 23  /* a block whose BCC does not fit */
@@ -79,6 +80,11 @@ uint8_t dirgemist_head_read_total(uint8_t *out, dirgemist_size out_length, dirge
 
 /* R1 `En()`: asks for a zone's energy. The zone is 1 to 4. */
 uint8_t dirgemist_head_read_zone(uint8_t zone, uint8_t *out, dirgemist_size out_length, dirgemist_size *length);
+
+/* R1 `G0()` and `Gn()`: ask an EQM meter for what went out, the total and a zone's. The zone is 1 to 4. A meter that counts only what
+ * comes in refuses both with 9. */
+uint8_t dirgemist_head_read_total_out(uint8_t *out, dirgemist_size out_length, dirgemist_size *length);
+uint8_t dirgemist_head_read_zone_out(uint8_t zone, uint8_t *out, dirgemist_size out_length, dirgemist_size *length);
 
 /* R1 `Z(xx)`: asks a meter of an edition for a table. The table is 1 to 24, and to 25 for edition 2; an edition that is neither 1 nor
  * 2 is DIRGEMIST_HEAD_NO_EDITION, before all others. */
@@ -164,6 +170,10 @@ uint8_t dirgemist_head_value_period(const uint8_t *value, dirgemist_size length,
 
 /* `eeeeee.eee*kWh`: a counter's Wh, 0 to 999,999,999. */
 uint8_t dirgemist_head_value_counter(const uint8_t *value, dirgemist_size length, uint32_t *wh);
+
+/* A counter of an EQM meter with so many decimals, in units of its last place, 0 to 99,999,999: `eeeeee.ee*kWh` for 2, `eeeee.eee*kWh`
+ * for 3, `eeee.eeee*kWh` for 4. Any other decimals are DIRGEMIST_HEAD_NO_DECIMALS, before all else, and *number is 0. */
+uint8_t dirgemist_head_value_eqm(uint8_t decimals, const uint8_t *value, dirgemist_size length, uint32_t *number);
 
 #ifdef __cplusplus
 }

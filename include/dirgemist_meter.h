@@ -11,9 +11,10 @@
  * Each is proved, for all records, numbers and buffers, to do what its paragraph says. Pointers
  * must not be null, and what they point to must not overlap.
  *
- * Stack: an event takes some 12,200 bytes (64-bit Arm), a whole frame 12,900, a test 3,300, making
- * 2,000; DIRGEMIST_STACK is above each, and hosts/stack and hosts/chip/count.c measure them. The steps of an event hand the state on by value, and up to eight copies of its
- * tables and its archive are alive at once.
+ * Stack: an event takes some 15,900 bytes (x86-64), a whole frame 16,600, a test 3,500, making
+ * 4,100; DIRGEMIST_STACK is above each, and hosts/stack and hosts/chip/count.c measure them. The
+ * steps of an event hand the state on by value, and up to eight copies of its tables and its archive
+ * are alive at once.
  *
  * Link with libfirmware.a for events, and with libkeeping.a for making, testing and showing.
  */
@@ -27,7 +28,7 @@ extern "C" {
 #endif
 
 #define DIRGEMIST_REPLY_ROOM 4096 /* the least room of a reply buffer */
-#define DIRGEMIST_STACK 16384     /* the most stack that a call takes, in bytes */
+#define DIRGEMIST_STACK 20480     /* the most stack that a call takes, in bytes */
 
 struct dirgemist_date {
     uint16_t year; /* 2000 to 2099 */
@@ -50,14 +51,16 @@ struct dirgemist_clock {
  * damaged, else 0; no other number is well-formed. place is that of the first damaged one, the first
  * held one being at 0: below count with the mark, and 0 without it. */
 struct dirgemist_receiver {
-    uint8_t held[63];
     uint8_t count;
+    uint8_t held[63];
     uint8_t mark;
     uint8_t place;
 };
 
-/* The zones' counters in Wh, each under 1,000,000,000, and their total: the sum of the four modulo
- * 1,000,000,000. Any other total is not well-formed. */
+/* The zones' counters of one direction, in units of the last place that is shown, and their total.
+ * Where decimals are 0 that is Wh: each counter is under 1,000,000,000, and the total is the sum of
+ * the four modulo that. An EQM meter shows eight digits: there the number is 100,000,000. Any other
+ * total is not well-formed. */
 struct dirgemist_counters {
     uint32_t zones[4];
     uint32_t total;
@@ -70,10 +73,12 @@ struct dirgemist_stamp {
     uint8_t minute;
 };
 
-/* A closed period: when it was closed, and the zones' counters as they stood. */
+/* A closed period: when it was closed, and the zones' counters as they stood, of energy that came
+ * in and of energy that went out. */
 struct dirgemist_period {
     struct dirgemist_stamp closed;
     uint32_t zones[4];
+    uint32_t exported[4];
 };
 
 /* The closed periods, count of them, the newest first. The places from count on are all 0; a
@@ -85,7 +90,8 @@ struct dirgemist_archive {
 };
 
 /* What a meter has for life: texts without an end mark; the edition, 1 or 2; the link, 1 (optical)
- * or 2 (wired); the decimals of its family, 0. */
+ * or 2 (wired); the decimals of an EQM meter, 2, 3 or 4, or 0 for a meter that counts Wh and only
+ * what comes in. */
 struct dirgemist_facts {
     uint8_t serial[10];
     uint8_t password[8];
@@ -94,13 +100,15 @@ struct dirgemist_facts {
     uint8_t decimals;
 };
 
-/* Texts without an end mark; the tables are 24 rows of 24 characters '1' to '4', and of edition 2
+/* counters is the energy that came in, exported that which went out: all 0 where decimals are 0.
+ * Texts without an end mark; the tables are 24 rows of 24 characters '1' to '4', and of edition 2
  * 25 rows. The 25th row of an edition 1 meter is 24 bytes of 0, or the record is not well-formed. */
 struct dirgemist_registers {
     struct dirgemist_facts facts;
     uint8_t account[10];
     struct dirgemist_clock clock;
     struct dirgemist_counters counters;
+    struct dirgemist_counters exported;
     uint8_t tables[600];
     struct dirgemist_archive archive;
 };
@@ -137,8 +145,8 @@ DIRGEMIST_SIZED(dirgemist_time, 3);
 DIRGEMIST_AT(dirgemist_clock, date, 0);
 DIRGEMIST_AT(dirgemist_clock, time, 4);
 DIRGEMIST_SIZED(dirgemist_clock, 8);
-DIRGEMIST_AT(dirgemist_receiver, held, 0);
-DIRGEMIST_AT(dirgemist_receiver, count, 63);
+DIRGEMIST_AT(dirgemist_receiver, count, 0);
+DIRGEMIST_AT(dirgemist_receiver, held, 1);
 DIRGEMIST_AT(dirgemist_receiver, mark, 64);
 DIRGEMIST_AT(dirgemist_receiver, place, 65);
 DIRGEMIST_SIZED(dirgemist_receiver, 66);
@@ -151,10 +159,11 @@ DIRGEMIST_AT(dirgemist_stamp, minute, 5);
 DIRGEMIST_SIZED(dirgemist_stamp, 6);
 DIRGEMIST_AT(dirgemist_period, closed, 0);
 DIRGEMIST_AT(dirgemist_period, zones, 8);
-DIRGEMIST_SIZED(dirgemist_period, 24);
+DIRGEMIST_AT(dirgemist_period, exported, 24);
+DIRGEMIST_SIZED(dirgemist_period, 40);
 DIRGEMIST_AT(dirgemist_archive, periods, 0);
-DIRGEMIST_AT(dirgemist_archive, count, 288);
-DIRGEMIST_SIZED(dirgemist_archive, 292);
+DIRGEMIST_AT(dirgemist_archive, count, 480);
+DIRGEMIST_SIZED(dirgemist_archive, 484);
 DIRGEMIST_AT(dirgemist_facts, serial, 0);
 DIRGEMIST_AT(dirgemist_facts, password, 10);
 DIRGEMIST_AT(dirgemist_facts, edition, 18);
@@ -165,15 +174,16 @@ DIRGEMIST_AT(dirgemist_registers, facts, 0);
 DIRGEMIST_AT(dirgemist_registers, account, 21);
 DIRGEMIST_AT(dirgemist_registers, clock, 32);
 DIRGEMIST_AT(dirgemist_registers, counters, 40);
-DIRGEMIST_AT(dirgemist_registers, tables, 60);
-DIRGEMIST_AT(dirgemist_registers, archive, 660);
-DIRGEMIST_SIZED(dirgemist_registers, 952);
+DIRGEMIST_AT(dirgemist_registers, exported, 60);
+DIRGEMIST_AT(dirgemist_registers, tables, 80);
+DIRGEMIST_AT(dirgemist_registers, archive, 680);
+DIRGEMIST_SIZED(dirgemist_registers, 1164);
 DIRGEMIST_AT(dirgemist_meter, mode, 0);
 DIRGEMIST_AT(dirgemist_meter, attempts, 1);
 DIRGEMIST_AT(dirgemist_meter, speed, 2);
 DIRGEMIST_AT(dirgemist_meter, receiver, 3);
 DIRGEMIST_AT(dirgemist_meter, registers, 72);
-DIRGEMIST_SIZED(dirgemist_meter, 1024);
+DIRGEMIST_SIZED(dirgemist_meter, 1236);
 
 /* The numbers returned.
  *    0  taken, and nothing to say
@@ -190,10 +200,11 @@ DIRGEMIST_SIZED(dirgemist_meter, 1024);
  *   10  the wrong password
  *   11  locked: three wrong passwords were given
  *   12  under DIRGEMIST_REPLY_ROOM bytes for the reply of a character or of silence
- *   13  a pulse of more than 1,000,000 Wh
+ *   13  a pulse of more than 1,000,000, or a pulse out where decimals are 0
  *   14  the record is not well-formed
  *   15  the facts that a meter is to be made from are bad
  *   16  the record's edition is neither 1 nor 2
+ *   18  the decimals that a meter is to be made with are none of 0, 2, 3 and 4
  *   99  no such event
  * 12, 13, 14, 16 and 99 leave every byte of the record and of the buffer as it was. The order of
  * the tests is 16, 99, 13, 12, 14. */
@@ -203,8 +214,9 @@ DIRGEMIST_SIZED(dirgemist_meter, 1024);
 #define DIRGEMIST_CHARACTER 0 /* the byte from the line, 0 to 255 */
 #define DIRGEMIST_SILENCE 1   /* eight seconds without a character; any value */
 #define DIRGEMIST_TICK 2      /* one second; any value */
-#define DIRGEMIST_PULSE 3     /* the Wh, 0 to 1,000,000 */
+#define DIRGEMIST_PULSE 3     /* energy came in: the units of the last place, 0 to 1,000,000 */
 #define DIRGEMIST_POWER_UP 4  /* power has come back; any value */
+#define DIRGEMIST_PULSE_OUT 5 /* energy went out of an EQM meter: the same units */
 
 /* Makes a new meter in *meter: the serial's ten digits, the account's ten letters, digits, spaces
  * or underscores, the password's eight digits, the clock, a real date of 2000 to 2099 with a time,
@@ -223,8 +235,9 @@ uint8_t dirgemist_meter_make(struct dirgemist_meter *meter, const uint8_t *seria
 /* Whether the record is well-formed: 1, 16 for an edition that is none, or 14. It is only read. */
 uint8_t dirgemist_meter_check(const struct dirgemist_meter *meter);
 
-/* The total for a display: 1, and *total is what the record keeps; or 16 or 14, and *total is 0. The record
- * is only read, and nothing is added up but for the test that it is well-formed. */
+/* The total for a display, of the energy that came in: 1, and *total is what the record keeps; or 16
+ * or 14, and *total is 0. The record is only read, and nothing is added up but for the test that it
+ * is well-formed. */
 uint8_t dirgemist_meter_total(const struct dirgemist_meter *meter, uint32_t *total);
 
 /* What has happened, with its value. Returns the answer's number; *meter becomes the next state,
@@ -235,7 +248,7 @@ uint8_t dirgemist_meter_total(const struct dirgemist_meter *meter, uint32_t *tot
  * with any other number it is 0. *length, *speed and *place are always written; with 12, 13, 14,
  * 16 and 99 they are 0.
  * A tick, a pulse and power-up have no reply and take any room, none too; where room is 0, reply is
- * never read or written through. A kind that is none of the five, or a character over 255, gives
+ * never read or written through. A kind that is none of the six, or a character over 255, gives
  * 99. */
 uint8_t dirgemist_meter_meet(struct dirgemist_meter *meter, uint8_t kind, uint32_t value,
                              uint8_t *reply, dirgemist_size room, dirgemist_size *length,
@@ -273,11 +286,18 @@ static inline uint8_t dirgemist_meter_tick(struct dirgemist_meter *meter, uint8_
     return dirgemist_meter_note(meter, DIRGEMIST_TICK, 0, speed);
 }
 
-/* So many Wh were used: the counter of the zone that day and hour name grows by them, and the total
- * too; each rolls over at 1,000,000,000. 13, 14, or 1. */
-static inline uint8_t dirgemist_meter_pulse(struct dirgemist_meter *meter, uint32_t wh,
+/* So many units came in: the counter of the zone that day and hour name grows by them, and the total
+ * too; each rolls over at 1,000,000,000, that of an EQM meter at 100,000,000. 13, 14, or 1. */
+static inline uint8_t dirgemist_meter_pulse(struct dirgemist_meter *meter, uint32_t units,
                                             uint8_t *speed) {
-    return dirgemist_meter_note(meter, DIRGEMIST_PULSE, wh, speed);
+    return dirgemist_meter_note(meter, DIRGEMIST_PULSE, units, speed);
+}
+
+/* So many units went out of an EQM meter: its exported counter of that zone, and their total, grow
+ * in the same way. 13 where decimals are 0 too. 13, 14, or 1. */
+static inline uint8_t dirgemist_meter_pulse_out(struct dirgemist_meter *meter, uint32_t units,
+                                                uint8_t *speed) {
+    return dirgemist_meter_note(meter, DIRGEMIST_PULSE_OUT, units, speed);
 }
 
 /* Power has come back: the meter listens, with nothing received and no attempts. 14, or 1. */

@@ -26,7 +26,8 @@ extern "C" {
 #endif
 
 /* named: 1 calls the meter of the serial, 0 any. access: 1 enters with the password, 0 with `()`. work: 1 a post, 0 reads. count:
- * messages of work. sent: the number of the message sent last. fact: one of those below. edition: that of the meters that are called, 1 or 2. What was not told is zeros. */
+ * messages of work. sent: the number of the message sent last. fact: one of those below. edition: that of the meters that are called, 1
+ * or 2. decimals: those of EQM meters, 2, 3 or 4, or 0 for other meters. What was not told is zeros. */
 struct dirgemist_session {
     uint8_t serial[10];
     uint8_t password[8];
@@ -37,12 +38,14 @@ struct dirgemist_session {
     uint8_t sent;
     uint8_t fact;
     uint8_t edition;
+    uint8_t decimals;
 };
 
 /* The numbers returned. */
 #define DIRGEMIST_SESSION_DONE 1       /* started, or heard */
 #define DIRGEMIST_SESSION_FIELD 9      /* a serial, a password or a read that the head can't build a message from */
 #define DIRGEMIST_SESSION_NO_EDITION 16 /* an edition that there is not; before all others */
+#define DIRGEMIST_SESSION_NO_DECIMALS 18 /* decimals that no meter has; after 16, before all others */
 #define DIRGEMIST_SESSION_NO_ROOM 19   /* a buffer under DIRGEMIST_SESSION_ROOM */
 #define DIRGEMIST_SESSION_NO_POST 20   /* a text that is no post; with the place */
 #define DIRGEMIST_SESSION_NO_READS 28  /* an empty list of reads */
@@ -59,15 +62,18 @@ struct dirgemist_session {
 
 #define DIRGEMIST_SESSION_ROOM 64 /* the least buffer that a message is built in */
 
-/* Starts a session with meters of an edition in *session, whatever stood there: only that edition's identification is then right. named is 1 with the ten digits of a serial at serial, or 0 for any meter;
- * access is 1 with the eight digits of a password at password, or 0 for `()`; what is not named is not looked at. kind is 0 for
- * reads, two bytes each at work: a letter 'T', 'L', 'K', 'E' or 'Z', and the number of the energy, 0 to 4 (0 the total), or of
- * the table, 1 to 24, or to 25 for edition 2; with the other letters the number may be any. kind is 1 for the text of a post at work.
+/* Starts a session with meters of an edition and of a family in *session, whatever stood there: only that edition's
+ * identification is then right, and energy only in that family's lines. decimals is 0, or 2, 3 or 4 for EQM meters. named is 1
+ * with the ten digits of a serial at serial, or 0 for any meter; access is 1 with the eight digits of a password at password, or
+ * 0 for `()`; what is not named is not looked at. kind is 0 for reads, two bytes each at work: a letter 'T', 'L', 'K', 'E', 'G'
+ * or 'Z', and the number of the energy, 0 to 4 (0 the total), or of the table, 1 to 24, or to 25 for edition 2; with the other
+ * letters the number may be any. 'G', what went out, is for EQM meters alone, and else 9. kind is 1 for the text of a post at
+ * work.
  * Returns DIRGEMIST_SESSION_DONE: the sign-on stands at the front of out, *length is its length, and every byte past it is as it
- * was. Or a refusal, in the order 16, 19, 28, 29, 20, 30, 9: *session is then all zeros, which is no session, *length is 0, and every
- * byte of out is as it was. *place is 0 but for 20, where it is the length of the longest beginning that some post shares. A list
- * of reads with an odd number of bytes, a flag that is neither 0 nor 1, and a kind that is neither, are 9. */
-uint8_t dirgemist_session_start(struct dirgemist_session *session, uint8_t edition, uint8_t named, const uint8_t *serial, dirgemist_size serial_length, uint8_t access, const uint8_t *password, dirgemist_size password_length, uint8_t kind, const uint8_t *work, dirgemist_size work_length, uint8_t *out, dirgemist_size out_length, dirgemist_size *length, dirgemist_size *place);
+ * was. Or a refusal, in the order 16, 18, 19, 28, 29, 20, 30, 9: *session is then all zeros, which is no session, *length is 0,
+ * and every byte of out is as it was. *place is 0 but for 20, where it is the length of the longest beginning that some post
+ * shares. A list of reads with an odd number of bytes, a flag that is neither 0 nor 1, and a kind that is neither, are 9. */
+uint8_t dirgemist_session_start(struct dirgemist_session *session, uint8_t edition, uint8_t decimals, uint8_t named, const uint8_t *serial, dirgemist_size serial_length, uint8_t access, const uint8_t *password, dirgemist_size password_length, uint8_t kind, const uint8_t *work, dirgemist_size work_length, uint8_t *out, dirgemist_size out_length, dirgemist_size *length, dirgemist_size *place);
 
 /* A reply has come, all of it, as the bytes of the line. Returns
  *   DIRGEMIST_SESSION_DONE     *fact says how the session stands. DIRGEMIST_SESSION_GOES_ON: the next message stands at the front of

@@ -74,14 +74,16 @@ static void put_fields(const struct field *fields, size_t count, const void *rec
 
 #define STATE(kind, name, member) FIELD(kind, struct dirgemist_meter, name, member)
 
-/* Nine fields of a closed period; the newest has place 0. */
+/* The fields of a closed period; the newest has place 0. */
 #define CLOSED(name, place, member) STATE(NUMBER, name, registers.archive.periods[place].member)
 #define PERIOD(place)                                                                       \
     CLOSED("YEAR", place, closed.date.year), CLOSED("MONTH", place, closed.date.month),     \
         CLOSED("DAY", place, closed.date.day), CLOSED("HOUR", place, closed.hour),          \
         CLOSED("MINUTE", place, closed.minute), CLOSED("C1", place, zones[0]),              \
         CLOSED("C2", place, zones[1]), CLOSED("C3", place, zones[2]),                       \
-        CLOSED("C4", place, zones[3])
+        CLOSED("C4", place, zones[3]), CLOSED("X1", place, exported[0]),                    \
+        CLOSED("X2", place, exported[1]), CLOSED("X3", place, exported[2]),                 \
+        CLOSED("X4", place, exported[3])
 
 static const struct field state[] = {
     STATE(NUMBER, "MODE", mode),
@@ -107,6 +109,12 @@ static const struct field state[] = {
     STATE(NUMBER, "PLACE", receiver.place),
     STATE(NUMBER, "EDITION", registers.facts.edition),
     STATE(NUMBER, "TOTAL", registers.counters.total),
+    STATE(NUMBER, "DECIMALS", registers.facts.decimals),
+    STATE(NUMBER, "X1", registers.exported.zones[0]),
+    STATE(NUMBER, "X2", registers.exported.zones[1]),
+    STATE(NUMBER, "X3", registers.exported.zones[2]),
+    STATE(NUMBER, "X4", registers.exported.zones[3]),
+    STATE(NUMBER, "XTOTAL", registers.exported.total),
     STATE(NUMBER, "PERIODS", registers.archive.count),
     PERIOD(0),
     PERIOD(1),
@@ -324,13 +332,14 @@ static bool play_up(const struct word *words, size_t count) {
 }
 
 static bool play_pulse(const struct word *words, size_t count) {
-    uint64_t wh;
-    (void)count;
-    if (!number_of(words[0], UINT32_MAX, &wh)) {
+    uint64_t units;
+    bool out = count == 2;
+    if (!number_of(words[0], UINT32_MAX, &units) || (out && !is(words[1], "out"))) {
         return false;
     }
     unwrite();
-    return answered(dirgemist_meter_pulse(meter, (uint32_t)wh, speed));
+    return answered(out ? dirgemist_meter_pulse_out(meter, (uint32_t)units, speed)
+                        : dirgemist_meter_pulse(meter, (uint32_t)units, speed));
 }
 
 /* A card written from the state. */
@@ -363,7 +372,7 @@ static const struct {
     {"frame", 1, 2, play_frame},
     {"silence", 0, 1, play_silence},
     {"tick", 0, 0, play_tick},
-    {"pulse", 1, 1, play_pulse},
+    {"pulse", 1, 2, play_pulse},
     {"up", 0, 0, play_up},
     {"card", 1, 1, play_card},
     {"new", NEEDED, COUNT(facts), play_new},

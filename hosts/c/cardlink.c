@@ -73,11 +73,11 @@ static void try_text(const char *what, const void *text, size_t text_length, siz
     give_back(out, room);
 }
 
-/* A meter's card in each room around its length, and read back. */
-static void try_meter(void) {
+/* The card of a meter of a family in each room around its length: of every family the same. */
+static void try_meter(uint8_t decimals) {
     struct dirgemist_meter meter;
     dirgemist_meter_make(&meter, (const uint8_t *)"0123456789", 10, (const uint8_t *)"STUDIO_7  ", 10,
-                         (const uint8_t *)"00000000", 8, 2024, 2, 29, 12, 0, 0, edition, 1, 0);
+                         (const uint8_t *)"00000000", 8, 2024, 2, 29, 12, 0, 0, edition, 1, decimals);
     uint8_t card[DIRGEMIST_CARD_LONGEST_2];
     size_t whole = card_of(card, most);
     expect(whole == (edition == 2 ? DIRGEMIST_CARD_LONGEST_2 : DIRGEMIST_CARD_LONGEST), "the longest card");
@@ -96,9 +96,12 @@ static void try_meter(void) {
         }
         give_back(out, room);
     }
-    meter.mode = 5;
     size_t length = 99;
     uint8_t out[1] = {0x5A};
+    meter.registers.exported.zones[2] = meter.registers.exported.total = 1;
+    uint8_t counted = decimals == 0 ? DIRGEMIST_CARD_MALFORMED : DIRGEMIST_CARD_NO_ROOM;
+    expect(dirgemist_card_write(&meter, out, 1, &length) == counted, "what only an EQM meter counts");
+    meter.mode = 5;
     expect(dirgemist_card_write(&meter, out, 1, &length) == DIRGEMIST_CARD_MALFORMED, "malformed, before no room");
     expect(length == 0 && out[0] == 0x5A, "malformed: nothing written");
     meter.registers.facts.edition = 3;
@@ -147,7 +150,8 @@ static void try_edition(uint8_t number) {
     try_text("equal numbers", text, 69, 0, DIRGEMIST_CARD_NOT_A_CARD, 0, 44, frames);
     card_of(text, 1);
     try_text("a length for more than there is", text, 30, 0, DIRGEMIST_CARD_NOT_A_CARD, 0, 30, frames);
-    try_meter();
+    try_meter(0);
+    try_meter(3);
 }
 
 int main(void) {

@@ -1,11 +1,12 @@
 /* head-tty.c: a visit of the head to a meter, over a serial device or a pseudo-terminal.
  *
- *     head-tty [-b] [-e EDITION] [-w SECONDS] [-g SECONDS] DEVICE METER ACCESS reads READ..
- *     head-tty [-b] [-e EDITION] [-w SECONDS] [-g SECONDS] DEVICE METER ACCESS post FILE
+ *     head-tty [-b] [-e EDITION] [-d DECIMALS] [-w SECONDS] [-g SECONDS] DEVICE METER ACCESS reads READ..
+ *     head-tty [-b] [-e EDITION] [-d DECIMALS] [-w SECONDS] [-g SECONDS] DEVICE METER ACCESS post FILE
  *
  * METER is `any` or ten digits of a serial; ACCESS is `open` or eight digits of a password; a READ
- * is T, L, K, E0 to E4, Z1 to Z24, or `all` for these 32; a meter of edition 2 (-e 2) has Z25 too. Each line that is read goes to standard
- * output as its address, a space and its value; of a post, how many tables were written.
+ * is T, L, K, E0 to E4, Z1 to Z24, or `all` for these 32; a meter of edition 2 (-e 2) has Z25 too, and
+ * an EQM meter (-d and its decimals) G0 to G4. Each line that is read goes to standard output as its
+ * address, a space and its value; of a post, how many tables were written.
  *
  * With -b the bytes take their time on a pseudo-terminal too, as they do on a serial device.
  *
@@ -39,13 +40,13 @@ enum { DONE = 0, REFUSED = 1, STOPPED_BY_NAK = 3, STOPPED_BY_WRONG = 4, STOPPED_
 #define POST_MOST 1024 /* a post is shorter; a longer text is none */
 
 static double patience = 2, gap = 0.5;
-static uint8_t edition = 1;
+static uint8_t edition = 1, decimals = 0;
 
 static _Noreturn void usage(void) {
-    fprintf(stderr, "usage: head-tty [-b] [-e EDITION] [-w SECONDS] [-g SECONDS] DEVICE METER ACCESS WORK..\n"
+    fprintf(stderr, "usage: head-tty [-b] [-e EDITION] [-d DECIMALS] [-w SECONDS] [-g SECONDS] DEVICE METER ACCESS WORK..\n"
                     "  METER   any, or a serial's ten digits\n"
                     "  ACCESS  open, or a password's eight digits\n"
-                    "  WORK    reads T L K E0..E4 Z1..Z24, reads all, or post FILE\n");
+                    "  WORK    reads T L K E0..E4 G0..G4 Z1..Z25, reads all, or post FILE\n");
     exit(UNABLE);
 }
 
@@ -82,7 +83,7 @@ static void take_read(const char *word) {
     }
     char *end;
     unsigned long number = strtoul(word + 1, &end, 10);
-    if ((*word != 'E' && *word != 'Z') || word[1] < '0' || word[1] > '9' || *end != '\0' ||
+    if (*word == '\0' || strchr("EGZ", *word) == NULL || word[1] < '0' || word[1] > '9' || *end != '\0' ||
         number > 255) {
         fprintf(stderr, "%s: '%s' is no read\n", program, word);
         usage();
@@ -193,7 +194,7 @@ static const char *named(const struct dirgemist_session *session, uint8_t messag
     size_t at = (size_t)message - 4;
     if (session->work == 1) {
         snprintf(text, sizeof text, "table %.2s", (const char *)work + at * 36 + 6);
-    } else if (work[2 * at] == 'E' || work[2 * at] == 'Z') {
+    } else if (memchr("EGZ", work[2 * at], 3) != NULL) {
         snprintf(text, sizeof text, "read %c%u", work[2 * at], work[2 * at + 1]);
     } else {
         snprintf(text, sizeof text, "read %c", work[2 * at]);
@@ -203,6 +204,7 @@ static const char *named(const struct dirgemist_session *session, uint8_t messag
 
 static int refused(uint8_t number, size_t place) {
     const char *why = number == DIRGEMIST_SESSION_NO_EDITION ? "there are editions 1 and 2"
+                      : number == DIRGEMIST_SESSION_NO_DECIMALS ? "decimals are 0, 2, 3 or 4"
                       : number == DIRGEMIST_SESSION_FIELD    ? "a serial, a password or a read that is none"
                       : number == DIRGEMIST_SESSION_NO_POST  ? "the text is no post"
                       : number == DIRGEMIST_SESSION_NO_READS ? "nothing to read"
@@ -264,12 +266,15 @@ static int visit(int line, struct dirgemist_session *session, uint8_t *message, 
 
 int main(int count, char **words) {
     program = "head-tty";
-    for (int option; (option = getopt(count, words, "+be:w:g:")) != -1;) {
+    for (int option; (option = getopt(count, words, "+be:d:w:g:")) != -1;) {
         if (option == 'b') {
             paced = true;
-        } else if (option == 'e' && strlen(optarg) == 1 && *optarg >= '0' && *optarg <= '9') {
-            edition = (uint8_t)(*optarg - '0');
-        } else if (option == '?' || option == 'e' || !seconds_of(optarg, option == 'w' ? &patience : &gap)) {
+        } else if (option == 'e' || option == 'd') {
+            if (strlen(optarg) != 1 || *optarg < '0' || *optarg > '9') {
+                usage();
+            }
+            *(option == 'e' ? &edition : &decimals) = (uint8_t)(*optarg - '0');
+        } else if (option == '?' || !seconds_of(optarg, option == 'w' ? &patience : &gap)) {
             usage();
         }
     }
@@ -283,7 +288,7 @@ int main(int count, char **words) {
     uint8_t message[DIRGEMIST_SESSION_ROOM];
     size_t length, place;
     uint8_t number = dirgemist_session_start(
-        &session, edition, named, (const uint8_t *)told[1], strlen(told[1]), entered,
+        &session, edition, decimals, named, (const uint8_t *)told[1], strlen(told[1]), entered,
         (const uint8_t *)told[2], strlen(told[2]), kind, work, work_length, message, sizeof message,
         &length, &place);
     if (number != DIRGEMIST_SESSION_DONE) {

@@ -103,7 +103,7 @@ static bool play_call(const struct call *call, const struct word *words, size_t 
 static dirgemist_size *numbers[NUMBERS];
 static uint8_t *shorts[4];
 static uint16_t *year;
-static uint32_t *wh;
+static uint32_t *counted;
 static uint32_t *quantities[4];
 
 static void *own(size_t size) {
@@ -118,7 +118,7 @@ static void unwrite(void) {
         *shorts[at] = UNWRITTEN;
     }
     memset(year, UNWRITTEN, sizeof *year);
-    memset(wh, UNWRITTEN, sizeof *wh);
+    memset(counted, UNWRITTEN, sizeof *counted);
     for (size_t at = 0; at < COUNT(quantities); at++) {
         memset(quantities[at], UNWRITTEN, sizeof *quantities[at]);
     }
@@ -164,6 +164,8 @@ BUILD(number_asked, dirgemist_head_read_serial(out, room, length))
 BUILD(account_asked, dirgemist_head_read_account(out, room, length))
 BUILD(energy_asked, N(1) == 0 ? dirgemist_head_read_total(out, room, length)
                               : dirgemist_head_read_zone(N(1), out, room, length))
+BUILD(out_asked, N(1) == 0 ? dirgemist_head_read_total_out(out, room, length)
+                           : dirgemist_head_read_zone_out(N(1), out, room, length))
 BUILD(table_asked, dirgemist_head_read_table(N(1), N(2), out, room, length))
 BUILD(set_clock, dirgemist_head_write_clock((uint16_t)g[1].number, N(2), N(3), N(4), N(5), N(6),
                                             out, room, length))
@@ -172,7 +174,7 @@ BUILD(set_table, dirgemist_head_write_table(N(1), N(2), T(3), out, room, length)
 BUILD(sign_off, dirgemist_head_sign_off(out, room, length))
 BUILD(mercury_ask, dirgemist_mercury_ask(N(1), N(2), N(3), N(4), out, room, length))
 
-/* ---- Values read back: after `value NAME` comes the value. */
+/* ---- Values read back: after `value NAME` comes the value, of an EQM meter behind its decimals. */
 
 /* One that is characters, as many as the call writes. */
 static void characters(uint8_t (*call)(const uint8_t *, dirgemist_size, uint8_t *, dirgemist_size),
@@ -198,8 +200,15 @@ static void value_row(const struct given *g) {
 
 static void value_counter(const struct given *g) {
     unwrite();
-    uint8_t answer = dirgemist_head_value_counter(T(0), wh);
-    TELL(answer, *wh);
+    uint8_t answer = dirgemist_head_value_counter(T(0), counted);
+    TELL(answer, *counted);
+    put('\n');
+}
+
+static void value_eqm(const struct given *g) {
+    unwrite();
+    uint8_t answer = dirgemist_head_value_eqm(N(0), T(1), counted);
+    TELL(answer, *counted);
     put('\n');
 }
 
@@ -319,7 +328,7 @@ static bool take_or(const char *nothing, struct word word, struct given *given) 
 static bool take_read(struct word word, uint8_t *read) {
     uint64_t number = 0;
     bool plain = is(word, "T") || is(word, "L") || is(word, "K");
-    bool numbered = word.length > 1 && (*word.start == 'E' || *word.start == 'Z') &&
+    bool numbered = word.length > 1 && memchr("EGZ", *word.start, 3) != NULL &&
                     number_of((struct word){word.start + 1, word.length - 1}, UINT8_MAX, &number);
     read[0] = word.length > 0 ? (uint8_t)*word.start : 0;
     read[1] = (uint8_t)number;
@@ -351,20 +360,20 @@ static void keep(const struct given *work) {
 
 static bool start_session(const struct word *words, size_t count) {
     struct given serial, password, work;
-    uint64_t edition;
+    uint64_t edition, decimals;
     texts_taken = 0;
     text_at_the_start = !text_at_the_start;
-    if (count < 4 || !number_of(words[0], UINT8_MAX, &edition) ||
-        !take_or("any", words[1], &serial) || !take_or("open", words[2], &password) ||
-        !take_work(words + 3, count - 3, &work)) {
+    if (count < 5 || !number_of(words[0], UINT8_MAX, &edition) ||
+        !number_of(words[1], UINT8_MAX, &decimals) || !take_or("any", words[2], &serial) ||
+        !take_or("open", words[3], &password) || !take_work(words + 4, count - 4, &work)) {
         return false;
     }
     uint8_t *out = room_lent(DIRGEMIST_SESSION_ROOM);
     dirgemist_size *length = numbers[0], *place = numbers[1];
     uint8_t answer = dirgemist_session_start(
-        session, (uint8_t)edition, (uint8_t)serial.number, serial.text, serial.length, (uint8_t)password.number,
-        password.text, password.length, (uint8_t)work.number, work.text, work.length, out,
-        buffer.room, length, place);
+        session, (uint8_t)edition, (uint8_t)decimals, (uint8_t)serial.number, serial.text,
+        serial.length, (uint8_t)password.number, password.text, password.length,
+        (uint8_t)work.number, work.text, work.length, out, buffer.room, length, place);
     put_written(answer, *place, *length);
     in_session = answer == DIRGEMIST_SESSION_DONE;
     if (in_session) {
@@ -415,6 +424,7 @@ static const struct call calls[] = {
     {"build", "number", 1, {ROOM}, number_asked},
     {"build", "account", 1, {ROOM}, account_asked},
     {"build", "energy", 2, {ROOM, SHORT}, energy_asked},
+    {"build", "out", 2, {ROOM, SHORT}, out_asked},
     {"build", "table", 3, {ROOM, SHORT, SHORT}, table_asked},
     {"build", "setclock", 7, {ROOM, YEAR, SHORT, SHORT, SHORT, SHORT, SHORT}, set_clock},
     {"build", "setaccount", 2, {ROOM, TEXT}, set_account},
@@ -424,6 +434,7 @@ static const struct call calls[] = {
     {"value", "account", 1, {TEXT}, value_account},
     {"value", "row", 1, {TEXT}, value_row},
     {"value", "counter", 1, {TEXT}, value_counter},
+    {"value", "eqm", 2, {SHORT, TEXT}, value_eqm},
     {"value", "date", 1, {TEXT}, value_date},
     {"value", "time", 1, {TEXT}, value_time},
     {"value", "period", 1, {TEXT}, value_period},
@@ -475,7 +486,7 @@ int main(void) {
         shorts[at] = own(sizeof *shorts[at]);
     }
     year = own(sizeof *year);
-    wh = own(sizeof *wh);
+    counted = own(sizeof *counted);
     for (size_t at = 0; at < COUNT(quantities); at++) {
         quantities[at] = own(sizeof *quantities[at]);
     }

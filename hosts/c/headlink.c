@@ -13,6 +13,7 @@ _Static_assert(DIRGEMIST_HEAD_FIELD == 9 && DIRGEMIST_HEAD_NO_ROOM == 19 && DIRG
 _Static_assert(DIRGEMIST_HEAD_SHORT_COPY == 26 && DIRGEMIST_HEAD_DAMAGED == 24, "strip");
 _Static_assert(DIRGEMIST_HEAD_NO_BLOCK == 22 && DIRGEMIST_HEAD_WRONG_BCC == 23 && DIRGEMIST_HEAD_MALFORMED == 25, "parts, sets and values");
 _Static_assert(DIRGEMIST_HEAD_MISSING == 27, "lookups");
+_Static_assert(DIRGEMIST_HEAD_NO_DECIMALS == 18, "EQM values");
 _Static_assert(DIRGEMIST_HEAD_SERIAL == 10 && DIRGEMIST_HEAD_PASSWORD == 8 && DIRGEMIST_HEAD_ACCOUNT == 10 && DIRGEMIST_HEAD_ROW == 24, "fields");
 
 #define KEPT 0x5A
@@ -163,6 +164,8 @@ static void try_fixed_commands(void) {
     SAYS("\001R1\002L()\003", dirgemist_head_read_serial(out, room, length));
     SAYS("\001R1\002K()\003", dirgemist_head_read_account(out, room, length));
     SAYS("\001R1\002E0()\003", dirgemist_head_read_total(out, room, length));
+    SAYS("\001R1\002G0()\003", dirgemist_head_read_total_out(out, room, length));
+    FIXED(dirgemist_head_read_total_out(out, room, length), 0x81, 0xD2, 0xB1, 0x82, 0x47, 0x30, 0x28, 0xA9, 0x03, 0x14);
     SAYS("\001B0\003", dirgemist_head_sign_off(out, room, length));
     FIXED(dirgemist_head_sign_off(out, room, length), 0x81, 0x42, 0x30, 0x03, 0x71);
     FIXED(dirgemist_head_enter(out, room, length), 0x81, 0x50, 0xB1, 0x82, 0x28, 0xA9, 0x03, 0xE1);
@@ -180,6 +183,8 @@ static void try_numbered_commands(void) {
         BUILDS(good ? text : NULL, (size_t)size, dirgemist_head_confirm((uint8_t)c, '1', out, room, length));
         size = sprintf(text, "\001R1\002E%d()\003", c);
         BUILDS(c >= 1 && c <= 4 ? text : NULL, (size_t)size, dirgemist_head_read_zone((uint8_t)c, out, room, length));
+        size = sprintf(text, "\001R1\002G%d()\003", c);
+        BUILDS(c >= 1 && c <= 4 ? text : NULL, (size_t)size, dirgemist_head_read_zone_out((uint8_t)c, out, room, length));
         size = sprintf(text, "\001R1\002Z(%02d)\003", c);
         for (uint8_t edition = 1; edition <= 2; edition++) {
             BUILDS(c >= 1 && c <= 23 + edition ? text : NULL, (size_t)size, dirgemist_head_read_table(edition, (uint8_t)c, out, room, length));
@@ -626,6 +631,54 @@ static void try_counter(const char *text, size_t size, int good, uint32_t value)
     expect(*wh == (good ? value : 0), "a counter");
 }
 
+/* With these decimals as with any others: 18 first, and then the form of just these. */
+static void try_eqm(const char *text, size_t size, int decimals, int good, uint32_t value) {
+    set_field(text, size);
+    for (int other = 0; other < 256; other++) {
+        int none = other < 2 || other > 4;
+        if (none && other > 6 && other < 250 && other % 16 != 0) {
+            continue;
+        }
+        uint8_t number = none ? 18 : good && other == decimals ? 1 : 25;
+        *wh = 99;
+        calls++;
+        expect(dirgemist_head_value_eqm((uint8_t)other, field, field_length, wh) == number, "an EQM counter's number");
+        expect(*wh == (number == 1 ? value : 0), "an EQM counter");
+    }
+}
+
+/* Counters of each decimals, every byte at every place of them, and every other length. */
+static void try_eqm_values(void) {
+    static const uint32_t counters[] = {0, 1, 99, 100, 999, 1000, 1500, 9999, 10000, 12345678, 99999000, 99999999};
+    char text[32], digits[16];
+    for (int decimals = 2; decimals <= 4; decimals++) {
+        size_t point = (size_t)(8 - decimals);
+        for (size_t i = 0; i < COUNT(counters); i++) {
+            sprintf(digits, "%08u", (unsigned)counters[i]);
+            int size = sprintf(text, "%.*s.%s*kWh", (int)point, digits, digits + point);
+            try_eqm(text, (size_t)size, decimals, 1, counters[i]);
+        }
+        for (size_t at = 0; at < 13; at++) {
+            for (int c = 0; c < 256; c++) {
+                sprintf(text, "%.*s.%s*kWh", (int)point, "11111111", "11111111" + point);
+                int good = at < 9 && at != point ? is_digit(c) : c == text[at];
+                text[at] = (char)c;
+                uint32_t value = 0;
+                for (size_t i = 0; i < 9; i++) {
+                    value = i == point ? value : value * 10 + (uint32_t)(text[i] - '0');
+                }
+                try_eqm(text, 13, decimals, good, value);
+            }
+        }
+        sprintf(text, "%.*s.%s*kWh0000", (int)point, "00001500", "00001500" + point);
+        for (size_t size = 0; size <= 16; size++) {
+            try_eqm(text, size, decimals, size == 13, 1500);
+        }
+    }
+    /* the form of document 01's family is none of these */
+    try_eqm(TEXT("000001.500*kWh"), 0, 0, 0);
+}
+
 static void try_numbers(void) {
     char text[64];
     static const int years[] = {0, 1, 4, 23, 24, 96, 99};
@@ -722,6 +775,7 @@ int main(void) {
     try_finds();
     try_characters();
     try_numbers();
+    try_eqm_values();
 
     printf("headlink in C: %lu calls, as document 01 has them\n", calls);
     return 0;

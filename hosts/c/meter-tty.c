@@ -1,19 +1,20 @@
 /* meter-tty.c: a meter on a line, a serial device or a pseudo-terminal.
  *
- *     meter-tty [-pb] [-e EDITION] [-s SECONDS] [-w WH] [-n SERIAL,ACCOUNT,PASSWORD] DEVICE STATE
+ *     meter-tty [-pb] [-e EDITION] [-d DECIMALS] [-s SECONDS] [-w UNITS] [-o UNITS]
+ *               [-n SERIAL,ACCOUNT,PASSWORD] DEVICE STATE
  *
  * Each character that comes, each second, and each silence (8 seconds without a character, or those
  * of -s, counted from the last one that came or went) is told to the proved meter, and what it
  * replies goes out at the reply's speed. With -p the DEVICE is a name, and a pseudo-terminal is made
- * under it; with -b its bytes take their time, as on a serial device. With -w each second uses so
- * many Wh.
+ * under it; with -b its bytes take their time, as on a serial device. With -w so many units of the
+ * last place, Wh but for an EQM meter, come in each second; with -o so many go out of an EQM meter.
  *
  * The record is kept in the file STATE. It is written anew, beside the old one and then in its
  * place, before a change of it is acknowledged; a power cut at any time loses the session and
  * nothing else. At the start the file is read, the record checked, and met with power-up; the clock
  * goes on from where it stood. A file that is no meter's is refused. With -n a meter is made where
- * there is no file, of the edition of -e, else 1; where there is one, it must be of that serial and
- * password. */
+ * there is no file, of the edition of -e, else 1, and with -d an EQM meter of so many decimals;
+ * where there is one, it must be of that serial and password. */
 #include "tty.h"
 
 #include "dirgemist_meter.h"
@@ -134,7 +135,7 @@ static bool fetch(void) {
 
 /* ---- A new meter. */
 
-static uint8_t edition = 1;
+static uint8_t edition = 1, decimals = 0;
 
 struct facts {
     const char *serial, *account, *password;
@@ -160,11 +161,12 @@ static void make(const struct facts *facts) {
         (const uint8_t *)facts->account, strlen(facts->account), (const uint8_t *)facts->password,
         strlen(facts->password), (uint16_t)(date.tm_year + 1900), (uint8_t)(date.tm_mon + 1),
         (uint8_t)date.tm_mday, (uint8_t)date.tm_hour, (uint8_t)date.tm_min,
-        (uint8_t)(date.tm_sec > 59 ? 59 : date.tm_sec), edition, 1, 0);
+        (uint8_t)(date.tm_sec > 59 ? 59 : date.tm_sec), edition, 1, decimals);
     if (number != 1) {
         fprintf(stderr,
                 "%s: no meter is made (%u): the serial has ten digits, the account ten letters, "
-                "digits, spaces or underscores, the password eight digits\n",
+                "digits, spaces or underscores, the password eight digits; editions are 1 and 2, "
+                "decimals 2, 3 and 4\n",
                 program, number);
         exit(UNABLE);
     }
@@ -214,7 +216,7 @@ static void meet(uint8_t kind, uint32_t value) {
     set_speed(line, meter->speed);
 }
 
-static void serve(double silence, uint32_t wh) {
+static void serve(double silence, uint32_t in, uint32_t out) {
     double tick = now() + 1, silent = now() + silence;
     while (!ended) {
         uint8_t bytes[256];
@@ -231,8 +233,11 @@ static void serve(double silence, uint32_t wh) {
         }
         for (; now() >= tick; tick += 1) {
             meet(DIRGEMIST_TICK, 0);
-            if (wh > 0) {
-                meet(DIRGEMIST_PULSE, wh);
+            if (in > 0) {
+                meet(DIRGEMIST_PULSE, in);
+            }
+            if (out > 0) {
+                meet(DIRGEMIST_PULSE_OUT, out);
             }
         }
         if (now() >= silent) {
@@ -243,39 +248,46 @@ static void serve(double silence, uint32_t wh) {
 }
 
 static _Noreturn void usage(void) {
-    fprintf(stderr, "usage: meter-tty [-pb] [-e EDITION] [-s SECONDS] [-w WH] "
-                    "[-n SERIAL,ACCOUNT,PASSWORD] DEVICE STATE\n");
+    fprintf(stderr, "usage: meter-tty [-pb] [-e EDITION] [-d DECIMALS] [-s SECONDS] [-w UNITS] "
+                    "[-o UNITS] [-n SERIAL,ACCOUNT,PASSWORD] DEVICE STATE\n");
     exit(UNABLE);
+}
+
+static uint8_t digit_of(const char *word) {
+    if (strlen(word) != 1 || *word < '0' || *word > '9') {
+        usage();
+    }
+    return (uint8_t)(*word - '0');
+}
+
+static uint32_t units_of(const char *word) {
+    char *stop;
+    unsigned long units = strtoul(word, &stop, 10);
+    if (stop == word || *stop != '\0' || units > 1000000) {
+        usage();
+    }
+    return (uint32_t)units;
 }
 
 int main(int count, char **words) {
     double silence = SILENCE;
-    unsigned long wh = 0;
+    uint32_t in = 0, out = 0;
     bool made_here = false, told = false;
     struct facts facts = {0};
-    char *stop;
     program = "meter-tty";
-    for (int option; (option = getopt(count, words, "pbe:s:w:n:")) != -1;) {
+    for (int option; (option = getopt(count, words, "pbe:d:s:w:o:n:")) != -1;) {
         switch (option) {
         case 'p': made_here = true; break;
         case 'b': paced = true; break;
-        case 'e':
-            if (strlen(optarg) != 1 || *optarg < '0' || *optarg > '9') {
-                usage();
-            }
-            edition = (uint8_t)(*optarg - '0');
-            break;
+        case 'e': edition = digit_of(optarg); break;
+        case 'd': decimals = digit_of(optarg); break;
         case 's':
             if (!seconds_of(optarg, &silence)) {
                 usage();
             }
             break;
-        case 'w':
-            wh = strtoul(optarg, &stop, 10);
-            if (stop == optarg || *stop != '\0' || wh > 1000000) {
-                usage();
-            }
-            break;
+        case 'w': in = units_of(optarg); break;
+        case 'o': out = units_of(optarg); break;
         case 'n':
             told = facts_of(optarg, &facts);
             if (!told) {
@@ -305,7 +317,7 @@ int main(int count, char **words) {
     printf("meter-tty: meter %.10s listens on %s\n", (const char *)meter->registers.facts.serial,
            device);
     fflush(stdout);
-    serve(silence, (uint32_t)wh);
+    serve(silence, in, out);
     keep();
     if (made_here) {
         unlink(device);

@@ -1,5 +1,5 @@
-/* sessionlink.c: a head that holds sessions in C. Every start is held to requests [7] and [3]: each refusal in its order, each read, each post, for
- * both editions and for none.
+/* sessionlink.c: a head that holds sessions in C. Every start is held to requests [7], [3] and [10]: each refusal in its order, each
+ * read, each post, for both editions and for none, for every family and for none.
  * Whole sessions of reads and of posts are played against right replies, and at each message every other reply, silence, a small
  * buffer and other work are tried on a copy; then records with any byte hurt. What each call answers, every byte of its buffer and of
  * the record, and every number handed out are compared. What is lent is memory of its exact size, and what is only read may only be
@@ -16,12 +16,13 @@
 #include <stdio.h>
 
 /* The layout that the library uses, and the header's names for the numbers. */
-_Static_assert(sizeof(struct dirgemist_session) == 25 && _Alignof(struct dirgemist_session) == 1, "the record");
+_Static_assert(sizeof(struct dirgemist_session) == 26 && _Alignof(struct dirgemist_session) == 1, "the record");
 _Static_assert(offsetof(struct dirgemist_session, password) == 10 && offsetof(struct dirgemist_session, named) == 18, "the record");
 _Static_assert(offsetof(struct dirgemist_session, access) == 19 && offsetof(struct dirgemist_session, work) == 20, "the record");
 _Static_assert(offsetof(struct dirgemist_session, count) == 21 && offsetof(struct dirgemist_session, sent) == 22, "the record");
 _Static_assert(offsetof(struct dirgemist_session, fact) == 23 && offsetof(struct dirgemist_session, edition) == 24, "the record");
-_Static_assert(DIRGEMIST_SESSION_NO_EDITION == 16, "numbers");
+_Static_assert(offsetof(struct dirgemist_session, decimals) == 25, "the record");
+_Static_assert(DIRGEMIST_SESSION_NO_EDITION == 16 && DIRGEMIST_SESSION_NO_DECIMALS == 18, "numbers");
 _Static_assert(DIRGEMIST_SESSION_DONE == 1 && DIRGEMIST_SESSION_FIELD == 9 && DIRGEMIST_SESSION_NO_ROOM == 19, "numbers");
 _Static_assert(DIRGEMIST_SESSION_NO_POST == 20 && DIRGEMIST_SESSION_NO_READS == 28 && DIRGEMIST_SESSION_MANY_READS == 29, "numbers");
 _Static_assert(DIRGEMIST_SESSION_READ_ONLY == 30 && DIRGEMIST_SESSION_NONE == 31 && DIRGEMIST_SESSION_ROOM == 64, "numbers");
@@ -31,7 +32,7 @@ _Static_assert(DIRGEMIST_SESSION_WRONG == 3 && DIRGEMIST_SESSION_SILENT == 4, "f
 #define KEPT 0x5A
 #define COUNT(array) (sizeof(array) / sizeof *(array))
 
-static uint8_t edition; /* that each start is told */
+static uint8_t edition, decimals; /* that each start is told */
 static unsigned long calls = 0;
 static unsigned long numbers_seen[32], facts_seen[5];
 
@@ -171,8 +172,23 @@ static size_t post_place(struct text text, unsigned *lines) {
     }
 }
 
-static bool good_read(uint8_t of, uint8_t letter, uint8_t n) {
-    return letter == 'T' || letter == 'L' || letter == 'K' || (letter == 'E' && n <= 4) || (letter == 'Z' && n >= 1 && n <= tables_of(of));
+/* Whether meters of an edition and of a family can be asked for something. */
+static bool good_read(uint8_t of, uint8_t family, uint8_t letter, uint8_t n) {
+    return letter == 'T' || letter == 'L' || letter == 'K' || (letter == 'E' && n <= 4) || (letter == 'G' && n <= 4 && family != 0)
+           || (letter == 'Z' && n >= 1 && n <= tables_of(of));
+}
+
+static bool is_family(uint8_t number) {
+    return number == 0 || (number >= 2 && number <= 4);
+}
+
+/* The line of a counter in its family's form, with `d` for a digit. */
+static void energy_form(char *form, size_t size, uint8_t family, uint8_t letter, unsigned n) {
+    if (family == 0) {
+        snprintf(form, size, "15.8.%u(dddddd.ddd*kWh)\r\n", n);
+    } else {
+        snprintf(form, size, "%c.8.%u(%.*s.%.*s*kWh)\r\n", letter == 'E' ? '1' : '2', n, 8 - family, "dddddd", family, "dddd");
+    }
 }
 
 static uint8_t byte_at(struct text text, size_t at) {
@@ -193,11 +209,12 @@ static size_t work_message(const struct dirgemist_session *s, struct text work, 
         return to_wire(text, (size_t)length, wire);
     }
     uint8_t letter = byte_at(work, i * 2), n = byte_at(work, i * 2 + 1);
-    if (!good_read(s->edition, letter, n)) {
+    if (!good_read(s->edition, s->decimals, letter, n)) {
         return 0;
     }
     length = letter == 'Z'   ? snprintf(text, sizeof text, "\001R1\002Z(%02u)\003", n)
              : letter == 'E' ? snprintf(text, sizeof text, "\001R1\002E%u()\003", n)
+             : letter == 'G' ? snprintf(text, sizeof text, "\001R1\002G%u()\003", n)
                              : snprintf(text, sizeof text, "\001R1\002%c()\003", letter);
     return to_wire(text, (size_t)length, wire);
 }
@@ -216,9 +233,9 @@ static size_t message_of(const struct dirgemist_session *s, struct text work, un
 }
 
 /* Whether a reply is a block with just what a read asked for. */
-static bool answers(uint8_t of, uint8_t letter, uint8_t n, struct text reply) {
+static bool answers(uint8_t of, uint8_t family, uint8_t letter, uint8_t n, struct text reply) {
     uint8_t plain[64], bcc = 0;
-    if (!good_read(of, letter, n) || reply.length < 3 || reply.length > sizeof plain) {
+    if (!good_read(of, family, letter, n) || reply.length < 3 || reply.length > sizeof plain) {
         return false;
     }
     for (size_t at = 0; at < reply.length; at++) {
@@ -238,7 +255,11 @@ static bool answers(uint8_t of, uint8_t letter, uint8_t n, struct text reply) {
         return fits("0.9.1(dd:dd:dd)\r\n0.9.2(dd-dd-dd)\r\n", data, length) && two(data + 6) < 24 && two(data + 9) < 60
                && two(data + 12) < 60 && is_date(two(data + 23), two(data + 26), two(data + 29));
     }
-    snprintf(form, sizeof form, letter == 'E' ? "15.8.%u(dddddd.ddd*kWh)\r\n" : "131.0.%02u(" ROW_FORM ")\r\n", n);
+    if (letter == 'E' || letter == 'G') {
+        energy_form(form, sizeof form, family, letter, n);
+    } else {
+        snprintf(form, sizeof form, "131.0.%02u(" ROW_FORM ")\r\n", n);
+    }
     return fits(letter == 'L'   ? "C.1.0(ddd ddddddd)\r\n"
                 : letter == 'K' ? "0.0.0(aaaaaaaaaa)\r\n"
                                 : form,
@@ -258,10 +279,19 @@ static size_t right_reply(const struct dirgemist_session *s, struct text work, u
         return to_wire("\006", 1, wire);
     }
     uint8_t letter = byte_at(work, (n - 4) * 2), number = byte_at(work, (n - 4) * 2 + 1);
+    if (letter == 'E' || letter == 'G') {
+        text[0] = 2;
+        energy_form(text + 1, sizeof text - 1, s->decimals, letter, number);
+        char *digit = text;
+        for (int at = 1; (digit = strchr(digit, 'd')) != NULL; at++) {
+            *digit = (char)('0' + at);
+        }
+        strcat(text, "\003");
+        return to_wire(text, strlen(text), wire);
+    }
     int length = letter == 'T'   ? snprintf(text, sizeof text, "\0020.9.1(23:59:58)\r\n0.9.2(28-02-29)\r\n\003")
                  : letter == 'L' ? snprintf(text, sizeof text, "\002C.1.0(123 4567890)\r\n\003")
                  : letter == 'K' ? snprintf(text, sizeof text, "\0020.0.0(Kiln_7 old)\r\n\003")
-                 : letter == 'E' ? snprintf(text, sizeof text, "\00215.8.%u(000123.456*kWh)\r\n\003", number)
                                  : snprintf(text, sizeof text, "\002131.0.%02u(123412341234123412341234)\r\n\003", number);
     return to_wire(text, (size_t)length, wire);
 }
@@ -273,7 +303,7 @@ static bool same_text(struct text a, const uint8_t *b, size_t length) {
 static bool is_right(const struct dirgemist_session *s, struct text work, struct text reply) {
     uint8_t wire[64];
     if (s->sent > 3 && s->sent <= s->count + 3u && s->work == 0) {
-        return answers(s->edition, byte_at(work, (s->sent - 4u) * 2), byte_at(work, (s->sent - 4u) * 2 + 1), reply);
+        return answers(s->edition, s->decimals, byte_at(work, (s->sent - 4u) * 2), byte_at(work, (s->sent - 4u) * 2 + 1), reply);
     }
     size_t length = right_reply(s, work, s->sent, wire);
     return same_text(reply, wire, length);
@@ -285,7 +315,7 @@ static bool good_record(const struct dirgemist_session *s) {
     bool entered = s->access == 0 ? all_zero(s->password, 8) : s->access == 1 && all_digits(s->password, 8);
     bool worked = s->work == 0 || (s->work == 1 && s->access == 1 && s->count <= tables_of(s->edition));
     bool placed_well = s->count >= 1 && s->count <= 32 && s->sent >= 1 && s->sent <= s->count + 4;
-    return (s->edition == 1 || s->edition == 2) && named && entered && worked && placed_well && s->fact <= 4 && (s->fact != 1 || s->sent == s->count + 4);
+    return (s->edition == 1 || s->edition == 2) && is_family(s->decimals) && named && entered && worked && placed_well && s->fact <= 4 && (s->fact != 1 || s->sent == s->count + 4);
 }
 
 static struct outcome start_of(const struct told *t, size_t room) {
@@ -298,10 +328,11 @@ static struct outcome start_of(const struct told *t, size_t room) {
     if (t->kind == 0 && length <= 64) {
         good = good && length % 2 == 0;
         for (size_t at = 0; at + 1 < length; at += 2) {
-            good = good && good_read(edition, t->work.at[at], t->work.at[at + 1]);
+            good = good && good_read(edition, decimals, t->work.at[at], t->work.at[at + 1]);
         }
     }
     o.number = edition != 1 && edition != 2             ? DIRGEMIST_SESSION_NO_EDITION
+               : !is_family(decimals)                   ? DIRGEMIST_SESSION_NO_DECIMALS
                : room < 64                              ? DIRGEMIST_SESSION_NO_ROOM
                : t->kind == 0 && length == 0            ? DIRGEMIST_SESSION_NO_READS
                : t->kind == 0 && length > 64            ? DIRGEMIST_SESSION_MANY_READS
@@ -311,7 +342,7 @@ static struct outcome start_of(const struct told *t, size_t room) {
                                                         : DIRGEMIST_SESSION_DONE;
     o.place = o.number == DIRGEMIST_SESSION_NO_POST ? place : 0;
     if (o.number == DIRGEMIST_SESSION_DONE) {
-        o.record = (struct dirgemist_session){.named = t->named, .access = t->access, .work = t->kind, .sent = 1, .edition = edition};
+        o.record = (struct dirgemist_session){.named = t->named, .access = t->access, .work = t->kind, .sent = 1, .edition = edition, .decimals = decimals};
         o.record.count = (uint8_t)(t->kind == 1 ? lines : length / 2);
         if (t->named) {
             memcpy(o.record.serial, t->serial.at, 10);
@@ -395,7 +426,7 @@ static void try_start(const struct told *t, size_t r) {
     struct text serial = lend(t->serial), password = lend(t->password), work = lend(t->work);
     memset(record, KEPT, sizeof *record);
     unwrite(r);
-    uint8_t number = dirgemist_session_start(record, edition, t->named, serial.at, serial.length, t->access, password.at, password.length,
+    uint8_t number = dirgemist_session_start(record, edition, decimals, t->named, serial.at, serial.length, t->access, password.at, password.length,
                                              t->kind, work.at, work.length, outs[r], rooms[r], length, place);
     compare(&o, number, r, "a start");
     expect(*length == o.length && *place == o.place, "a start's numbers");
@@ -475,7 +506,7 @@ static void every_start(void) {
     }
     /* each letter and each number */
     for (unsigned letter = 0; letter < 256; letter++) {
-        for (unsigned n = 0; n < 256; n += good_read(edition, (uint8_t)letter, 1) ? 1 : 51) {
+        for (unsigned n = 0; n < 256; n += good_read(edition, 2, (uint8_t)letter, 1) ? 1 : 51) {
             uint8_t read[2] = {(uint8_t)letter, (uint8_t)n};
             struct told t = {0, 0, 0, nobody, nobody, {read, 2}};
             try_start(&t, FULL);
@@ -581,6 +612,12 @@ static void not_quite(void) {
         {"L", "C.1.0(1234567890)\r\n"}, {"L", "C.1.0(123.4567890)\r\n"}, {"L", "C.1.0(000 0000000)\r\n"}, {"L", "C.1.1(123 4567890)\r\n"},
         {"K", "0.0.0(Kiln-7 old)\r\n"}, {"K", "0.0.0(Kiln_7 ol)\r\n"}, {"K", "0.0.0(__________)\r\n"}, {"K", "0.0.0(Kiln_7 old)\n\r"},
         {"E", "15.8.0(999999.999*kWh)\r\n"}, {"E", "15.8.1(000123.456*kWh)\r\n"}, {"E", "15.8.0(000123,456*kWh)\r\n"},
+        {"E", "1.8.0(000123.45*kWh)\r\n"}, {"E", "1.8.0(00012.345*kWh)\r\n"}, {"E", "1.8.0(0001.2345*kWh)\r\n"},
+        {"E", "2.8.0(000123.45*kWh)\r\n"}, {"E", "1.8.1(00012.345*kWh)\r\n"}, {"E", "1.8.0(000.12345*kWh)\r\n"},
+        {"G", "2.8.0(000123.45*kWh)\r\n"}, {"G", "2.8.0(00012.345*kWh)\r\n"}, {"G", "2.8.0(0001.2345*kWh)\r\n"},
+        {"G\4", "2.8.4(999999.99*kWh)\r\n"}, {"G\4", "2.8.4(99999.999*kWh)\r\n"}, {"G\4", "2.8.4(9999.9999*kWh)\r\n"},
+        {"G", "1.8.0(00012.345*kWh)\r\n"}, {"G", "15.8.0(000123.456*kWh)\r\n"}, {"G", "2.8.0(00012,345*kWh)\r\n"},
+        {"G\5", "2.8.5(00012.345*kWh)\r\n"}, {"G", "2.8.0(0012345678*kWh)\r\n"}, {"G", "2.8.0(00012.345)\r\n"},
         {"E", "15.8.0(00012.3456*kWh)\r\n"}, {"E", "15.8.0(000123.456*kWH)\r\n"}, {"E", "15.8.0(000123.456)\r\n"},
         {"Z\1", "131.0.01(111111111111111111111111)\r\n"}, {"Z\1", "131.0.02(111111111111111111111111)\r\n"},
         {"Z\1", "131.0.1(111111111111111111111111)\r\n"}, {"Z\1", "131.0.01(11111111111111111111111)\r\n"},
@@ -590,7 +627,7 @@ static void not_quite(void) {
     for (size_t at = 0; at < COUNT(tries); at++) {
         uint8_t read[2] = {(uint8_t)tries[at].read[0], (uint8_t)tries[at].read[1]}, wire[80];
         char text[80];
-        struct dirgemist_session now = {.count = 1, .sent = 4, .edition = edition};
+        struct dirgemist_session now = {.count = 1, .sent = 4, .edition = edition, .decimals = decimals};
         int size = snprintf(text, sizeof text, "\002%s\003", tries[at].data);
         struct text reply = {wire, to_wire(text, (size_t)size, wire)};
         try_reply(&now, (struct text){read, 2}, reply, FULL);
@@ -611,15 +648,22 @@ static void every_damage(const struct dirgemist_session *base, struct text work)
     }
 }
 
-/* Everything above, for one edition. */
-static void try_edition(uint8_t number) {
-    edition = number;
+/* Everything above, for one edition and one family. A post is the same to every family: what it is damaged to be is tried with one. */
+static void try_meters(uint8_t of, uint8_t family) {
+    edition = of;
+    decimals = family;
     every_start();
-    every_post();
+    if (family == 0) {
+        every_post();
+    }
 
     static const struct text reads = TEXT("T\0L\0K\0E\0E\1E\2E\3E\4Z\1Z\12Z\30");
     struct told told = {1, 1, 0, serial_told, password_told, reads};
     play(&told, true);
+    if (family != 0) {
+        told.work = (struct text)TEXT("E\0E\4G\0G\1G\2G\3G\4");
+        play(&told, true);
+    }
     told = (struct told){0, 0, 0, nobody, nobody, TEXT("K\377")};
     play(&told, true);
     static uint8_t many[64];
@@ -631,7 +675,7 @@ static void try_edition(uint8_t number) {
         play(&told, false);
     }
     told = (struct told){1, 1, 1, serial_told, password_told, post_of(9, 3)};
-    play(&told, true);
+    play(&told, family == 0);
     for (unsigned lines = 1; lines <= tables_of(edition); lines++) {
         told = (struct told){0, 1, 1, nobody, password_told, post_of(tables_of(edition) + 1 - lines, lines)};
         play(&told, false);
@@ -639,14 +683,16 @@ static void try_edition(uint8_t number) {
     not_quite();
 
     for (uint8_t sent = 1; sent <= 6; sent++) {
-        struct dirgemist_session base = {.named = 1, .access = 1, .count = 2, .sent = sent, .edition = edition};
+        struct dirgemist_session base = {.named = 1, .access = 1, .count = 2, .sent = sent, .edition = edition, .decimals = decimals};
         memcpy(base.serial, serial_told.at, 10);
         memcpy(base.password, password_told.at, 8);
         every_damage(&base, reads);
-        base = (struct dirgemist_session){.access = 1, .work = 1, .count = 2, .sent = sent, .fact = sent > 4 ? sent - 2u : 0, .edition = edition};
+        base = (struct dirgemist_session){.access = 1, .work = 1, .count = 2, .sent = sent, .fact = sent > 4 ? sent - 2u : 0, .edition = edition, .decimals = decimals};
         memcpy(base.password, password_told.at, 8);
-        every_damage(&base, post_of(1, 2));
-        base = (struct dirgemist_session){.count = 2, .sent = sent, .fact = sent == 6, .edition = edition};
+        if (family == 0) {
+            every_damage(&base, post_of(1, 2));
+        }
+        base = (struct dirgemist_session){.count = 2, .sent = sent, .fact = sent == 6, .edition = edition, .decimals = decimals};
         every_damage(&base, reads);
     }
 }
@@ -661,21 +707,30 @@ int main(void) {
     fact = exactly(1);
     message = exactly(1);
 
-    static const uint8_t none[] = {0, 3, 24, 25, 255};
+    static const uint8_t none[] = {0, 3, 24, 25, 255}, no_family[] = {1, 5, 6, 255};
     for (size_t at = 0; at < sizeof none; at++) {
         edition = none[at];
+        decimals = (uint8_t)at;
         every_start();
     }
-    try_edition(1);
-    try_edition(2);
+    for (size_t at = 0; at < sizeof no_family; at++) {
+        edition = (uint8_t)(1 + at % 2);
+        decimals = no_family[at];
+        every_start();
+    }
+    try_meters(1, 0);
+    try_meters(2, 0);
+    try_meters(1, 2);
+    try_meters(2, 3);
+    try_meters(1, 4);
 
-    static const uint8_t reached[] = {1, 9, 16, 19, 20, 28, 29, 30, 31};
+    static const uint8_t reached[] = {1, 9, 16, 18, 19, 20, 28, 29, 30, 31};
     for (size_t at = 0; at < sizeof reached; at++) {
         expect(numbers_seen[reached[at]] > 0, "a number that was never reached");
     }
     for (size_t at = 0; at < COUNT(facts_seen); at++) {
         expect(facts_seen[at] > 0, "a fact that was never reached");
     }
-    printf("sessions in C: %lu calls, as requests [7] and [3] have them\n", calls);
+    printf("sessions in C: %lu calls, as requests [7], [3] and [10] have them\n", calls);
     return 0;
 }

@@ -19,6 +19,7 @@ static uint8_t reply[DIRGEMIST_REPLY_ROOM];
 static size_t length;
 static uint8_t speed, place, kind;
 static uint32_t value;
+static uint8_t decimals;
 
 static void nothing(void) {}
 static void meet(void) { dirgemist_meter_meet(&meter, kind, value, reply, sizeof reply, &length, &speed, &place); }
@@ -37,7 +38,7 @@ static void total(void) {
 }
 static void make(void) {
     dirgemist_meter_make(&meter, (const uint8_t *)"1234567890", 10, (const uint8_t *)"Kiln_7 old", 10,
-                         (const uint8_t *)"20304050", 8, 2024, 2, 29, 23, 59, 59, 1, 1, 0);
+                         (const uint8_t *)"20304050", 8, 2024, 2, 29, 23, 59, 59, 1, 1, decimals);
 }
 
 /* The bytes of the painted stack that a function wrote over. */
@@ -90,28 +91,30 @@ static size_t happened(uint8_t what, uint32_t with) {
     return deep(meet);
 }
 
-int main(void) {
-    size_t bare = deep(nothing);
-    size_t making = deep(make) - bare;
-    size_t checking = deep(check) - bare;
-    size_t showing = deep(total) - bare;
-    size_t meeting = 0;
+static size_t making, checking, showing, meeting, coming;
+
+/* Everything, of a meter of one family. */
+static void measure(uint8_t family) {
+    decimals = family;
+    making = most(making, deep(make));
+    checking = most(checking, deep(check));
+    showing = most(showing, deep(total));
     meeting = most(meeting, SAID("/?!\r\n\006050\r\n/?123 4567890!\r\n\006051\r\n"));
     meeting = most(meeting, SAID("\001P1\002(20304050)\003\x61"));
     meeting = most(meeting, SAID("\001W1\002Z(04;111111111111111111111111)\003\003"));
     meeting = most(meeting, SAID("\001W1\002K(Kiln_8 new)\003\x36\001W1\002T(29-02-2024;23:59:59)\003\x05"));
     meeting = most(meeting, SAID("\001R1\002E0()\003\x16\001R1\002T()\003\x37\001R1\002Z(07)\003\x3e"));
+    meeting = most(meeting, SAID("\001R1\002G0()\003\x14"));
     meeting = most(meeting, SAID("\001R1\002L()\003\x2f\001R1\002K()\003\x28\001B0\003\x71"));
     meeting = most(meeting, SAID("/C!\r\n\006056\r\n"));
     /* The last second of February: a month is closed. */
     meeting = most(meeting, happened(DIRGEMIST_TICK, 0));
     meeting = most(meeting, happened(DIRGEMIST_PULSE, 1000000));
     meeting = most(meeting, happened(DIRGEMIST_PULSE, 1000001));
+    meeting = most(meeting, happened(DIRGEMIST_PULSE_OUT, 1000000));
     meeting = most(meeting, happened(DIRGEMIST_SILENCE, 0));
     meeting = most(meeting, happened(DIRGEMIST_POWER_UP, 0));
     meeting = most(meeting, happened(99, 0));
-    meeting -= bare;
-    size_t coming = 0;
     meter.mode = 2;
     coming = most(coming, CAME("\001P1\002(20304050)\003\x61"));
     coming = most(coming, CAME("\001W1\002Z(04;111111111111111111111111)\003\003"));
@@ -120,7 +123,18 @@ int main(void) {
     coming = most(coming, CAME("\001R1\002E0()\003\x16"));
     coming = most(coming, CAME("\001\001R1\002Z(07)\003\x3e"));
     coming = most(coming, CAME("\001R1"));
+    coming = most(coming, CAME("\001R1\002G0()\003\x14"));
     coming = most(coming, CAME("\001B0\003\x71"));
+}
+
+int main(void) {
+    size_t bare = deep(nothing);
+    measure(0);
+    measure(4);
+    making -= bare;
+    checking -= bare;
+    showing -= bare;
+    meeting -= bare;
     coming -= bare;
     printf("stack: meet %zu, frame %zu, make %zu, check %zu, total %zu bytes; the record has %zu\n", meeting, coming, making,
            checking, showing, sizeof meter);

@@ -157,24 +157,28 @@ static void row(const char *what, uint32_t times) {
 
 /* ---- A meter with something in every register. */
 
-static struct dirgemist_meter full(uint8_t mode) {
+static struct dirgemist_meter full(uint8_t mode, uint8_t decimals) {
     struct dirgemist_meter meter;
     struct dirgemist_registers *registers = &meter.registers;
     memset(&meter, 0, sizeof meter);
     dirgemist_meter_make(&meter, (const uint8_t *)"1234567890", 10, (const uint8_t *)"Kiln_7 old", 10,
-                         (const uint8_t *)"20304050", 8, 2024, 2, 29, 23, 5, 9, 1, 1, 0);
+                         (const uint8_t *)"20304050", 8, 2024, 2, 29, 23, 5, 9, 1, 1, decimals);
     meter.mode = mode;
     meter.speed = mode < 2 ? 0 : 5;
     for (uint32_t at = 0; at < 24 * 24; at++) {
         registers->tables[at] = (uint8_t)('1' + (at * 5 + at / 24) / 3 % 4);
     }
-    registers->counters = (struct dirgemist_counters){{999999999, 1500, 23456789, 400}, 23458688};
+    registers->counters = (struct dirgemist_counters){{decimals == 0 ? 999999999 : 99999999, 1500, 23456789, 400}, 23458688};
+    if (decimals != 0) {
+        registers->exported = (struct dirgemist_counters){{7, 99999999, 0, 65536}, 65542};
+    }
     registers->archive.count = 12;
     for (uint8_t at = 0; at < 12; at++) {
         struct dirgemist_period *period = &registers->archive.periods[at];
         period->closed = (struct dirgemist_stamp){{2024, (uint8_t)(12 - at), 1}, 0, 0};
         for (int zone = 0; zone < 4; zone++) {
             period->zones[zone] = registers->counters.zones[zone] / (at + 1u);
+            period->exported[zone] = registers->exported.zones[zone] / (at + 1u);
         }
     }
     return meter;
@@ -213,7 +217,12 @@ static void spoil(struct dirgemist_meter meter) {
 }
 
 static void spoil_some(void) {
-    struct dirgemist_meter meter = full(4);
+    struct dirgemist_meter meter = full(4, 3);
+    spoil(meter);
+    memset(meter.registers.archive.periods + 11, 0, sizeof *meter.registers.archive.periods);
+    meter.registers.archive.count = 11;
+    spoil(meter);
+    meter = full(4, 0);
     spoil(meter);
     memset(meter.registers.archive.periods + 5, 0, 7 * sizeof *meter.registers.archive.periods);
     meter.registers.archive.count = 5;
@@ -223,11 +232,11 @@ static void spoil_some(void) {
     meter.receiver.mark = 1;
     meter.receiver.place = 29;
     spoil(meter);
-    meter = full(1);
+    meter = full(1, 0);
     meter.receiver.count = 3;
     meter.receiver.held[1] = '0';
     spoil(meter);
-    meter = full(0);
+    meter = full(0, 0);
     meter.receiver.count = 31;
     memset(meter.receiver.held, '/', 31);
     spoil(meter);
@@ -264,6 +273,12 @@ static void read_counter(void) {
            "a counter");
 }
 
+static void read_eqm(void) {
+    uint32_t units;
+    expect(dirgemist_head_value_eqm(3, (const uint8_t *)"23458.688*kWh", 13, &units) == 1 && units == 23458688,
+           "an EQM counter");
+}
+
 /* A call of the head, the cost of one call divided by so many. */
 static void head(const char *what, void (*call)(void), uint32_t times) {
     uint32_t ticks = ticks_of(call) - ticks_of(nothing), depth = depth_of(call) - depth_of(nothing);
@@ -281,19 +296,28 @@ int main(void) {
     SYSTICK[0] = 5; /* the processor's clock, on */
     side = &sides[0];
 
-    both(full(4));
+    both(full(4, 0));
     said("\001W1\002Z(07;111111222111111133333441)\003\001", 36);
     row("character", 36);
     said("\001W1\002Z(", 6);
     row("held", 6);
-    both(full(1));
+    both(full(1, 3));
+    said("\006050\r", 5);
+    counted[0] = counted[1] = 0;
+    said("\n", 1);
+    row("eqm-block", 1);
+    for (int at = 0; at < 40; at++) {
+        event(DIRGEMIST_PULSE_OUT, 1000);
+    }
+    row("pulse-out", 40);
+    both(full(1, 0));
     said("\006050\r", 5);
     counted[0] = counted[1] = 0;
     said("\n", 1);
     row("block", 1);
     reply = sides[0].reply;
     reply_length = sides[0].length;
-    both(full(0));
+    both(full(0, 0));
     for (int at = 0; at < 40; at++) {
         event(DIRGEMIST_TICK, 0);
     }
@@ -302,7 +326,7 @@ int main(void) {
         event(DIRGEMIST_PULSE, 1000);
     }
     row("pulse", 40);
-    struct dirgemist_meter meter = full(0);
+    struct dirgemist_meter meter = full(0, 0);
     meter.registers.clock.time = (struct dirgemist_time){23, 59, 59};
     both(meter);
     event(DIRGEMIST_TICK, 0);
@@ -316,6 +340,7 @@ int main(void) {
     head("part", part, 1);
     head("find", find_total, 1);
     head("counter", read_counter, 1);
+    head("eqm", read_eqm, 1);
     say("records ");
     say_number(records);
     say("\n");

@@ -1,4 +1,5 @@
-/* hand.c: the step of a meter of edition 1 on the optical link by hand, with the tests of every meter. The record is changed where it lies, and tested whole before every event, a word at a time. */
+/* hand.c: the step of a meter of edition 1 on the optical link by hand, of either family, with the tests of every meter. The record is
+ * changed where it lies, and tested whole before every event, a word at a time. */
 #include "hand.h"
 
 #include <stdbool.h>
@@ -8,6 +9,7 @@
 #define PLACES 63
 #define PERIODS 12
 #define COUNTER_END 1000000000
+#define EQM_END 100000000
 #define SOH 1
 #define STX 2
 #define ETX 3
@@ -27,24 +29,32 @@ static bool date_good(const struct dirgemist_date *date) {
     return (uint16_t)(date->year - 2000) < 100 && date->month < 16 && (uint8_t)(date->day - 1) < most;
 }
 
-static bool zones_good(const uint32_t *zones) {
-    return zones[0] < COUNTER_END && zones[1] < COUNTER_END && zones[2] < COUNTER_END &&
-           zones[3] < COUNTER_END;
+/* What counters stay below: of energy that came in, and of energy that went out, which only an EQM meter counts. */
+static uint32_t end_in(uint8_t decimals) {
+    return decimals == 0 ? COUNTER_END : EQM_END;
 }
 
-static bool counters_good(const struct dirgemist_counters *counters) {
+static uint32_t end_out(uint8_t decimals) {
+    return decimals == 0 ? 1 : EQM_END;
+}
+
+static bool zones_good(const uint32_t *zones, uint32_t end) {
+    return zones[0] < end && zones[1] < end && zones[2] < end && zones[3] < end;
+}
+
+static bool counters_good(const struct dirgemist_counters *counters, uint32_t end) {
     const uint32_t *zones = counters->zones;
-    if (!zones_good(zones)) {
+    if (!zones_good(zones, end)) {
         return false;
     }
     uint32_t sum = zones[0] + zones[1] + zones[2] + zones[3]; /* below four times the end */
-    while (sum >= COUNTER_END) {
-        sum -= COUNTER_END;
+    while (sum >= end) {
+        sum -= end;
     }
     return sum == counters->total;
 }
 
-static bool archive_good(const struct dirgemist_archive *archive) {
+static bool archive_good(const struct dirgemist_archive *archive, uint8_t decimals) {
     if (archive->count > PERIODS) {
         return false;
     }
@@ -52,7 +62,8 @@ static bool archive_good(const struct dirgemist_archive *archive) {
     for (; place < archive->count; place++) {
         const struct dirgemist_period *period = &archive->periods[place];
         if (!date_good(&period->closed.date) || period->closed.hour > 23 ||
-            period->closed.minute > 59 || !zones_good(period->zones)) {
+            period->closed.minute > 59 || !zones_good(period->zones, end_in(decimals)) ||
+            !zones_good(period->exported, end_out(decimals))) {
             return false;
         }
     }
@@ -62,6 +73,7 @@ static bool archive_good(const struct dirgemist_archive *archive) {
         bits |= *(const word *)&period->closed.date;
         bits |= period->closed.hour | period->closed.minute;
         bits |= period->zones[0] | period->zones[1] | period->zones[2] | period->zones[3];
+        bits |= period->exported[0] | period->exported[1] | period->exported[2] | period->exported[3];
     }
     return bits == 0;
 }
@@ -76,7 +88,7 @@ static bool facts_good(const struct dirgemist_facts *facts) {
     }
     return (bits & 0x80808080) == 0 && (uint8_t)(facts->password[6] - '0') < 10 &&
            (uint8_t)(facts->password[7] - '0') < 10 && (facts->link == 1 || facts->link == 2) &&
-           facts->decimals == 0;
+           (facts->decimals == 0 || (uint8_t)(facts->decimals - 2) < 3);
 }
 
 static bool account_good(const uint8_t *account) {
@@ -102,12 +114,11 @@ static bool tables_good(const uint8_t *tables, uint8_t edition) {
     return (bits & 0xFCFCFCFC) == 0 && spare == 0;
 }
 
-/* The places behind the first start at a whole word of the record; 60 of them are fifteen words. */
+/* The places start at a whole word of the record; 60 of them are fifteen words. */
 static bool held_good(const struct dirgemist_receiver *receiver) {
     const uint8_t *held = receiver->held;
-    const word *four = (const word *)(held + 1);
-    uint32_t low = held[0], none = receiver->count == 0 ? held[0] : 0;
-    uint32_t used = receiver->count < 1 ? 0 : receiver->count - 1u, whole = used / 4;
+    const word *four = (const word *)held;
+    uint32_t low = 0, none = 0, used = receiver->count, whole = used / 4;
     for (uint32_t at = 0; at < 15; at++) {
         uint32_t places = four[at];
         low |= places;
@@ -117,9 +128,9 @@ static bool held_good(const struct dirgemist_receiver *receiver) {
             none |= places >> (8 * (used % 4));
         }
     }
-    for (uint32_t at = 61; at < PLACES; at++) {
+    for (uint32_t at = 60; at < PLACES; at++) {
         low |= held[at];
-        if (at >= receiver->count) {
+        if (at >= used) {
             none |= held[at];
         }
     }
@@ -150,13 +161,15 @@ static bool receiver_good(const struct dirgemist_meter *meter) {
 static bool good(const struct dirgemist_meter *meter) {
     const struct dirgemist_registers *registers = &meter->registers;
     const struct dirgemist_time *time = &registers->clock.time;
+    uint8_t decimals = registers->facts.decimals;
     return meter->mode <= 4 && meter->attempts <= 3 &&
            (meter->speed == (registers->facts.link == 2 ? 5 : 0) || (meter->speed == 5 && meter->mode >= 2)) &&
            receiver_good(meter) &&
            facts_good(&registers->facts) && account_good(registers->account) &&
            date_good(&registers->clock.date) && time->hour < 24 && time->minute < 60 &&
-           time->second < 60 && counters_good(&registers->counters) && tables_good(registers->tables, registers->facts.edition) &&
-           archive_good(&registers->archive);
+           time->second < 60 && counters_good(&registers->counters, end_in(decimals)) &&
+           counters_good(&registers->exported, end_out(decimals)) &&
+           tables_good(registers->tables, registers->facts.edition) && archive_good(&registers->archive, decimals);
 }
 
 static bool edition_good(const struct dirgemist_meter *meter) {
@@ -202,12 +215,21 @@ static uint8_t *put_three(uint8_t *at, const char *address, uint32_t a, uint32_t
     return put(put_digits(at, c, 2), ")\r\n");
 }
 
-static uint8_t *put_energy(uint8_t *at, uint32_t number, uint32_t wh) {
-    at = put(put_digits(put(at, "15.8."), number, 1), "(");
-    uint8_t *end = put_digits(at, wh, 9);
-    memmove(end - 2, end - 3, 3);
-    end[-3] = '.';
+static uint8_t *put_energy(uint8_t *at, const char *name, uint8_t decimals, uint32_t number, uint32_t count) {
+    at = put(put_digits(put(at, name), number, 1), "(");
+    uint32_t behind = decimals == 0 ? 3 : decimals;
+    uint8_t *end = put_digits(at, count, decimals == 0 ? 9 : 8);
+    memmove(end - behind + 1, end - behind, behind);
+    end[-(int32_t)behind] = '.';
     return put(end + 1, "*kWh)\r\n");
+}
+
+/* The five lines of a direction. */
+static uint8_t *put_counters(uint8_t *at, const char *name, uint8_t decimals, const struct dirgemist_counters *counters) {
+    for (uint32_t zone = 0; zone < 4; zone++) {
+        at = put_energy(at, name, decimals, zone + 1, counters->zones[zone]);
+    }
+    return put_energy(at, name, decimals, 0, counters->total);
 }
 
 /* Each character with its parity. */
@@ -226,10 +248,11 @@ static uint32_t block(const struct dirgemist_registers *registers, uint8_t *repl
     at = put_three(at, "0.9.2(", clock->date.year - 2000u, clock->date.month, clock->date.day, "-");
     at = put_three(at, "0.9.1(", clock->time.hour, clock->time.minute, clock->time.second, ":");
     at = put(put_bytes(put(at, "0.0.0("), registers->account, 10), ")\r\n");
-    for (uint32_t zone = 0; zone < 4; zone++) {
-        at = put_energy(at, zone + 1, registers->counters.zones[zone]);
+    uint8_t decimals = registers->facts.decimals;
+    at = put_counters(at, decimals == 0 ? "15.8." : "1.8.", decimals, &registers->counters);
+    if (decimals != 0) {
+        at = put_counters(at, "2.8.", decimals, &registers->exported);
     }
-    at = put_energy(at, 0, registers->counters.total);
     for (uint32_t table = 0; table < TABLES; table++) {
         at = put(put_digits(put(at, "131.0."), table + 1, 2), "(");
         at = put(put_bytes(at, registers->tables + 24 * table, 24), ")\r\n");
@@ -349,6 +372,7 @@ static void close(struct dirgemist_registers *registers) {
     archive->periods[0].closed = (struct dirgemist_stamp){
         registers->clock.date, registers->clock.time.hour, registers->clock.time.minute};
     memcpy(archive->periods[0].zones, registers->counters.zones, sizeof archive->periods[0].zones);
+    memcpy(archive->periods[0].exported, registers->exported.zones, sizeof archive->periods[0].exported);
     archive->count += archive->count < PERIODS;
 }
 
@@ -384,14 +408,14 @@ static void tick(struct dirgemist_registers *registers) {
     }
 }
 
-static void add(uint32_t *counter, uint32_t wh) {
-    *counter += wh;
-    if (*counter >= COUNTER_END) {
-        *counter -= COUNTER_END;
+static void add(uint32_t *counter, uint32_t units, uint32_t end) {
+    *counter += units;
+    if (*counter >= end) {
+        *counter -= end;
     }
 }
 
-static void pulse(struct dirgemist_registers *registers, uint32_t wh) {
+static void pulse(struct dirgemist_registers *registers, struct dirgemist_counters *counters, uint32_t units) {
     static const uint16_t before[13] = {0, 0, 31, 59, 90, 120, 151, 181, 212, 243, 273, 304, 334};
     const struct dirgemist_date *date = &registers->clock.date;
     uint32_t year = date->year - 2000u;
@@ -399,8 +423,9 @@ static void pulse(struct dirgemist_registers *registers, uint32_t wh) {
                    date->day - 1;
     uint32_t table = day % 7 < 2 ? date->month + 11u : date->month - 1u; /* 2000-01-01 was a Saturday */
     uint32_t zone = registers->tables[24 * table + registers->clock.time.hour] - (uint32_t)'1';
-    add(&registers->counters.zones[zone], wh);
-    add(&registers->counters.total, wh);
+    uint32_t end = end_in(registers->facts.decimals);
+    add(&counters->zones[zone], units, end);
+    add(&counters->total, units, end);
 }
 
 uint8_t hand_meet(struct dirgemist_meter *meter, uint8_t kind, uint32_t value, uint8_t *reply,
@@ -411,10 +436,11 @@ uint8_t hand_meet(struct dirgemist_meter *meter, uint8_t kind, uint32_t value, u
     if (!edition_good(meter)) {
         return 16;
     }
-    if (kind > DIRGEMIST_POWER_UP || (kind == DIRGEMIST_CHARACTER && value > 255)) {
+    if (kind > DIRGEMIST_PULSE_OUT || (kind == DIRGEMIST_CHARACTER && value > 255)) {
         return DIRGEMIST_NO_EVENT;
     }
-    if (kind == DIRGEMIST_PULSE && value > 1000000) {
+    bool out = kind == DIRGEMIST_PULSE_OUT;
+    if (((kind == DIRGEMIST_PULSE || out) && value > 1000000) || (out && meter->registers.facts.decimals == 0)) {
         return 13;
     }
     if (kind <= DIRGEMIST_SILENCE && room < DIRGEMIST_REPLY_ROOM) {
@@ -426,7 +452,8 @@ uint8_t hand_meet(struct dirgemist_meter *meter, uint8_t kind, uint32_t value, u
     switch (kind) {
     case DIRGEMIST_CHARACTER: return hear(meter, (uint8_t)value, reply, length, speed);
     case DIRGEMIST_TICK: tick(&meter->registers); break;
-    case DIRGEMIST_PULSE: pulse(&meter->registers, value); break;
+    case DIRGEMIST_PULSE: pulse(&meter->registers, &meter->registers.counters, value); break;
+    case DIRGEMIST_PULSE_OUT: pulse(&meter->registers, &meter->registers.exported, value); break;
     default: return HAND_UNKNOWN;
     }
     *speed = meter->speed;

@@ -22,11 +22,13 @@ static void look(void) {
     FIELD(registers.facts.edition), FIELD(registers.facts.link), FIELD(registers.facts.decimals);
     FIELD(registers.clock.date.year), FIELD(registers.clock.date.month), FIELD(registers.clock.date.day);
     FIELD(registers.clock.time.hour), FIELD(registers.clock.time.minute), FIELD(registers.clock.time.second);
-    FIELD(registers.counters.zones), FIELD(registers.counters.total), FIELD(registers.tables), FIELD(registers.archive.count);
+    FIELD(registers.counters.zones), FIELD(registers.counters.total), FIELD(registers.exported.zones), FIELD(registers.exported.total);
+    FIELD(registers.tables), FIELD(registers.archive.count);
     for (size_t i = 0; i < sizeof((struct dirgemist_meter *)0)->registers.archive.periods / sizeof(struct dirgemist_period); i++) {
         FIELD(registers.archive.periods[i].closed.date.year), FIELD(registers.archive.periods[i].closed.date.month);
         FIELD(registers.archive.periods[i].closed.date.day), FIELD(registers.archive.periods[i].closed.hour);
         FIELD(registers.archive.periods[i].closed.minute), FIELD(registers.archive.periods[i].zones);
+        FIELD(registers.archive.periods[i].exported);
     }
 }
 
@@ -43,6 +45,7 @@ int main(void) {
     PART("account", registers.account);
     PART("clock", registers.clock);
     PART("counters", registers.counters);
+    PART("\"exported counters\"", registers.exported);
     PART("tables", registers.tables);
     PART("\"closed months\"", registers.archive);
     look();

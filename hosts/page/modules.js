@@ -58,11 +58,12 @@ export function framesOf(edition, text) {
     return { number, place, frames: buffer.slice(0, length) };
 }
 
-// dirgemist_session.h: a session that delivers a post with a password; no serial calls any meter.
+// dirgemist_session.h: a session that delivers a post with a password; no serial calls any meter. No energy is read, so the decimals
+// are those of any family: 0.
 export function startSession(edition, serial, password, post) {
     const loan = new Loan(), length = loan.room(8), place = loan.room(8), session = loan.room(LAYOUT.session);
     const told = [loan.bytes(serial), loan.bytes(password), loan.bytes(post)], out = loan.room(LAYOUT.messageRoom);
-    const number = proved.dirgemist_session_start(session, edition, serial.length > 0 ? 1 : 0, told[0], size(serial), 1, told[1], size(password),
+    const number = proved.dirgemist_session_start(session, edition, 0, serial.length > 0 ? 1 : 0, told[0], size(serial), 1, told[1], size(password),
         1, told[2], size(post), out, BigInt(LAYOUT.messageRoom), length, place);
     return { number, place: loan.length(place), session: loan.take(session, LAYOUT.session), message: loan.take(out, loan.length(length)) };
 }

@@ -50,7 +50,7 @@ still-fit a s g account fit good =
       known = fit .known;
       attempts = fit .attempts;
       speed = fit .speed;
-      registers = registers-good (withAccount g account) (record { facts = f .facts; account = good; clock = f .clock; counters = f .counters; tables = f .tables; archive = f .archive });
+      registers = registers-good (withAccount g account) (record { facts = f .facts; account = good; clock = f .clock; counters = f .counters; exported = f .exported; tables = f .tables; archive = f .archive });
     }
 
 frame-long : (account : List ℕ) → goodAccount account ≡ true → length (frameOf W1 (setAccount account)) ≡ 19

@@ -29,12 +29,12 @@ textOf (confirm v y) = confirmation v y
 textOf (command c) = spoken c
 textOf leave = bareFrame B0
 
--- the head builds it: its fields lie within their rules, for a meter of so many tables
-unfoldable pub goodMessage : ℕ → Message → Bool
-goodMessage tables call = true
-goodMessage tables close = true
-goodMessage tables (callTo serial) = goodSerial serial
-goodMessage tables (callWired serial) = goodSerial serial
-goodMessage tables (confirm v y) = goodSpeed v && goodChoice y
-goodMessage tables (command c) = goodFields tables c
-goodMessage tables leave = true
+-- its fields lie within their rules, for a meter of so many tables and of a family
+unfoldable pub goodMessage : ℕ → ℕ → Message → Bool
+goodMessage tables family call = true
+goodMessage tables family close = true
+goodMessage tables family (callTo serial) = goodSerial serial
+goodMessage tables family (callWired serial) = goodSerial serial
+goodMessage tables family (confirm v y) = goodSpeed v && goodChoice y
+goodMessage tables family (command c) = goodFields tables family c
+goodMessage tables family leave = true

@@ -10,7 +10,7 @@ ghost use Rattle.values.specs.Edition.{tablesOf, rowLength};
 ghost use Rattle.values.specs.Registers.{goodSerial, goodPassword, goodAccount, goodRow, goodTable, goodZone};
 ghost use Rattle.values.specs.Texts.{serialText, wiredText, tableText, clockText};
 ghost use Rattle.frames.specs.Frames.{sealed, frameOf, bareFrame, onWire};
-ghost use Rattle.frames.specs.Commands.{B0, P1, R1, W1, askClock, askSerial, askAccount, askEnergy, askTable, setClock, setAccount, setTable};
+ghost use Rattle.frames.specs.Commands.{B0, P1, R1, W1, askClock, askSerial, askAccount, lettered, askEnergy, askExport, askTable, setClock, setAccount, setTable};
 ghost use Rattle.frames.specs.Session.{signOn, closingSignOn, signOnTo, wiredSignOn, confirmation, goodSpeed, enterData, passwordData};
 ghost use Rattle.commands.specs.Building.{goodChoice, Builds, BuildsFor, Room, Small, Made};
 use clock::Clock;
@@ -221,9 +221,16 @@ pub fn read_total(buf: &mut [u8]) -> Built
     build(buf, true, b"\x01R1\x02E0(", b"")
 }
 
-// R1 for a zone's energy.
-pub fn read_zone(buf: &mut [u8], zone: ZoneNo) -> Built
-    ensures { λ r. ⌜ Builds (now (buf .entry)) (goodZone (zone .0)) (onWire (frameOf R1 (askEnergy (zone .0)))) r (now (buf .exit)) ⌝ }
+// R1 for the total of what went out.
+pub fn read_total_out(buf: &mut [u8]) -> Built
+    ensures { λ r. ⌜ Builds (now (buf .entry)) true (onWire (frameOf R1 (askExport 0))) r (now (buf .exit)) ⌝ }
+{
+    build(buf, true, b"\x01R1\x02G0(", b"")
+}
+
+// R1 with a letter and a zone.
+fn ask_zone(buf: &mut [u8], letter: u8, zone: ZoneNo) -> Built
+    ensures { λ r. ⌜ Builds (now (buf .entry)) (goodZone (zone .0)) (onWire (frameOf R1 (lettered letter (zone .0)))) r (now (buf .exit)) ⌝ }
 {
     if buf.len() < ROOM {
         return short();
@@ -234,9 +241,23 @@ pub fn read_zone(buf: &mut [u8], zone: ZoneNo) -> Built
     let n = zone.0;
     frame(
         buf,
-        &[line::SOH, b'R', b'1', line::STX, b'E', b'0' + n, b'('],
+        &[line::SOH, b'R', b'1', line::STX, letter, b'0' + n, b'('],
         b"",
     )
+}
+
+// R1 for a zone's energy.
+pub fn read_zone(buf: &mut [u8], zone: ZoneNo) -> Built
+    ensures { λ r. ⌜ Builds (now (buf .entry)) (goodZone (zone .0)) (onWire (frameOf R1 (askEnergy (zone .0)))) r (now (buf .exit)) ⌝ }
+{
+    ask_zone(buf, b'E', zone)
+}
+
+// R1 for what went out in a zone.
+pub fn read_zone_out(buf: &mut [u8], zone: ZoneNo) -> Built
+    ensures { λ r. ⌜ Builds (now (buf .entry)) (goodZone (zone .0)) (onWire (frameOf R1 (askExport (zone .0)))) r (now (buf .exit)) ⌝ }
+{
+    ask_zone(buf, b'G', zone)
 }
 
 // R1 for a table, of so many tables.

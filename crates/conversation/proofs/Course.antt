@@ -19,7 +19,7 @@ use Rattle.frames.specs.Session.{goodSpeed, speedSaid}
 use Rattle.state.specs.Sizes.{replyRoom}
 use Rattle.state.specs.declared.Registers.{Registers}
 use Rattle.state.specs.declared.Meter.{Meter}
-use Rattle.state.specs.WellFormed.{speedGood, registersGood, tablesIn, editionOf}
+use Rattle.state.specs.WellFormed.{speedGood, registersGood, tablesIn, familyIn, familyOf}
 use Rattle.state.specs.Link.{linkOf, isWired}
 use Rattle.state.proofs.Parts.{rest-good, fast-good}
 use Rattle.meter.specs.Link.{identified as identifiedOn}
@@ -38,6 +38,7 @@ use Rattle.dialogue.specs.Messages.{allowedAt, allowedIn, triedWith, obeyed, ou
 use Rattle.dialogue.proofs.Held.{Fit, idle, resting}
 use Rattle.dialogue.proofs.Dialogue.{idle-listens}
 use Rattle.conversation.specs.Conversation.{Talk, exchange, converse, asking, stopped}
+use Rattle.conversation.specs.Ends.{Suits}
 use Rattle.conversation.proofs.Right.{identified, password-asked, long-is-no-nak}
 use Rattle.conversation.proofs.Exchange.{Right, acknowledged, Sound, message-work, right-work, message-leave, right-leave, goes-on, is-done, exchange-right}
 
@@ -80,12 +81,12 @@ pub working : (s : Session) (a : ℕ) (g : Registers) (mode b : ℕ) → EntersA
 working s a g mode b (as-plain h) = refl
 working s a g mode b (as-known h p k l) = refl
 
-module _ (s : Session) (work : List ℕ) (a : ℕ) (g : Registers) (same : s .edition ≡ g .facts .edition) (few : a ≤ 3) (good : registersGood g ≡ true) where
+module _ (s : Session) (work : List ℕ) (a : ℕ) (g : Registers) (same : (s .edition ≡ g .facts .edition) × (s .decimals ≡ g .facts .decimals)) (few : a ≤ 3) (good : registersGood g ≡ true) where
   fit-here : (mode speed : ℕ) → mode ≤ 4 → speedGood (g .facts .link) mode speed ≡ true → Fit mode a speed g
   fit-here mode speed h k = record { known = h; attempts = few; speed = k; registers = good }
 
   -- the sign-on
-  calls : (x : Message) → goodMessage (tablesIn g) x ≡ true → allowedIn x 0 ≡ true
+  calls : (x : Message) → goodMessage (tablesIn g) (familyIn g) x ≡ true → allowedIn x 0 ≡ true
       → outcomeOf (idle 0 a (resting g) g) x ≡ saying 1 (resting g) (identification (g .facts .edition)) (idle 1 a (resting g) g) → Right x (idle 0 a (resting g) g) (idle 1 a (resting g) g) (identifies (g .facts .edition))
   calls x h k e =
       record {
@@ -102,10 +103,10 @@ module _ (s : Session) (work : List ℕ) (a : ℕ) (g : Registers) (same : s .ed
   pub right-call : Ours s g → Right (messageAt s work 1) (idle 0 a (resting g) g) (idle 1 a (resting g) g) (rightAt s work 1)
   unfolding messageAt rightAt calling
   right-call (any-meter optical h) =
-      renamed call (messageAt s work 1) _ _ (rightAt s work 1) (identifies (g .facts .edition)) (rw h) (λ r. ap (λ (e : ℕ). identifies e r) same)
+      renamed call (messageAt s work 1) _ _ (rightAt s work 1) (identifies (g .facts .edition)) (rw h) (λ r. ap (λ (e : ℕ). identifies e r) (same .0))
       (calls call (unfold goodMessage in refl) (unfold allowedIn in refl) (unfold outcomeOf identifiedOn in (rw optical)))
   right-call (this-meter optical h k e) =
-      renamed (callTo (s .serial)) (messageAt s work 1) _ _ (rightAt s work 1) (identifies (g .facts .edition)) (rw h) (λ r. ap (λ (e : ℕ). identifies e r) same)
+      renamed (callTo (s .serial)) (messageAt s work 1) _ _ (rightAt s work 1) (identifies (g .facts .edition)) (rw h) (λ r. ap (λ (e : ℕ). identifies e r) (same .0))
       (calls (callTo (s .serial)) (unfold goodMessage in k) (unfold allowedIn in refl) (unfold outcomeOf names identifiedOn in (rw (optical, e))))
 
   -- the confirmation, at 9600 baud, for programming
@@ -124,7 +125,7 @@ module _ (s : Session) (work : List ℕ) (a : ℕ) (g : Registers) (same : s .ed
       }
 
   -- the password, or `()`
-  entered : (c : Message) (next : Meter) → goodMessage (tablesIn g) c ≡ true → allowedIn c 2 ≡ true → outcomeOf (idle 2 a 5 g) c ≡ ack 5 next → messageAt s work 3 ≡ c
+  entered : (c : Message) (next : Meter) → goodMessage (tablesIn g) (familyIn g) c ≡ true → allowedIn c 2 ≡ true → outcomeOf (idle 2 a 5 g) c ≡ ack 5 next → messageAt s work 3 ≡ c
       → Right (messageAt s work 3) (idle 2 a 5 g) next (rightAt s work 3)
   unfolding rightAt
   entered c next h k e is =
@@ -150,10 +151,10 @@ module _ (s : Session) (work : List ℕ) (a : ℕ) (g : Registers) (same : s .ed
       leaves i h k l =
           acknowledged leave (idle i a 5 g) (idle 0 a (resting g) g) 5 (unfold goodMessage in refl) (idle-listens i a 5 g leave (fit-here i 5 h k) l) (unfold outcomeOf in refl)
 
--- what a meter of the session's edition takes, the session builds
-pub for-edition : (s : Session) (m : Meter) (x : Message) → s .edition ≡ editionOf m → goodMessage (tablesIn (m .registers)) x ≡ true
-    → goodMessage (tablesOf (s .edition)) x ≡ true
-for-edition s m x same h = ap (λ (e : ℕ). goodMessage (tablesOf e) x) same ∙ h
+-- what a meter of the session's edition and family takes, the session builds
+pub for-meter : (s : Session) (m : Meter) (x : Message) → Suits s m → goodMessage (tablesIn (m .registers)) (familyOf m) x ≡ true
+    → goodMessage (tablesOf (s .edition)) (s .decimals) x ≡ true
+for-meter s m x same h = ap₂ (λ (e family : ℕ). goodMessage (tablesOf e) family x) (same .0) (same .1) ∙ h
 
 -- ---- some messages, one after the other
 
@@ -162,18 +163,18 @@ RightHere s work n m next = Right (messageAt s work n) m next (rightAt s work n)
 
 -- all but the message after the last are answered right, and that one can be built
 module _ (s : Session) (work : List ℕ) (sound : Sound s) (at : ℕ → Meter) (last : ℕ) (within : last < s .count + 4)
-    (same : (k : ℕ) → s .edition ≡ editionOf (at k))
-    (rights : (k : ℕ) → k < last → RightHere s work (k + 1) (at k) (at (suc k))) (built : goodMessage (tablesOf (s .edition)) (messageAt s work (last + 1)) ≡ true)
+    (same : (k : ℕ) → Suits s (at k))
+    (rights : (k : ℕ) → k < last → RightHere s work (k + 1) (at k) (at (suc k))) (built : goodMessage (tablesOf (s .edition)) (s .decimals) (messageAt s work (last + 1)) ≡ true)
     (rooms : ℕ → ℕ → ℕ) (large : (k i : ℕ) → replyRoom ≤ rooms k i) (buffers : ℕ → ℕ) (long : (k : ℕ) → 64 ≤ buffers k) where
   abbrev pub talk : ℕ → Talk
   talk = converse rooms buffers work (record { turn = asking s work 1; meter = at 0 })
 
-  builds : (k : ℕ) → suc k ≤ last → goodMessage (tablesOf (s .edition)) (messageAt s work (k + 1 + 1)) ≡ true
+  builds : (k : ℕ) → suc k ≤ last → goodMessage (tablesOf (s .edition)) (s .decimals) (messageAt s work (k + 1 + 1)) ≡ true
   builds k h =
-      ⊎-elim (λ l. subst (λ (i : ℕ). goodMessage (tablesOf (s .edition)) (messageAt s work i) ≡ true) {x = last + 1} {y = k + 1 + 1} (omega arith) built)
+      ⊎-elim (λ l. subst (λ (i : ℕ). goodMessage (tablesOf (s .edition)) (s .decimals) (messageAt s work i) ≡ true) {x = last + 1} {y = k + 1 + 1} (omega arith) built)
       (λ l.
-      subst (λ (i : ℕ). goodMessage (tablesOf (s .edition)) (messageAt s work i) ≡ true) {x = suc k + 1} {y = k + 1 + 1} (omega arith)
-      (for-edition s (at (suc k)) (messageAt s work (suc k + 1)) (same (suc k)) (rights (suc k) l .good)))
+      subst (λ (i : ℕ). goodMessage (tablesOf (s .edition)) (s .decimals) (messageAt s work i) ≡ true) {x = suc k + 1} {y = k + 1 + 1} (omega arith)
+      (for-meter s (at (suc k)) (messageAt s work (suc k + 1)) (same (suc k)) (rights (suc k) l .good)))
       (le-or-lt last (suc k))
 
   -- it goes on at each
@@ -216,7 +217,7 @@ stage-optical count a mode b g h (suc (suc (suc i))) = either (leb i count)
 -- what a session that goes well stands on
 pub record Goes (s : Session) (work : List ℕ) (a mode b : ℕ) (g : ℕ → Registers) : Type 0 where
   pub sound : Sound s
-  pub edition : (i : ℕ) → s .edition ≡ g i .facts .edition
+  pub suits : (i : ℕ) → (s .edition ≡ g i .facts .edition) × (s .decimals ≡ g i .facts .decimals)
   pub few : a ≤ 3
   pub fewer : b ≤ 3
   pub good : (i : ℕ) → i ≤ s .count → registersGood (g i) ≡ true
@@ -237,16 +238,16 @@ module _ (s : Session) (work : List ℕ) (a mode b : ℕ) (g : ℕ → Registers
   unfolding stage
   at-end i h = rw (lt-leb i (s .count) h)
 
-  pub same-at : (k : ℕ) → s .edition ≡ editionOf (at k)
+  pub same-at : (k : ℕ) → Suits s (at k)
   unfolding stage
-  same-at zero = goes .edition 0
-  same-at (suc zero) = goes .edition 0
-  same-at (suc (suc zero)) = goes .edition 0
+  same-at zero = goes .suits 0
+  same-at (suc zero) = goes .suits 0
+  same-at (suc (suc zero)) = goes .suits 0
   same-at (suc (suc (suc i))) = go (leb i (s .count))
     where
-      go : (p : Bool) → s .edition ≡ editionOf (cond p (idle mode b 5 (g i)) (idle 0 b (resting (g (s .count))) (g (s .count))))
-      go true = goes .edition i
-      go false = goes .edition (s .count)
+      go : (p : Bool) → Suits s (cond p (idle mode b 5 (g i)) (idle 0 b (resting (g (s .count))) (g (s .count))))
+      go true = goes .suits i
+      go false = goes .suits (s .count)
 
   right-working : (i : ℕ) → i < s .count → RightHere s work (i + 4) (at (suc (suc (suc i)))) (at (suc (suc (suc (suc i)))))
   right-working i h =
@@ -256,13 +257,13 @@ module _ (s : Session) (work : List ℕ) (a mode b : ℕ) (g : ℕ → Registers
   right-last : (i : ℕ) → i ≡ s .count → RightHere s work (i + 4) (at (suc (suc (suc i)))) (at (suc (suc (suc (suc i)))))
   right-last i e =
       rw (at-working i (omega (arith, e)), at-end (suc i) (omega (arith, e)), e)
-      (right-leaving s work b (g (s .count)) (goes .edition (s .count)) (goes .fewer) (goes .good (s .count) (omega arith)) mode (s .count + 4) (working s a (g 0) mode b (goes .enters)) (omega arith))
+      (right-leaving s work b (g (s .count)) (goes .suits (s .count)) (goes .fewer) (goes .good (s .count) (omega arith)) mode (s .count + 4) (working s a (g 0) mode b (goes .enters)) (omega arith))
 
   pub right-at : (k : ℕ) → k < s .count + 4 → RightHere s work (k + 1) (at k) (at (suc k))
-  right-at zero h = unfold stage in (right-call s work a (g 0) (goes .edition 0) (goes .few) (goes .good 0 (omega arith)) (goes .ours))
-  right-at (suc zero) h = unfold stage in (right-confirm s work a (g 0) (goes .edition 0) (goes .few) (goes .good 0 (omega arith)))
+  right-at zero h = unfold stage in (right-call s work a (g 0) (goes .suits 0) (goes .few) (goes .good 0 (omega arith)) (goes .ours))
+  right-at (suc zero) h = unfold stage in (right-confirm s work a (g 0) (goes .suits 0) (goes .few) (goes .good 0 (omega arith)))
   right-at (suc (suc zero)) h =
-      rw (at-working 0 (omega arith)) (unfold stage in (right-enter s work a (g 0) (goes .edition 0) (goes .few) (goes .good 0 (omega arith)) mode b (goes .enters)))
+      rw (at-working 0 (omega arith)) (unfold stage in (right-enter s work a (g 0) (goes .suits 0) (goes .few) (goes .good 0 (omega arith)) mode b (goes .enters)))
   right-at (suc (suc (suc i))) h =
       subst (λ (n : ℕ). RightHere s work n (at (suc (suc (suc i)))) (at (suc (suc (suc (suc i)))))) {x = i + 4} {y = suc (suc (suc i)) + 1} (omega arith)
       (⊎-elim (λ l. right-last i (omega arith)) (λ l. right-working i l) (le-or-lt (s .count) i))
@@ -274,8 +275,8 @@ module _ (s : Session) (work : List ℕ) (a mode b : ℕ) (g : ℕ → Registers
     rights : (k : ℕ) → k < s .count + 3 → RightHere s work (k + 1) (at k) (at (suc k))
     rights k h = right-at k (omega arith)
 
-    last-built : goodMessage (tablesOf (s .edition)) (messageAt s work (s .count + 3 + 1)) ≡ true
-    last-built = for-edition s (at (s .count + 3)) (messageAt s work (s .count + 3 + 1)) (same-at (s .count + 3)) (right-at (s .count + 3) (omega arith) .good)
+    last-built : goodMessage (tablesOf (s .edition)) (s .decimals) (messageAt s work (s .count + 3 + 1)) ≡ true
+    last-built = for-meter s (at (s .count + 3)) (messageAt s work (s .count + 3 + 1)) (same-at (s .count + 3)) (right-at (s .count + 3) (omega arith) .good)
 
     pub courses : (k : ℕ) → k < s .count + 4 → course k ≡ record { turn = asking s work (k + 1); meter = at k }
     courses k h =

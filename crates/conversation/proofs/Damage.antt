@@ -22,7 +22,7 @@ use Rattle.state.specs.Sizes.{replyRoom, heldPlaces}
 use Rattle.state.specs.declared.Registers.{Registers}
 use Rattle.state.specs.declared.Meter.{Meter}
 use Rattle.state.specs.Link.{linkOf, isWired}
-use Rattle.state.specs.WellFormed.{wellFormed, marked, tablesIn}
+use Rattle.state.specs.WellFormed.{wellFormed, marked, tablesIn, familyOf}
 use Rattle.replies.specs.Fixed.{refused}
 use Rattle.receiving.specs.declared.Hearing.{Hearing}
 use Rattle.receiving.specs.Hearing.{hearing, listening, confirming, framing}
@@ -72,10 +72,10 @@ module _ (m : Meter) (c : ℕ) (d : Bool) where
       choice.either Stays (eqb (m .attempts) 3) (λ e. absurd (omega arith))
       (choice.either Stays (sameText (passwordGiven m) (m .registers .facts .password)) (λ e. absurd (omega arith)) (λ e. absurd (omega arith)))
 
-  frame-stays : (mark : Bool) → Stays (acted m (verdict (tablesIn (m .registers)) (m .mode) (heldText (m .receiver)) mark c))
+  frame-stays : (mark : Bool) → Stays (acted m (verdict (tablesIn (m .registers)) (familyOf m) (m .mode) (heldText (m .receiver)) mark c))
   unfolding acted
   frame-stays mark =
-      verdict-all (λ (v : Verdict). Stays (acted m v)) (tablesIn (m .registers)) (m .mode) (heldText (m .receiver)) mark c
+      verdict-all (λ (v : Verdict). Stays (acted m v)) (tablesIn (m .registers)) (familyOf m) (m .mode) (heldText (m .receiver)) mark c
       (record {
         refuse = λ n k e. absurd (never-zero mark n k e);
         leave = λ e. absurd (omega arith);
@@ -258,7 +258,7 @@ pub record Unheeded (m : Meter) (rooms : ℕ → ℕ) (bytes : List ℕ) : Type 
   pub attempts : left m rooms bytes .attempts ≡ m .attempts
   pub reply : (replyTo m rooms bytes ≡ []) ⊎ (replyTo m rooms bytes ≡ refused)
 
-module _ (m : Meter) (x : Message) (good : goodMessage (tablesIn (m .registers)) x ≡ true) (l : Listens m x) (optical : isWired (linkOf m) ≡ false) (s : Shape (m .mode) (textOf x))
+module _ (m : Meter) (x : Message) (good : goodMessage (tablesIn (m .registers)) (familyOf m) x ≡ true) (l : Listens m x) (optical : isWired (linkOf m) ≡ false) (s : Shape (m .mode) (textOf x))
     (j b : ℕ) (there : j < length (textOf x)) (d : damagedAt b ≡ true) where
   abbrev wire : List ℕ
   wire = onWire (textOf x)

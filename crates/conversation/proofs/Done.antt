@@ -12,7 +12,7 @@ use Rattle.text.proofs.Matching.{same-self}
 use Rattle.values.specs.Registers.{goodSerial, goodPassword}
 use Rattle.state.specs.declared.Registers.{Registers}
 use Rattle.state.specs.declared.Meter.{Meter}
-use Rattle.state.specs.WellFormed.{speedGood, registersGood, editionOf}
+use Rattle.state.specs.WellFormed.{speedGood, registersGood}
 use Rattle.state.proofs.Parts.{formed, rest-low, rest-good, fast-good}
 use Rattle.state.specs.Link.{linkOf, isWired}
 use Rattle.session.specs.declared.Session.{Session}
@@ -23,9 +23,9 @@ use Rattle.session.proofs.Laws.{told-is}
 use Rattle.dialogue.specs.Messages.{Listens}
 use Rattle.dialogue.proofs.Held.{resting, idle, idle-is, idle-formed}
 use Rattle.conversation.specs.Conversation.{Talk, begun, converse, asking, stopped}
-use Rattle.conversation.specs.Ends.{Waits, Calls, anyone, by-serial, by-zeros, Enters, plainly, by-password, attemptsAfter, Roomy, StopsAfter, talkOf, Stops}
+use Rattle.conversation.specs.Ends.{Waits, Calls, anyone, by-serial, by-zeros, Enters, plainly, by-password, attemptsAfter, Suits, Roomy, StopsAfter, talkOf, Stops}
 use Rattle.conversation.proofs.Exchange.{Ended, stays-long}
-use Rattle.conversation.proofs.Course.{Ours, any-meter, this-meter, EntersAs, as-plain, as-known, stage, stage-optical, Goes, for-edition, same-at, right-at, courses, course-ends}
+use Rattle.conversation.proofs.Course.{Ours, any-meter, this-meter, EntersAs, as-plain, as-known, stage, stage-optical, Goes, for-meter, same-at, right-at, courses, course-ends}
 use Rattle.conversation.proofs.Spoilt.{or-right}
 use Rattle.conversation.proofs.Started.{Began, sound, begins}
 
@@ -132,9 +132,9 @@ module _ (t : Told) (work : List ℕ) (o : Opening) (count : ℕ) (began : Began
         within = omega (arith, counted);
         going = λ k h. ap (λ (x : Talk). x .turn) (stands-at k h);
         built = λ k h.
-            for-edition s (stage (s .count) a mode b g k) (messageAt s work (k + 1)) (same-at s work a mode b g goes k)
+            for-meter s (stage (s .count) a mode b g k) (messageAt s work (k + 1)) (same-at s work a mode b g goes k)
             (right-at s work a mode b g goes k (omega (arith, counted)) .good);
-        edition = λ k h. subst (λ (x : Meter). s .edition ≡ editionOf x) (sym (ap (λ (x : Talk). x .meter) (stands-at k h))) (same-at s work a mode b g goes k);
+        suits = λ k h. subst (Suits s) (sym (ap (λ (x : Talk). x .meter) (stands-at k h))) (same-at s work a mode b g goes k);
         heard = λ k h.
             subst (λ (x : Meter). Listens x (messageAt s work (k + 1))) (sym (ap (λ (x : Talk). x .meter) (stands-at k h)))
             (right-at s work a mode b g goes k (omega (arith, counted)) .hears);

@@ -6,7 +6,7 @@ use Prim.Native.Nat.{ℕ, zero, suc, _+_, _-_, _≤_, _<_}
 use native.Mathlib.Omega.{arith}
 use borrow.Author.Tests.{le-leb, lt-leb, le-ltb, ne-eqb}
 use lib.ListN.{length, replicate, length-map}
-use Rattle.state.specs.WellFormed.{tablesIn}
+use Rattle.state.specs.WellFormed.{tablesIn, familyOf}
 use Rattle.values.specs.Edition.{tablesOf}
 use Rattle.line.specs.Characters.{sent}
 use Rattle.frames.specs.Frames.{onWire}
@@ -33,7 +33,7 @@ unfolding lastReply
 last-is zero before x r = refl
 last-is (suc n) before x r = last-is n before x (before .reply)
 
-module _ (m : Meter) (x : Message) (good : goodMessage (tablesIn (m .registers)) x ≡ true) (l : Listens m x) (rooms : ℕ → ℕ) (large : (i : ℕ) → replyRoom ≤ rooms i) where
+module _ (m : Meter) (x : Message) (good : goodMessage (tablesIn (m .registers)) (familyOf m) x ≡ true) (l : Listens m x) (rooms : ℕ → ℕ) (large : (i : ℕ) → replyRoom ≤ rooms i) where
   pub reply-is : replyTo m rooms (onWire (textOf x)) ≡ outcomeOf m x .reply
   unfolding replyTo
   reply-is = ap (lastReply []) (message-taken m x good l .said rooms large) ∙ last-is (length (onWire (textOf x)) - 1) (quiet (m .speed)) (saidIn (outcomeOf m x)) []
@@ -68,7 +68,7 @@ module _ (s : Session) (work : List ℕ) where
 -- ---- a message that a meter answers right
 
 pub record Right (x : Message) (m next : Meter) (judges : List ℕ → Bool) : Type 0 where
-  pub good : goodMessage (tablesIn (m .registers)) x ≡ true
+  pub good : goodMessage (tablesIn (m .registers)) (familyOf m) x ≡ true
   pub hears : Listens m x
   pub reply : List ℕ
   pub said : outcomeOf m x .reply ≡ reply
@@ -78,7 +78,7 @@ pub record Right (x : Message) (m next : Meter) (judges : List ℕ → Bool) : T
   pub after : outcomeOf m x .next ≡ next
 
 -- ACK, where ACK is right
-pub acknowledged : (x : Message) (m next : Meter) (speed : ℕ) → goodMessage (tablesIn (m .registers)) x ≡ true → Listens m x → outcomeOf m x ≡ ack speed next → Right x m next accepts
+pub acknowledged : (x : Message) (m next : Meter) (speed : ℕ) → goodMessage (tablesIn (m .registers)) (familyOf m) x ≡ true → Listens m x → outcomeOf m x ≡ ack speed next → Right x m next accepts
 acknowledged x m next speed good l e =
     record {
       good = good;
@@ -122,7 +122,7 @@ module _ (s : Session) (work : List ℕ) (sound : Sound s) where
     heard-nothing = rw (stands n low high)
 
   -- the next message, where it can be built
-  pub goes-on : (n : ℕ) → n < s .count + 4 → goodMessage (tablesOf (s .edition)) (messageAt s work (n + 1)) ≡ true → answeredRight (standing s n 0) work ≡ asking s work (n + 1)
+  pub goes-on : (n : ℕ) → n < s .count + 4 → goodMessage (tablesOf (s .edition)) (s .decimals) (messageAt s work (n + 1)) ≡ true → answeredRight (standing s n 0) work ≡ asking s work (n + 1)
   unfolding answeredRight messageAt calling entering workAt
   goes-on n h good = rw (lt-leb (s .count + 4) n h, good)
 
@@ -133,7 +133,7 @@ module _ (s : Session) (work : List ℕ) (sound : Sound s) where
 
   module _ (rooms : ℕ → ℕ) (large : (i : ℕ) → replyRoom ≤ rooms i) (room : ℕ) (long : 64 ≤ room) (n : ℕ) (low : 1 ≤ n) (high : n ≤ s .count + 4) (m : Meter) where
     -- what an exchange comes to
-    pub exchange-is : goodMessage (tablesIn (m .registers)) (messageAt s work n) ≡ true → Listens m (messageAt s work n)
+    pub exchange-is : goodMessage (tablesIn (m .registers)) (familyOf m) (messageAt s work n) ≡ true → Listens m (messageAt s work n)
         → exchange rooms room work (record { turn = asking s work n; meter = m })
         ≡ record { turn = heardAs (standing s n 0) work (onWire (outcomeOf m (messageAt s work n) .reply)) room; meter = outcomeOf m (messageAt s work n) .next }
     unfolding exchangeOf

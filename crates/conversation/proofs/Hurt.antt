@@ -8,7 +8,7 @@ use native.Mathlib.Omega.{arith}
 use borrow.Author.Tests.{le-ltb, ne-eqb}
 use lib.Dec.{eqb, leb}
 use lib.ListN.{length, getD, set}
-use Rattle.state.specs.WellFormed.{tablesIn}
+use Rattle.state.specs.WellFormed.{tablesIn, familyOf}
 use Rattle.values.specs.Edition.{tablesOf}
 use Rattle.line.specs.Characters.{damagedAt, undamagedAll}
 use Rattle.line.specs.Runs.{every}
@@ -59,13 +59,13 @@ module _ (reply : List ℕ) (hurt : undamagedAll reply ≡ false) where
   unfolding accepts
   no-ack = not-sent accepted
 
-  no-answer : (tables letter n : ℕ) → rightRead tables letter n reply ≡ false
+  no-answer : (tables family letter n : ℕ) → rightRead tables family letter n reply ≡ false
   unfolding rightRead answers
-  no-answer tables letter n = rw hurt (and-false (goodFields tables (readOf letter n)))
+  no-answer tables family letter n = rw hurt (and-false (goodFields tables family (readOf letter n)))
 
   no-right-work : (s : Session) (work : List ℕ) (i : ℕ) → rightWork s work i reply ≡ false
   unfolding rightWork
-  no-right-work s work i = either-false (eqb (s .work) 1) (accepts reply) _ no-ack (no-answer (tablesOf (s .edition)) (getD work (i * 2) 0) (getD work (i * 2 + 1) 0))
+  no-right-work s work i = either-false (eqb (s .work) 1) (accepts reply) _ no-ack (no-answer (tablesOf (s .edition)) (s .decimals) (getD work (i * 2) 0) (getD work (i * 2 + 1) 0))
 
   no-right : (s : Session) (work : List ℕ) (n : ℕ) → rightAt s work n reply ≡ false
   unfolding rightAt identifies asksPassword
@@ -136,9 +136,9 @@ module _ (t : Told) (work : List ℕ) (room : ℕ) (o : Opening) (opens : Opens 
       let x = messageAt s work (k + 1) in
       let text : here .turn .text ≡ textOf x = ap (λ (u : Turn). u .text) (st .going k h) in
       let listens = st .heard k h in
-      let good-there : goodMessage (tablesIn (here .meter .registers)) x ≡ true = ap (λ (e : ℕ). goodMessage (tablesOf e) x) (sym (st .edition k h)) ∙ st .built k h in
+      let good-there : goodMessage (tablesIn (here .meter .registers)) (familyOf (here .meter)) x ≡ true = ap₂ (λ (e family : ℕ). goodMessage (tablesOf e) family x) (sym (st .suits k h .0)) (sym (st .suits k h .1)) ∙ st .built k h in
       let un =
-      unheeded (here .meter) x good-there listens (st .optical k h) (shaped (tablesIn (here .meter .registers)) (here .meter .mode) x good-there (listens .allowed)) j b (subst (λ (l : List ℕ). j < length l) text there) d
+      unheeded (here .meter) x good-there listens (st .optical k h) (shaped (tablesIn (here .meter .registers)) (familyOf (here .meter)) (here .meter .mode) x good-there (listens .allowed)) j b (subst (λ (l : List ℕ). j < length l) text there) d
       (rooms k) (roomy .replies k)
       in
       let bytes : set (onWire (here .turn .text)) j b ≡ set (onWire (textOf x)) j b = ap (λ (l : List ℕ). set (onWire l) j b) text in

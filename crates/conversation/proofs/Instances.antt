@@ -7,6 +7,7 @@ use lib.Dec.{lit≤}
 use lib.ListN.{length, take, drop, length-map}
 use lib.Seq.{take-append-seam}
 use Rattle.values.specs.Edition.{isEdition}
+use Rattle.values.specs.Family.{isFamily}
 use Rattle.text.specs.Classes.{between}
 use Rattle.line.specs.Characters.{sent}
 use Rattle.line.specs.Quoted.{char}
@@ -46,7 +47,7 @@ blank-waits : Waits blankMeter
 blank-waits = record { formed = blank-well-formed; optical = unfold isWired in refl; listening = refl; empty = refl }
 
 abbrev told : Told
-told = toldOf 1 0 [] 0 [] 0
+told = toldOf 1 0 0 [] 0 [] 0
 
 abbrev one-read : List ℕ
 one-read = char "K" ∷ 0 ∷ []
@@ -57,5 +58,5 @@ one-opens = refl
 
 pub one-read-done : ReadsDone told one-read (openedReads told one-read) blankMeter (λ k i. replyRoom) (λ k. 64)
 one-read-done =
-    reads-done told one-read 64 (openedReads told one-read) (reads (unfold isEdition between in refl) (lit≤ tt) refl refl) one-opens refl blankMeter blank-waits refl (anyone refl) (plainly refl)
+    reads-done told one-read 64 (openedReads told one-read) (reads (unfold isEdition isFamily between in (refl, refl)) (lit≤ tt) refl refl) one-opens refl blankMeter blank-waits (refl, refl) (anyone refl) (plainly refl)
     (λ k i. replyRoom) (λ k. 64) (record { replies = λ k i. omega arith; messages = λ k. omega arith })

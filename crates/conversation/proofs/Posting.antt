@@ -43,7 +43,7 @@ use Rattle.dialogue.proofs.Dialogue.{idle-listens}
 use Rattle.delivery.specs.Acknowledged.{rowsAfter, deliveredTo}
 use Rattle.delivery.proofs.Rows.{others-kept, named-held}
 use Rattle.conversation.specs.Conversation.{Talk}
-use Rattle.conversation.specs.Ends.{Waits, Calls, Enters, plainly, by-password, Roomy, talkOf, Stops, PostDone, ForEdition}
+use Rattle.conversation.specs.Ends.{Waits, Calls, Enters, plainly, by-password, Roomy, talkOf, Stops, PostDone, ForMeter}
 use Rattle.conversation.proofs.Exchange.{Right, acknowledged}
 use Rattle.conversation.proofs.Course.{EntersAs, renamed, stage, Goes, at-working}
 use Rattle.conversation.proofs.Started.{sound, PostBegan, post-began}
@@ -140,7 +140,7 @@ judged-so : (t : Told) (count : ℕ) (work : List ℕ) (i : ℕ) → t .kind ≡
 unfolding rightWork sessionOf
 judged-so t count work i kind reply = rw kind
 
-module _ (t : Told) (work : List ℕ) (o : Opening) (p : PostBegan t work o) (kind : t .kind ≡ 1) (a : ℕ) (g : Registers) (same : t .edition ≡ g .facts .edition) (few : a ≤ 3) (good : registersGood g ≡ true) (optical : isWired (g .facts .link) ≡ false)
+module _ (t : Told) (work : List ℕ) (o : Opening) (p : PostBegan t work o) (kind : t .kind ≡ 1) (a : ℕ) (g : Registers) (same : (t .edition ≡ g .facts .edition) × (t .decimals ≡ g .facts .decimals)) (few : a ≤ 3) (good : registersGood g ≡ true) (optical : isWired (g .facts .link) ≡ false)
     (calls : Calls t (idle 0 a (resting g) g)) (enters : EntersAs (sessionOf t (length (p .is-post .entries))) a g 4 0) where
   abbrev es : List Entry
   es = p .is-post .entries
@@ -152,7 +152,7 @@ module _ (t : Told) (work : List ℕ) (o : Opening) (p : PostBegan t work o) (ki
   m = idle 0 a (resting g) g
 
   rise : rising (tablesIn g) 0 es ≡ true
-  rise = ap (λ (e : ℕ). rising (tablesOf e) 0 es) (sym same) ∙ good-rising (tablesOf (t .edition)) es (p .is-post .good)
+  rise = ap (λ (e : ℕ). rising (tablesOf e) 0 es) (sym (same .0)) ∙ good-rising (tablesOf (t .edition)) es (p .is-post .good)
 
   -- the registers after some of the lines
   abbrev with-lines : ℕ → Registers
@@ -162,7 +162,7 @@ module _ (t : Told) (work : List ℕ) (o : Opening) (p : PostBegan t work o) (ki
   with-good i =
       let f = formed-registers g good in
       registers-good (with-lines i)
-      (record { facts = f .facts; account = f .account; clock = f .clock; counters = f .counters; tables = after-good (tablesIn g) (g .tables) 0 es i rise (f .tables); archive = f .archive })
+      (record { facts = f .facts; account = f .account; clock = f .clock; counters = f .counters; exported = f .exported; tables = after-good (tablesIn g) (g .tables) 0 es i rise (f .tables); archive = f .archive })
 
   fit-with : (i : ℕ) → Fit 4 0 5 (with-lines i)
   fit-with i = record { known = lit≤ tt; attempts = lit≤ tt; speed = fast-good (g .facts .link) 4 (lit≤ tt); registers = with-good i }
@@ -173,14 +173,14 @@ module _ (t : Told) (work : List ℕ) (o : Opening) (p : PostBegan t work o) (ki
       let e = nth es i in
       let k = entry-good (tablesIn g) 0 es rise i h in
       work-is-row t (length es) work i kind
-      ∙ ap (λ (e : ℕ). rowIn (tablesOf e) (take 36 (drop (i * 36) work))) same
+      ∙ ap (λ (e : ℕ). rowIn (tablesOf e) (take 36 (drop (i * 36) work))) (same .0)
       ∙ ap (λ (w : List ℕ). rowIn (tablesIn g) (take 36 (drop (i * 36) w))) (sym (p .is-post .spelt))
       ∙ ap (rowIn (tablesIn g)) (line-there (tablesIn g) 0 es rise i h)
       ∙ (unfold goodEntry in (line-written (tablesIn g) (e .number) (e .row) (omega (arith, tables-most (g .facts .edition))) (and-left (goodTable (tablesIn g) (e .number)) (goodRow (e .row)) k) (and-right (goodTable (tablesIn g) (e .number)) (goodRow (e .row)) k)))
 
-  same-edition : s .edition ≡ g .facts .edition
+  same-meter : (s .edition ≡ g .facts .edition) × (s .decimals ≡ g .facts .decimals)
   unfolding sessionOf
-  same-edition = same
+  same-meter = same
 
   counted : s .count ≡ length es
   unfolding sessionOf
@@ -202,7 +202,7 @@ module _ (t : Told) (work : List ℕ) (o : Opening) (p : PostBegan t work o) (ki
   goes =
       record {
         sound = sound t (length es) o (p .began);
-        edition = λ i. same-edition;
+        suits = λ i. same-meter;
         few = few;
         fewer = lit≤ tt;
         good = λ i h. with-good i;
@@ -241,7 +241,7 @@ module _ (t : Told) (work : List ℕ) (o : Opening) (p : PostBegan t work o) (ki
 
 -- any started post, with any meter that waits for it
 pub post-done : (t : Told) (work : List ℕ) (room : ℕ) (o : Opening) → Opens t work room o → o .number ≡ 1 → t .kind ≡ 1
-    → (m : Meter) → Waits m → ForEdition t m → Calls t m → Enters t m → (rooms : ℕ → ℕ → ℕ) (buffers : ℕ → ℕ) → Roomy rooms buffers → PostDone t work o m rooms buffers
+    → (m : Meter) → Waits m → ForMeter t m → Calls t m → Enters t m → (rooms : ℕ → ℕ → ℕ) (buffers : ℕ → ℕ) → Roomy rooms buffers → PostDone t work o m rooms buffers
 post-done t work room o opens one kind m w same calls enters rooms buffers roomy =
     let f = formed m (w .formed) in
     let e = waits-is m w in

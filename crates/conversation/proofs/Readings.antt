@@ -10,7 +10,7 @@ use Rattle.values.specs.Edition.{tablesOf}
 use Rattle.frames.specs.Frames.{blockOf, onWire}
 use Rattle.state.specs.declared.Registers.{Registers}
 use Rattle.state.specs.declared.Meter.{Meter}
-use Rattle.state.specs.WellFormed.{registersGood, tablesIn}
+use Rattle.state.specs.WellFormed.{registersGood, tablesIn, familyIn}
 use Rattle.state.specs.Link.{isWired}
 use Rattle.state.specs.Setting.{withAttempts}
 use Rattle.state.proofs.Parts.{formed}
@@ -29,7 +29,7 @@ use Rattle.dialogue.proofs.Dialogue.{idle-listens}
 use Rattle.readback.proofs.Blocks.{block-long}
 use Rattle.recital.proofs.Recital.{answer-block-reads-back}
 use Rattle.conversation.specs.Conversation.{Talk, replyTo}
-use Rattle.conversation.specs.Ends.{Waits, Calls, Enters, Roomy, saidAfter, Stops, ReadBack, ReadsDone, ForEdition}
+use Rattle.conversation.specs.Ends.{Waits, Calls, Enters, Roomy, saidAfter, Stops, ReadBack, ReadsDone, ForMeter}
 use Rattle.conversation.proofs.Right.{block-is-no-nak}
 use Rattle.conversation.proofs.Telling.{Answered, read-answered, read-right}
 use Rattle.conversation.proofs.Exchange.{Right, message-work, reply-is}
@@ -39,18 +39,18 @@ use Rattle.conversation.proofs.Done.{waits-is, ours, Entered, entered, 
 
 -- ---- one read
 
-module _ (work : List ℕ) (i mode b : ℕ) (g : Registers) (fit : Fit mode b 5 g) (k : (eqb mode 3 || eqb mode 4) ≡ true) (built : goodFields (tablesIn g) (readAt work i) ≡ true) where
+module _ (work : List ℕ) (i mode b : ℕ) (g : Registers) (fit : Fit mode b 5 g) (k : (eqb mode 3 || eqb mode 4) ≡ true) (built : goodFields (tablesIn g) (familyIn g) (readAt work i) ≡ true) where
   abbrev letter : ℕ
   letter = getD work (i * 2) 0
 
   abbrev number : ℕ
   number = getD work (i * 2 + 1) 0
 
-  pub read-at : Answered g (readAt work i) (tells letter number)
+  pub read-at : Answered g (readAt work i) (tells (familyIn g) letter number)
   unfolding readAt
   read-at = read-answered g (fit .registers) number letter built
 
-  pub right-read : Right (command (readAt work i)) (idle mode b 5 g) (idle mode b 5 g) (rightRead (tablesIn g) letter number)
+  pub right-read : Right (command (readAt work i)) (idle mode b 5 g) (idle mode b 5 g) (rightRead (tablesIn g) (familyIn g) letter number)
   unfolding goodMessage outcomeOf
   right-read =
       let a = read-at in
@@ -69,7 +69,7 @@ module _ (work : List ℕ) (i mode b : ℕ) (g : Registers) (fit : Fit mode b 5 
 
 -- ---- all reads
 
-module _ (t : Told) (work : List ℕ) (o : Opening) (r : ReadsBegan t work o) (kind : t .kind ≡ 0) (a : ℕ) (g : Registers) (same : t .edition ≡ g .facts .edition) (few : a ≤ 3) (good : registersGood g ≡ true) (optical : isWired (g .facts .link) ≡ false)
+module _ (t : Told) (work : List ℕ) (o : Opening) (r : ReadsBegan t work o) (kind : t .kind ≡ 0) (a : ℕ) (g : Registers) (same : (t .edition ≡ g .facts .edition) × (t .decimals ≡ g .facts .decimals)) (few : a ≤ 3) (good : registersGood g ≡ true) (optical : isWired (g .facts .link) ≡ false)
     (calls : Calls t (idle 0 a (resting g) g)) (enters : Enters t (idle 0 a (resting g) g)) where
   abbrev count : ℕ
   count = length work / 2
@@ -95,27 +95,27 @@ module _ (t : Told) (work : List ℕ) (o : Opening) (r : ReadsBegan t work o) (k
   unfolding workAt sessionOf
   is-read i = rw kind
 
-  judged-so : (i : ℕ) (reply : List ℕ) → rightWork s work i reply ≡ rightRead (tablesIn g) (getD work (i * 2) 0) (getD work (i * 2 + 1) 0) reply
+  judged-so : (i : ℕ) (reply : List ℕ) → rightWork s work i reply ≡ rightRead (tablesIn g) (familyIn g) (getD work (i * 2) 0) (getD work (i * 2 + 1) 0) reply
   unfolding rightWork sessionOf
-  judged-so i reply = rw (kind, same)
+  judged-so i reply = rw (kind, same .0, same .1)
 
   counted : s .count ≡ count
   unfolding sessionOf
   counted = refl
 
-  same-edition : s .edition ≡ g .facts .edition
+  same-meter : (s .edition ≡ g .facts .edition) × (s .decimals ≡ g .facts .decimals)
   unfolding sessionOf
-  same-edition = same
+  same-meter = same
 
-  -- the reads are such as this meter's edition has
-  each-built : (i : ℕ) → i < count → goodFields (tablesIn g) (readAt work i) ≡ true
-  each-built i h = ap (λ (e : ℕ). goodFields (tablesOf e) (readAt work i)) (sym same) ∙ r .each i h
+  -- the reads are such as this meter's edition and family have
+  each-built : (i : ℕ) → i < count → goodFields (tablesIn g) (familyIn g) (readAt work i) ≡ true
+  each-built i h = ap₂ (λ (e family : ℕ). goodFields (tablesOf e) family (readAt work i)) (sym (same .0)) (sym (same .1)) ∙ r .each i h
 
   goes : Goes s work a (e .mode) (e .attempts) (λ i. g)
   goes =
       record {
         sound = sound t count o (r .began);
-        edition = λ i. same-edition;
+        suits = λ i. same-meter;
         few = few;
         fewer = fit-work .attempts;
         good = λ i h. good;
@@ -123,7 +123,7 @@ module _ (t : Told) (work : List ℕ) (o : Opening) (r : ReadsBegan t work o) (k
         ours = ours t count o (r .began) m optical calls;
         enters = e .as-said;
         works = λ i h.
-            renamed (command (readAt work i)) (command (workAt s work i)) _ _ (rightWork s work i) (rightRead (tablesIn g) (getD work (i * 2) 0) (getD work (i * 2 + 1) 0))
+            renamed (command (readAt work i)) (command (workAt s work i)) _ _ (rightWork s work i) (rightRead (tablesIn g) (familyIn g) (getD work (i * 2) 0) (getD work (i * 2 + 1) 0))
             (ap command (is-read i)) (judged-so i)
             (right-read work i (e .mode) (e .attempts) g fit-work works-in (each-built i (omega (arith, counted))));
       }
@@ -167,7 +167,7 @@ module _ (t : Told) (work : List ℕ) (o : Opening) (r : ReadsBegan t work o) (k
 
 -- any started session of reads, with any meter that waits for it
 pub reads-done : (t : Told) (work : List ℕ) (room : ℕ) (o : Opening) → Opens t work room o → o .number ≡ 1 → t .kind ≡ 0
-    → (m : Meter) → Waits m → ForEdition t m → Calls t m → Enters t m → (rooms : ℕ → ℕ → ℕ) (buffers : ℕ → ℕ) → Roomy rooms buffers → ReadsDone t work o m rooms buffers
+    → (m : Meter) → Waits m → ForMeter t m → Calls t m → Enters t m → (rooms : ℕ → ℕ → ℕ) (buffers : ℕ → ℕ) → Roomy rooms buffers → ReadsDone t work o m rooms buffers
 reads-done t work room o opens one kind m w same calls enters rooms buffers roomy =
     let f = formed m (w .formed) in
     let e = waits-is m w in

@@ -84,9 +84,9 @@ module _ (content : List ℕ) (plain : every isContent content ≡ true) (charac
   unfolding dataIn
   data-there = rw (part-of-block content plain) (part-is-content content)
 
-  pub block-answers : (letter n : ℕ) → tells letter n content ≡ true → answers letter n (onWire (blockOf content)) ≡ true
+  pub block-answers : (family letter n : ℕ) → tells family letter n content ≡ true → answers family letter n (onWire (blockOf content)) ≡ true
   unfolding answers answersIn
-  block-answers letter n h =
+  block-answers family letter n h =
       rw (sent-undamaged-all (blockOf content), sent-comes-back-all (blockOf content) (block-characters content characters), data-there, part-of-block content plain) h
 
 -- and no block is the NAK

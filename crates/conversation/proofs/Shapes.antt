@@ -20,7 +20,7 @@ use Rattle.frames.specs.Commands.{bracketed}
 use Rattle.frames.specs.Session.{signOn, closingSignOn, signOnTo, wiredLine, wiredSignOn, confirmation, goodSpeed, enterData, passwordData}
 use Rattle.datasets.proofs.Characters.{Within, within}
 use Rattle.commands.specs.Building.{goodChoice}
-use Rattle.commands.specs.Spoken.{Command, enter, password, readClock, readSerial, readAccount, readTotal, readZone, readTable, writeClock, writeAccount, writeTable, goodFields, lettersOf, dataOf, spoken}
+use Rattle.commands.specs.Spoken.{Command, enter, password, readClock, readSerial, readAccount, readTotal, readZone, readTotalOut, readZoneOut, readTable, writeClock, writeAccount, writeTable, goodFields, lettersOf, dataOf, spoken}
 use Rattle.commands.specs.Messages.{Message, call, close, callTo, callWired, confirm, command, leave, textOf, goodMessage}
 use Rattle.dialogue.specs.Messages.{allowedAt, allowedIn}
 use Rattle.dialogue.proofs.Commands.{bodyOf}
@@ -134,54 +134,56 @@ high : (mode : ℕ) → (eqb mode 3 || eqb mode 4) ≡ true → 3 ≤ mode
 high mode h = ⊎-elim (λ e. omega (arith, eqb-true mode 3 e)) (four mode) (or-cases (eqb mode 3) (eqb mode 4) h)
 
 -- an entry opens nothing more, and every other command has mode 3 or 4
-entry-or-high : (tables : ℕ) (c : Command) (mode : ℕ) → goodFields tables c ≡ true → allowedAt c mode ≡ true → (every mild (bodyOf c) ≡ true) ⊎ (3 ≤ mode)
+entry-or-high : (tables family : ℕ) (c : Command) (mode : ℕ) → goodFields tables family c ≡ true → allowedAt c mode ≡ true → (every mild (bodyOf c) ≡ true) ⊎ (3 ≤ mode)
 unfolding allowedAt lettersOf sameText matching goodFields dataOf enterData passwordData bracketed every mild
-entry-or-high tables enter mode h k = inl refl
-entry-or-high tables (password p) mode h k = inl (every-append mild p (41 ∷ []) (digits-mild 8 p h) refl)
-entry-or-high tables readClock mode h k = inr (high mode k)
-entry-or-high tables readSerial mode h k = inr (high mode k)
-entry-or-high tables readAccount mode h k = inr (high mode k)
-entry-or-high tables readTotal mode h k = inr (high mode k)
-entry-or-high tables (readZone n) mode h k = inr (high mode k)
-entry-or-high tables (readTable n) mode h k = inr (high mode k)
-entry-or-high tables (writeClock c) mode h k = inr (four mode k)
-entry-or-high tables (writeAccount a) mode h k = inr (four mode k)
-entry-or-high tables (writeTable n row) mode h k = inr (four mode k)
+entry-or-high tables family enter mode h k = inl refl
+entry-or-high tables family (password p) mode h k = inl (every-append mild p (41 ∷ []) (digits-mild 8 p h) refl)
+entry-or-high tables family readClock mode h k = inr (high mode k)
+entry-or-high tables family readSerial mode h k = inr (high mode k)
+entry-or-high tables family readAccount mode h k = inr (high mode k)
+entry-or-high tables family readTotal mode h k = inr (high mode k)
+entry-or-high tables family (readZone n) mode h k = inr (high mode k)
+entry-or-high tables family readTotalOut mode h k = inr (high mode k)
+entry-or-high tables family (readZoneOut n) mode h k = inr (high mode k)
+entry-or-high tables family (readTable n) mode h k = inr (high mode k)
+entry-or-high tables family (writeClock c) mode h k = inr (four mode k)
+entry-or-high tables family (writeAccount a) mode h k = inr (four mode k)
+entry-or-high tables family (writeTable n row) mode h k = inr (four mode k)
 
-body-calm : (tables mode : ℕ) (c : Command) → goodFields tables c ≡ true → allowedAt c mode ≡ true → every (calm mode) (bodyOf c) ≡ true
-body-calm tables mode c h k = ⊎-elim (all-mild mode (bodyOf c)) shown (entry-or-high tables c mode h k)
+body-calm : (tables family mode : ℕ) (c : Command) → goodFields tables family c ≡ true → allowedAt c mode ≡ true → every (calm mode) (bodyOf c) ≡ true
+body-calm tables family mode c h k = ⊎-elim (all-mild mode (bodyOf c)) shown (entry-or-high tables family c mode h k)
   where
     shown : 3 ≤ mode → every (calm mode) (bodyOf c) ≡ true
     shown l =
         let calms : Within isPrintable (calm mode) = λ x. printable-calm mode x l in
         every-append (calm mode) (lettersOf c) (2 ∷ dataOf c) (every-weaker isPrintable (calm mode) calms (lettersOf c) (letters-printable c))
-        (and-then-all (calm mode) 2 (dataOf c) (mild-calm mode 2 stx-mild) (every-weaker isPrintable (calm mode) calms (dataOf c) (command-printable tables c h)))
+        (and-then-all (calm mode) 2 (dataOf c) (mild-calm mode 2 stx-mild) (every-weaker isPrintable (calm mode) calms (dataOf c) (command-printable tables family c h)))
 
-shape-command : (tables mode : ℕ) (c : Command) → goodFields tables c ≡ true → allowedAt c mode ≡ true → Shape mode (spoken c)
+shape-command : (tables family mode : ℕ) (c : Command) → goodFields tables family c ≡ true → allowedAt c mode ≡ true → Shape mode (spoken c)
 unfolding spoken frameOf closed
-shape-command tables mode c h k =
+shape-command tables family mode c h k =
     record {
       first = 1;
       inside = bodyOf c ++ (3 ∷ []);
       last = bccOf (bodyOf c ++ (3 ∷ []));
       is = refl;
-      opens-none = every-append (calm mode) (bodyOf c) (3 ∷ []) (body-calm tables mode c h k) (all-mild mode (3 ∷ []) (unfold every mild in refl));
+      opens-none = every-append (calm mode) (bodyOf c) (3 ∷ []) (body-calm tables family mode c h k) (all-mild mode (3 ∷ []) (unfold every mild in refl));
     }
 
 -- ---- every message
 
-pub shaped : (tables mode : ℕ) (x : Message) → goodMessage tables x ≡ true → allowedIn x mode ≡ true → Shape mode (textOf x)
+pub shaped : (tables family mode : ℕ) (x : Message) → goodMessage tables family x ≡ true → allowedIn x mode ≡ true → Shape mode (textOf x)
 unfolding goodMessage allowedIn textOf
-shaped tables mode call h k =
+shaped tables family mode call h k =
     unfold signOn in
     (record { first = 47; inside = 63 ∷ 33 ∷ 13 ∷ []; last = 10; is = refl; opens-none = all-mild mode (63 ∷ 33 ∷ 13 ∷ []) (unfold every mild in refl) })
-shaped tables mode close h k =
+shaped tables family mode close h k =
     unfold closingSignOn in
     (record { first = 47; inside = 67 ∷ 33 ∷ 13 ∷ []; last = 10; is = refl; opens-none = all-mild mode (67 ∷ 33 ∷ 13 ∷ []) (unfold every mild in refl) })
-shaped tables mode (callTo s) h k = shape-to mode s h
-shaped tables mode (callWired s) h k = shape-wired mode s h
-shaped tables mode (confirm v y) h k = shape-confirm mode v y (and-left (goodSpeed v) (goodChoice y) h) (and-right (goodSpeed v) (goodChoice y) h)
-shaped tables mode (command c) h k = shape-command tables mode c h k
-shaped tables mode leave h k =
+shaped tables family mode (callTo s) h k = shape-to mode s h
+shaped tables family mode (callWired s) h k = shape-wired mode s h
+shaped tables family mode (confirm v y) h k = shape-confirm mode v y (and-left (goodSpeed v) (goodChoice y) h) (and-right (goodSpeed v) (goodChoice y) h)
+shaped tables family mode (command c) h k = shape-command tables family mode c h k
+shaped tables family mode leave h k =
     unfold bareFrame closed in
     (record { first = 1; inside = 66 ∷ 48 ∷ 3 ∷ []; last = bccOf (66 ∷ 48 ∷ 3 ∷ []); is = refl; opens-none = all-mild mode (66 ∷ 48 ∷ 3 ∷ []) (unfold every mild in refl) })

@@ -8,7 +8,7 @@ use borrow.Author.Tests.{eqb-true, le-leb, eqb-false, ltb-false}
 use lib.Dec.{eqb, ltb}
 use lib.ListN.{length, replicate}
 use Rattle.values.proofs.Editions.{tables-most}
-use Rattle.values.specs.Edition.{isEdition, tablesOf}
+use Rattle.values.specs.Edition.{tablesOf}
 use Rattle.line.specs.Runs.{every}
 use Rattle.line.proofs.Runs.{and-left, and-right, and-both}
 use Rattle.text.specs.Classes.{between}
@@ -19,7 +19,7 @@ use Rattle.post.specs.Grammar.{Entry, goodEntries, IsPost}
 use Rattle.post.proofs.Reading.{good-rising, count-entries}
 use Rattle.session.specs.Messages.{calling, readOf, readAt, readsGood, messageAt}
 use Rattle.session.specs.Standing.{toldGood, keptGood, workGood, sessionTold}
-use Rattle.session.specs.Starting.{Told, Opening, sessionOf, opened, openedReads, openedPost, unopened, Opens, small, nothing, reads, posts, others, unknown}
+use Rattle.session.specs.Starting.{Told, Opening, sessionOf, opened, openedReads, openedPost, unopened, Opens, Known, small, nothing, reads, posts, others, unknown, strange}
 use Rattle.state.specs.declared.Meter.{Meter}
 use Rattle.conversation.specs.Conversation.{begun, asking}
 use Rattle.conversation.proofs.Exchange.{Sound}
@@ -38,7 +38,7 @@ pub record Began (t : Told) (count : ℕ) (o : Opening) : Type 0 where
   pub is : o ≡ record { number = 1; place = 0; session = sessionOf t count; text = textOf (calling (sessionOf t count)) }
   pub named : toldGood (t .named) (goodSerial (t .serial)) ≡ true
   pub access : toldGood (t .access) (goodPassword (t .password)) ≡ true
-  pub edition : isEdition (t .edition) ≡ true
+  pub meter : Known t
   pub works : workGood (tablesOf (t .edition)) (t .kind) (t .access) count ≡ true
   pub some : 1 ≤ count
   pub few : count ≤ 32
@@ -54,12 +54,12 @@ module _ (t : Told) (count : ℕ) (good : Bool) where
   opened-is : opened t count good .number ≡ 1 → opened t count good ≡ record { number = 1; place = 0; session = sessionOf t count; text = textOf (calling (sessionOf t count)) }
   opened-is e = let h = opened-tests e in unfold opened in (rw h)
 
-  opened-began : opened t count good .number ≡ 1 → isEdition (t .edition) ≡ true → workGood (tablesOf (t .edition)) (t .kind) (t .access) count ≡ true → 1 ≤ count → count ≤ 32 → Began t count (opened t count good)
+  opened-began : opened t count good .number ≡ 1 → Known t → workGood (tablesOf (t .edition)) (t .kind) (t .access) count ≡ true → 1 ≤ count → count ≤ 32 → Began t count (opened t count good)
   opened-began e known works some few =
       let h = and-left tests good (opened-tests e) in
       let n = toldGood (t .named) (goodSerial (t .serial)) in
       let a = toldGood (t .access) (goodPassword (t .password)) in
-      record { is = opened-is e; named = and-left n a h; access = and-right n a h; edition = known; works = works; some = some; few = few }
+      record { is = opened-is e; named = and-left n a h; access = and-right n a h; meter = known; works = works; some = some; few = few }
 
 -- ---- the session that is told all that
 
@@ -81,7 +81,7 @@ module _ (t : Told) (count : ℕ) (o : Opening) (b : Began t count o) where
   sound =
       record {
         told =
-            and-both _ _ (b .edition)
+            and-both _ _ (and-both _ _ (b .meter .0) (b .meter .1))
             (and-both _ _ (kept-told (t .named) goodSerial (t .serial) (replicate 10 0) (unfold every between in refl) (b .named))
             (kept-told (t .access) goodPassword (t .password) (replicate 8 0) (unfold every between in refl) (b .access)));
         works = b .works;
@@ -97,45 +97,46 @@ module _ (t : Told) (count : ℕ) (o : Opening) (b : Began t count o) where
 -- ---- reads
 
 -- each read of a good list can be built
-reads-each : (tables : ℕ) (work : List ℕ) → readsGood tables work ≡ true → (i : ℕ) → i < length work / 2 → goodFields tables (readAt work i) ≡ true
+reads-each : (tables family : ℕ) (work : List ℕ) → readsGood tables family work ≡ true → (i : ℕ) → i < length work / 2 → goodFields tables family (readAt work i) ≡ true
 unfolding readsGood readAt
-reads-each tables [] h i l = absurd (omega arith)
-reads-each tables (letter ∷ []) h i l = absurd (omega arith)
-reads-each tables (letter ∷ n ∷ more) h zero l = and-left (goodFields tables (readOf letter n)) (readsGood tables more) h
-reads-each tables (letter ∷ n ∷ more) h (suc i) l =
+reads-each tables family [] h i l = absurd (omega arith)
+reads-each tables family (letter ∷ []) h i l = absurd (omega arith)
+reads-each tables family (letter ∷ n ∷ more) h zero l = and-left (goodFields tables family (readOf letter n)) (readsGood tables family more) h
+reads-each tables family (letter ∷ n ∷ more) h (suc i) l =
     let e : suc i * 2 ≡ suc (suc (i * 2)) = omega arith in
     let f : suc i * 2 + 1 ≡ suc (suc (i * 2 + 1)) = omega arith in
-    rw (f, e) (reads-each tables more (and-right (goodFields tables (readOf letter n)) (readsGood tables more) h) i (omega arith))
+    rw (f, e) (reads-each tables family more (and-right (goodFields tables family (readOf letter n)) (readsGood tables family more) h) i (omega arith))
 
-reads-some : (tables : ℕ) (work : List ℕ) → readsGood tables work ≡ true → (length work ≡ 0 → ⊥) → 1 ≤ length work / 2
+reads-some : (tables family : ℕ) (work : List ℕ) → readsGood tables family work ≡ true → (length work ≡ 0 → ⊥) → 1 ≤ length work / 2
 unfolding readsGood
-reads-some tables [] h some = absurd (some refl)
-reads-some tables (letter ∷ []) h some = absurd (let e : _≡_ {A = ℕ} 0 1 = cc in omega arith)
-reads-some tables (letter ∷ n ∷ more) h some = omega arith
+reads-some tables family [] h some = absurd (some refl)
+reads-some tables family (letter ∷ []) h some = absurd (let e : _≡_ {A = ℕ} 0 1 = cc in omega arith)
+reads-some tables family (letter ∷ n ∷ more) h some = omega arith
 
 pub record ReadsBegan (t : Told) (work : List ℕ) (o : Opening) : Type 0 where
   pub began : Began t (length work / 2) o
-  pub each : (i : ℕ) → i < length work / 2 → goodFields (tablesOf (t .edition)) (readAt work i) ≡ true
+  pub each : (i : ℕ) → i < length work / 2 → goodFields (tablesOf (t .edition)) (t .decimals) (readAt work i) ≡ true
 
-reads-opened : (t : Told) (work : List ℕ) → isEdition (t .edition) ≡ true → t .kind ≡ 0 → openedReads t work .number ≡ 1 → ReadsBegan t work (openedReads t work)
+reads-opened : (t : Told) (work : List ℕ) → Known t → t .kind ≡ 0 → openedReads t work .number ≡ 1 → ReadsBegan t work (openedReads t work)
 unfolding openedReads
 reads-opened t work known kind e =
     let n = length work in
-    let here = opened t (n / 2) (readsGood (tablesOf (t .edition)) work) in
+    let here = opened t (n / 2) (readsGood (tablesOf (t .edition)) (t .decimals) work) in
     let some : eqb n 0 ≡ false = taken-second (eqb n 0) (unopened 28 0) (cond (ltb 64 n) (unopened 29 0) here) (λ z. omega arith) e in
     let e1 : cond (ltb 64 n) (unopened 29 0) here .number ≡ 1 = rw some at e in
     let few : ltb 64 n ≡ false = taken-second (ltb 64 n) (unopened 29 0) here (λ z. omega arith) e1 in
     let e2 : here .number ≡ 1 = rw few at e1 in
-    let good = and-right (tests t (n / 2) (readsGood (tablesOf (t .edition)) work)) (readsGood (tablesOf (t .edition)) work) (opened-tests t (n / 2) (readsGood (tablesOf (t .edition)) work) e2) in
+    let good = and-right (tests t (n / 2) (readsGood (tablesOf (t .edition)) (t .decimals) work)) (readsGood (tablesOf (t .edition)) (t .decimals) work) (opened-tests t (n / 2) (readsGood (tablesOf (t .edition)) (t .decimals) work) e2) in
     let small : n ≤ 64 = ltb-false 64 n few in
     rw (some, few)
     (record {
-      began = opened-began t (n / 2) (readsGood (tablesOf (t .edition)) work) e2 known (unfold workGood in (rw kind)) (reads-some (tablesOf (t .edition)) work good (eqb-false n 0 some)) (omega arith);
-      each = reads-each (tablesOf (t .edition)) work good;
+      began = opened-began t (n / 2) (readsGood (tablesOf (t .edition)) (t .decimals) work) e2 known (unfold workGood in (rw kind)) (reads-some (tablesOf (t .edition)) (t .decimals) work good (eqb-false n 0 some)) (omega arith);
+      each = reads-each (tablesOf (t .edition)) (t .decimals) work good;
     })
 
 pub reads-began : (t : Told) (work : List ℕ) (room : ℕ) (o : Opening) → Opens t work room o → o .number ≡ 1 → t .kind ≡ 0 → ReadsBegan t work o
 reads-began t work room o (unknown h e) one kind = absurd (omega (arith, sym (ap (λ (x : Opening). x .number) e) ∙ one))
+reads-began t work room o (strange known h e) one kind = absurd (omega (arith, sym (ap (λ (x : Opening). x .number) e) ∙ one))
 reads-began t work room o (small known h e) one kind = absurd (omega (arith, sym (ap (λ (x : Opening). x .number) e) ∙ one))
 reads-began t work room o (nothing known h a b e) one kind = absurd (a kind)
 reads-began t work room o (reads known h k e) one kind =
@@ -163,7 +164,7 @@ told-one : (flag : ℕ) (good : Bool) → toldGood flag good ≡ true → eqb fl
 unfolding toldGood
 told-one flag good h z = eqb-true flag 1 (and-left (eqb flag 1) good (rw z at h))
 
-post-opened : (t : Told) (work : List ℕ) → isEdition (t .edition) ≡ true → t .kind ≡ 1 → (p : IsPost (tablesOf (t .edition)) work) → openedPost t (length (p .entries)) .number ≡ 1
+post-opened : (t : Told) (work : List ℕ) → Known t → t .kind ≡ 1 → (p : IsPost (tablesOf (t .edition)) work) → openedPost t (length (p .entries)) .number ≡ 1
     → PostBegan t work (openedPost t (length (p .entries)))
 unfolding openedPost
 post-opened t work known kind p e =
@@ -185,6 +186,7 @@ post-opened t work known kind p e =
 
 pub post-began : (t : Told) (work : List ℕ) (room : ℕ) (o : Opening) → Opens t work room o → o .number ≡ 1 → t .kind ≡ 1 → PostBegan t work o
 post-began t work room o (unknown h e) one kind = absurd (omega (arith, sym (ap (λ (x : Opening). x .number) e) ∙ one))
+post-began t work room o (strange known h e) one kind = absurd (omega (arith, sym (ap (λ (x : Opening). x .number) e) ∙ one))
 post-began t work room o (small known h e) one kind = absurd (omega (arith, sym (ap (λ (x : Opening). x .number) e) ∙ one))
 post-began t work room o (nothing known h a b e) one kind = absurd (b kind)
 post-began t work room o (reads known h k e) one kind = absurd (omega (arith, k, kind))
@@ -200,6 +202,7 @@ pub record SomeBegan (t : Told) (o : Opening) : Type 0 where
 
 pub some-began : (t : Told) (work : List ℕ) (room : ℕ) (o : Opening) → Opens t work room o → o .number ≡ 1 → SomeBegan t o
 some-began t work room o (unknown h e) one = absurd (omega (arith, sym (ap (λ (x : Opening). x .number) e) ∙ one))
+some-began t work room o (strange known h e) one = absurd (omega (arith, sym (ap (λ (x : Opening). x .number) e) ∙ one))
 some-began t work room o (small known h e) one = absurd (omega (arith, sym (ap (λ (x : Opening). x .number) e) ∙ one))
 some-began t work room o (nothing known h a b e) one = absurd (omega (arith, sym (ap (λ (x : Opening). x .number) e) ∙ one))
 some-began t work room o (reads known h k e) one =

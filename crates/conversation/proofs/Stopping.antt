@@ -17,7 +17,7 @@ use Rattle.values.specs.Registers.{goodSerial, goodPassword}
 use Rattle.frames.specs.Frames.{onWire}
 use Rattle.state.specs.declared.Registers.{Registers}
 use Rattle.state.specs.declared.Meter.{Meter}
-use Rattle.state.specs.WellFormed.{speedGood, registersGood, tablesIn, editionOf}
+use Rattle.state.specs.WellFormed.{speedGood, registersGood, tablesIn, familyIn, familyOf}
 use Rattle.state.specs.Setting.{withAttempts}
 use Rattle.state.proofs.Parts.{formed}
 use Rattle.replies.specs.Fixed.{refused}
@@ -37,9 +37,9 @@ use Rattle.dialogue.specs.Messages.{allowedAt, allowedIn, triedWith, obeyed, ou
 use Rattle.dialogue.proofs.Held.{idle, resting}
 use Rattle.dialogue.proofs.Dialogue.{idle-listens}
 use Rattle.conversation.specs.Conversation.{Talk, begun, heardAs, converse, asking, stopped}
-use Rattle.conversation.specs.Ends.{Waits, Calls, Roomy, StopsAfter, talkOf, Stops, ForEdition}
+use Rattle.conversation.specs.Ends.{Waits, Calls, Suits, Roomy, StopsAfter, talkOf, Stops, ForMeter}
 use Rattle.conversation.proofs.Exchange.{Ended, exchange-is, heard-nak, heard-nothing, stays-long}
-use Rattle.conversation.proofs.Course.{RightHere, right-call, right-confirm, stage, stage-optical, for-edition, talks, talk-last}
+use Rattle.conversation.proofs.Course.{RightHere, right-call, right-confirm, stage, stage-optical, for-meter, talks, talk-last}
 use Rattle.conversation.proofs.Started.{Began, sound, begins, SomeBegan, some-began}
 use Rattle.conversation.proofs.Done.{waits-is, waiting, ours}
 
@@ -52,7 +52,7 @@ not-same s t h = pick (sameText s t) refl
 
 -- ---- the exchange that stops it
 
-module _ (t : Told) (work : List ℕ) (o : Opening) (count : ℕ) (began : Began t count o) (a : ℕ) (g : Registers) (same : t .edition ≡ g .facts .edition) (few : a ≤ 3) (good : registersGood g ≡ true) (optical : isWired (g .facts .link) ≡ false)
+module _ (t : Told) (work : List ℕ) (o : Opening) (count : ℕ) (began : Began t count o) (a : ℕ) (g : Registers) (same : (t .edition ≡ g .facts .edition) × (t .decimals ≡ g .facts .decimals)) (few : a ≤ 3) (good : registersGood g ≡ true) (optical : isWired (g .facts .link) ≡ false)
     (rooms : ℕ → ℕ → ℕ) (buffers : ℕ → ℕ) (roomy : Roomy rooms buffers) where
   abbrev s : Session
   s = sessionOf t count
@@ -67,28 +67,28 @@ module _ (t : Told) (work : List ℕ) (o : Opening) (count : ℕ) (began : Began
   unfolding sessionOf
   counted = began .some
 
-  same-edition : s .edition ≡ g .facts .edition
+  same-meter : (s .edition ≡ g .facts .edition) × (s .decimals ≡ g .facts .decimals)
   unfolding sessionOf
-  same-edition = same
+  same-meter = same
 
-  same-at : (k : ℕ) → s .edition ≡ editionOf (at k)
+  same-at : (k : ℕ) → Suits s (at k)
   unfolding stage
-  same-at zero = same-edition
-  same-at (suc zero) = same-edition
-  same-at (suc (suc zero)) = same-edition
+  same-at zero = same-meter
+  same-at (suc zero) = same-meter
+  same-at (suc (suc zero)) = same-meter
   same-at (suc (suc (suc i))) = go (leb i (s .count))
     where
-      go : (p : Bool) → s .edition ≡ editionOf (cond p (idle 3 a 5 g) (idle 0 a (resting g) g))
-      go true = same-edition
-      go false = same-edition
+      go : (p : Bool) → Suits s (cond p (idle 3 a 5 g) (idle 0 a (resting g) g))
+      go true = same-meter
+      go false = same-meter
 
   -- what the session builds, the meter takes
-  taken-there : (k : ℕ) → goodMessage (tablesOf (s .edition)) (messageAt s work (k + 1)) ≡ true → goodMessage (tablesIn (at k .registers)) (messageAt s work (k + 1)) ≡ true
-  taken-there k h = ap (λ (e : ℕ). goodMessage (tablesOf e) (messageAt s work (k + 1))) (sym (same-at k)) ∙ h
+  taken-there : (k : ℕ) → goodMessage (tablesOf (s .edition)) (s .decimals) (messageAt s work (k + 1)) ≡ true → goodMessage (tablesIn (at k .registers)) (familyOf (at k)) (messageAt s work (k + 1)) ≡ true
+  taken-there k h = ap₂ (λ (e family : ℕ). goodMessage (tablesOf e) family (messageAt s work (k + 1))) (sym (same-at k .0)) (sym (same-at k .1)) ∙ h
 
   -- some messages go well, and the next is answered with NAK or nothing
   module _ (last : ℕ) (within : last ≤ 2) (rights : (k : ℕ) → k < last → RightHere s work (k + 1) (at k) (at (suc k)))
-      (built : goodMessage (tablesOf (s .edition)) (messageAt s work (last + 1)) ≡ true) (hears : Listens (at last) (messageAt s work (last + 1)))
+      (built : goodMessage (tablesOf (s .edition)) (s .decimals) (messageAt s work (last + 1)) ≡ true) (hears : Listens (at last) (messageAt s work (last + 1)))
       (reply : List ℕ) (fact b : ℕ) (fewer : b ≤ 3) (outcome : (outcomeOf (at last) (messageAt s work (last + 1)) .reply ≡ reply) × (outcomeOf (at last) (messageAt s work (last + 1)) .next ≡ idle 0 b (resting g) g))
       (other : (fact ≡ 2) ⊎ (fact ≡ 4))
       (turned : (room : ℕ) → 64 ≤ room → heardAs (standing s (last + 1) 0) work (onWire reply) room ≡ stopped s (last + 1) fact) where
@@ -121,11 +121,11 @@ module _ (t : Told) (work : List ℕ) (o : Opening) (count : ℕ) (began : Began
 
     -- each message is one that the meter listens for
     abbrev Heard : ℕ → Type 0
-    Heard k = (goodMessage (tablesOf (s .edition)) (messageAt s work (k + 1)) ≡ true) × Listens (at k) (messageAt s work (k + 1))
+    Heard k = (goodMessage (tablesOf (s .edition)) (s .decimals) (messageAt s work (k + 1)) ≡ true) × Listens (at k) (messageAt s work (k + 1))
 
     heard-each : (k : ℕ) → k < suc last → Heard k
     heard-each k h =
-        ⊎-elim (λ l. subst Heard {x = last} {y = k} (omega arith) (built, hears)) (λ l. (for-edition s (at k) (messageAt s work (k + 1)) (same-at k) (rights k l .good), rights k l .hears)) (le-or-lt last k)
+        ⊎-elim (λ l. subst Heard {x = last} {y = k} (omega arith) (built, hears)) (λ l. (for-meter s (at k) (messageAt s work (k + 1)) (same-at k) (rights k l .good), rights k l .hears)) (le-or-lt last k)
 
     pub stops-at : Stops t work o m rooms buffers (suc last) fact (idle 0 b (resting g) g)
     stops-at =
@@ -134,7 +134,7 @@ module _ (t : Told) (work : List ℕ) (o : Opening) (count : ℕ) (began : Began
           within = omega (arith, counted);
           going = λ k h. ap (λ (x : Talk). x .turn) (stands-at k h);
           built = λ k h. heard-each k h .0;
-          edition = λ k h. subst (λ (x : Meter). s .edition ≡ editionOf x) (sym (ap (λ (x : Talk). x .meter) (stands-at k h))) (same-at k);
+          suits = λ k h. subst (Suits s) (sym (ap (λ (x : Talk). x .meter) (stands-at k h))) (same-at k);
           heard = λ k h. subst (λ (x : Meter). Listens x (messageAt s work (k + 1))) (sym (ap (λ (x : Talk). x .meter) (stands-at k h))) (heard-each k h .1);
           optical = λ k h. ap (λ (x : Talk). isWired (linkOf (x .meter))) (stands-at k h) ∙ stage-optical (s .count) a 3 a (λ i. g) (λ i. optical) k;
           stops = ap (λ (x : Talk). x .turn) stops-here ∙ ap (λ (n : ℕ). stopped s n fact) {x = last + 1} {y = suc last} (omega arith);
@@ -154,14 +154,14 @@ module _ (t : Told) (work : List ℕ) (o : Opening) (count : ℕ) (began : Began
     unfolding messageAt entering sessionOf
     is-password = rw access
 
-    password-good : goodMessage (tablesOf (s .edition)) given ≡ true
+    password-good : goodMessage (tablesOf (s .edition)) (s .decimals) given ≡ true
     unfolding goodMessage goodFields
     password-good = told-is (t .access) (goodPassword (t .password)) (began .access) access
 
     first-two : (k : ℕ) → k < 2 → RightHere s work (k + 1) (at k) (at (suc k))
     unfolding stage
-    first-two zero h = right-call s work a g same-edition few good (ours t count o began m optical calls)
-    first-two (suc zero) h = right-confirm s work a g same-edition few good
+    first-two zero h = right-call s work a g same-meter few good (ours t count o began m optical calls)
+    first-two (suc zero) h = right-confirm s work a g same-meter few good
     first-two (suc (suc k)) h = absurd (omega arith)
 
     password-heard : Listens (at 2) given
@@ -176,7 +176,7 @@ module _ (t : Told) (work : List ℕ) (o : Opening) (count : ℕ) (began : Began
     pub refused-there : (b number : ℕ) → b ≤ 3 → triedWith (idle 2 a 5 g) (t .password) ≡ saying number 5 refused (idle 0 b (resting g) g) → Stops t work o m rooms buffers 3 2 (idle 0 b (resting g) g)
     refused-there b number fewer e =
         let outcome : outcomeOf (at 2) (messageAt s work 3) ≡ saying number 5 refused (idle 0 b (resting g) g) = ap (outcomeOf (at 2)) is-password ∙ password-tried ∙ e in
-        stops-at 2 (lit≤ tt) first-two (subst (λ (x : Message). goodMessage (tablesOf (s .edition)) x ≡ true) (sym is-password) password-good)
+        stops-at 2 (lit≤ tt) first-two (subst (λ (x : Message). goodMessage (tablesOf (s .edition)) (s .decimals) x ≡ true) (sym is-password) password-good)
         (subst (Listens (at 2)) (sym is-password) password-heard) refused 2 b fewer (ap (λ (x : Outcome). x .reply) outcome, ap (λ (x : Outcome). x .next) outcome) (inl refl)
         (λ room long. heard-nak s work (sound t count o began) 3 (lit≤ tt) (omega (arith, counted)) room long)
 
@@ -195,7 +195,7 @@ module _ (t : Told) (work : List ℕ) (o : Opening) (count : ℕ) (began : Began
     unfolding messageAt calling sessionOf
     is-call = rw named
 
-    call-good : goodMessage (tablesOf (s .edition)) (callTo (t .serial)) ≡ true
+    call-good : goodMessage (tablesOf (s .edition)) (s .decimals) (callTo (t .serial)) ≡ true
     unfolding goodMessage
     call-good = told-is (t .named) (goodSerial (t .serial)) (began .named) named
 
@@ -210,13 +210,13 @@ module _ (t : Told) (work : List ℕ) (o : Opening) (count : ℕ) (began : Began
     pub unanswered : Stops t work o m rooms buffers 1 4 m
     unanswered =
         let outcome : outcomeOf (at 0) (messageAt s work 1) ≡ silent 0 m = ap (outcomeOf (at 0)) is-call ∙ not-called in
-        stops-at 0 (lit≤ tt) (λ k h. absurd (omega arith)) (subst (λ (x : Message). goodMessage (tablesOf (s .edition)) x ≡ true) (sym is-call) call-good)
+        stops-at 0 (lit≤ tt) (λ k h. absurd (omega arith)) (subst (λ (x : Message). goodMessage (tablesOf (s .edition)) (s .decimals) x ≡ true) (sym is-call) call-good)
         (subst (Listens (at 0)) (sym is-call) call-heard) [] 4 a few (ap (λ (x : Outcome). x .reply) outcome, ap (λ (x : Outcome). x .next) outcome) (inr refl)
         (λ room long. heard-nothing s work (sound t count o began) 1 (lit≤ tt) (omega (arith, counted)) room long)
 
 -- ---- any started session, with any meter that waits
 
-module _ (t : Told) (work : List ℕ) (room : ℕ) (o : Opening) (opens : Opens t work room o) (one : o .number ≡ 1) (m : Meter) (w : Waits m) (same : ForEdition t m)
+module _ (t : Told) (work : List ℕ) (room : ℕ) (o : Opening) (opens : Opens t work room o) (one : o .number ≡ 1) (m : Meter) (w : Waits m) (same : ForMeter t m)
     (rooms : ℕ → ℕ → ℕ) (buffers : ℕ → ℕ) (roomy : Roomy rooms buffers) where
   abbrev begun-so : SomeBegan t o
   begun-so = some-began t work room o opens one

@@ -1,11 +1,11 @@
 -- Each read, answered by a meter with good registers: the block tells what was asked, so it is right to the head. Assumes nothing.
 use mathlib.Core.Path.{_≡_, refl, sym, subst}
 use mathlib.Core.Bool.{Bool, true, false, cond, _&&_, _||_}
-use mathlib.Core.List.{List, [], _∷_, _++_, append-nil}
+use mathlib.Core.List.{List, [], _∷_, _++_, append-assoc, append-nil}
 use Prim.Native.Nat.{ℕ, _<_}
 use native.Mathlib.Omega.{arith}
 use borrow.Author.Tests.{eqb-true, leb-true}
-use lib.Dec.{eqb, leb, lit≤}
+use lib.Dec.{eqb, leb}
 use lib.ListN.{length}
 use lib.Seq.{take-at, drop-at}
 use Rattle.line.specs.Quoted.{chars}
@@ -21,19 +21,20 @@ use Rattle.clock.specs.Seconds.{realClock}
 use Rattle.values.specs.declared.Energy.{Energy}
 use Rattle.values.specs.declared.Energy.the-variants.{Total}
 use Rattle.values.specs.Registers.{goodSerial, goodAccount, goodRow, goodTable, energyNo, zoneEnergy}
-use Rattle.values.specs.Reading.{dateRead, timeRead, counterRead}
+use Rattle.values.specs.Family.{counterEnd, exportEnd}
+use Rattle.values.specs.Reading.{dateRead, timeRead, energyRead}
 use Rattle.values.specs.Serials.{serialRead}
 use Rattle.values.specs.Texts.{tableText, dateText, timeText}
-use Rattle.values.proofs.RoundTrip.{date-reads-back, time-reads-back, counter-reads-back}
+use Rattle.values.proofs.RoundTrip.{date-reads-back, time-reads-back}
+use Rattle.values.proofs.Families.{energy-reads-back}
 use Rattle.values.proofs.Serials.{serial-reads-back}
 use Rattle.frames.specs.Frames.{blockOf, onWire}
-use Rattle.state.specs.Sizes.{counterEnd}
 use Rattle.state.specs.declared.Registers.{Registers}
 use Rattle.state.specs.declared.Meter.{Meter}
 use Rattle.state.specs.Setting.{counterOf}
-use Rattle.state.specs.WellFormed.{registersGood, tablesIn}
+use Rattle.state.specs.WellFormed.{registersGood, tablesIn, familyIn}
 use Rattle.state.proofs.Parts.{formed-registers, formed-facts, counter-small, total-small}
-use Rattle.datasets.specs.Sets.{dataSet, linesOf, timeSet, dateSet, serialSet, accountSet, energySet, tableSet}
+use Rattle.datasets.specs.Sets.{dataSet, linesOf, timeSet, dateSet, serialSet, accountSet, energyName, energySet, tableSet}
 use Rattle.replies.specs.declared.Ask.{Ask}
 use Rattle.replies.specs.declared.Ask.the-variants as ask
 use Rattle.replies.specs.Shown.{rowOf}
@@ -41,14 +42,15 @@ use Rattle.replies.specs.Shown as shown
 use Rattle.replies.specs.Answers.{askedSets, askedData, answerable}
 use Rattle.replies.proofs.Good.{asked-shown}
 use Rattle.deciding.specs.declared.Verdict.the-variants.{Read}
-use Rattle.commands.specs.Spoken.{Command, readClock, readSerial, readAccount, readTotal, readZone, readTable, goodFields, lettersOf}
-use Rattle.judging.specs.Right.{tellsTime, tellsDate, tellsClock, tellsSerial, tellsAccount, tellsEnergy, tellsRow, tells, answers, energyOpening, tableOpening}
+use Rattle.commands.specs.Spoken.{Command, readClock, readSerial, readAccount, readTotal, readZone, readTotalOut, readZoneOut, readTable, goodFields, lettersOf}
+use Rattle.judging.specs.Right.{tellsTime, tellsDate, tellsClock, tellsSerial, tellsAccount, tellsCounter, tellsEnergy, tellsExport, tellsRow, tells, answers, energyOpening, tableOpening}
 use Rattle.judging.specs.Lines.{isLine, valueIn}
 use Rattle.session.specs.Messages.{readOf}
 use Rattle.session.specs.Turns.{rightRead}
 use Rattle.blocks.specs.Parts.{isCharacter, isContent}
 use Rattle.datasets.proofs.Characters.{Within, within}
 use Rattle.dialogue.specs.Messages.{allowedAt, decidedAs, telling, obeyed}
+use Rattle.promises.proofs.Ends.{counter-end-some, export-end-some, export-end-low}
 use Rattle.recital.proofs.Registers.{row-good}
 use Rattle.conversation.proofs.Right.{line, line-is, value-in-line, block-answers}
 
@@ -91,11 +93,23 @@ account-told : (s : List ℕ) → goodAccount s ≡ true → tellsAccount (lines
 unfolding tellsAccount linesOf dataSet
 account-told s h = rw (append-nil (dataSet (accountSet s .address) s)) (told (chars "0.0.0(") s goodAccount h)
 
-energy-told : (n wh : ℕ) → wh < counterEnd → tellsEnergy n (linesOf (energySet n wh ∷ [])) ≡ true
-unfolding tellsEnergy linesOf dataSet decimal
-energy-told n wh h =
-    rw (append-nil (dataSet (energySet n wh .address) (energySet n wh .value)))
-    (told (energyOpening n) (energySet n wh .value) (λ s. counterRead 9 3 s .ok) (rw (counter-reads-back 9 3 wh (omega arith) (lit≤ tt))))
+counter-told : (family : ℕ) (out : Bool) (n count : ℕ) → count < counterEnd family
+    → tellsCounter family (energyOpening (energyName family out) n) (linesOf (energySet family out n count ∷ [])) ≡ true
+unfolding tellsCounter linesOf dataSet
+counter-told family out n count h =
+    let set = energySet family out n count in
+    let name = energyName family out in
+    rw (append-nil (dataSet (set .address) (set .value)), append-assoc name (decimal 1 n) (chars "(" ++ (set .value ++ chars ")\r\n")))
+    (rw (append-assoc name (decimal 1 n ++ chars "(") (set .value ++ chars ")\r\n"), append-assoc (decimal 1 n) (chars "(") (set .value ++ chars ")\r\n"))
+    at (told (energyOpening name n) (set .value) (λ s. energyRead family s .ok) (rw (energy-reads-back family count h))))
+
+energy-told : (family n count : ℕ) → count < counterEnd family → tellsEnergy family n (linesOf (energySet family false n count ∷ [])) ≡ true
+unfolding tellsEnergy energyName
+energy-told family n count h = counter-told family false n count h
+
+export-told : (family n count : ℕ) → count < counterEnd family → tellsExport family n (linesOf (energySet family true n count ∷ [])) ≡ true
+unfolding tellsExport energyName
+export-told family n count h = counter-told family true n count h
 
 row-told : (n : ℕ) (row : List ℕ) → goodRow row ≡ true → tellsRow n (linesOf (tableSet n row ∷ [])) ≡ true
 unfolding tellsRow linesOf dataSet tableText layoutText decimal
@@ -113,18 +127,20 @@ pub record Answered (g : Registers) (c : Command) (judged : List ℕ → Bool) :
   pub tells-it : judged (askedData g asks) ≡ true
 
 -- the chain of a read's letters, over the tests that it makes
-abbrev readBy : Bool → Bool → Bool → Bool → Bool → Bool → ℕ → Command
-readBy t l k e o z n = cond t readClock (cond l readSerial (cond k readAccount (cond e (cond o readTotal (readZone n)) (cond z (readTable n) (readTable 0)))))
+abbrev readBy : Bool → Bool → Bool → Bool → Bool → Bool → Bool → ℕ → Command
+readBy t l k e x o z n =
+    cond t readClock (cond l readSerial (cond k readAccount (cond e (cond o readTotal (readZone n)) (cond x (cond o readTotalOut (readZoneOut n)) (cond z (readTable n) (readTable 0))))))
 
-abbrev tellsBy : Bool → Bool → Bool → Bool → Bool → ℕ → List ℕ → Bool
-tellsBy t l k e z n s = cond t (tellsClock s) (cond l (tellsSerial s) (cond k (tellsAccount s) (cond e (tellsEnergy n s) (cond z (tellsRow n s) false))))
+abbrev tellsBy : ℕ → Bool → Bool → Bool → Bool → Bool → Bool → ℕ → List ℕ → Bool
+tellsBy family t l k e x z n s =
+    cond t (tellsClock s) (cond l (tellsSerial s) (cond k (tellsAccount s) (cond e (tellsEnergy family n s) (cond x (tellsExport family n s) (cond z (tellsRow n s) false)))))
 
 module _ (g : Registers) (good : registersGood g ≡ true) (n : ℕ) where
-  by : (t l k e o z : Bool) → eqb n 0 ≡ o → goodFields (tablesIn g) (readBy t l k e o z n) ≡ true → Answered g (readBy t l k e o z n) (tellsBy t l k e z n)
+  by : (t l k e x o z : Bool) → eqb n 0 ≡ o → goodFields (tablesIn g) (familyIn g) (readBy t l k e x o z n) ≡ true → Answered g (readBy t l k e x o z n) (tellsBy (familyIn g) t l k e x z n)
   unfolding goodFields decidedAs allowedAt lettersOf sameText matching obeyed answerable askedData askedSets energyNo shown.energy
-  by true l k e o z zero-is h =
+  by true l k e x o z zero-is h =
       record { asks = ask.Clock; decided = refl; allowed = λ mode a. a; obeys = λ m. refl; can = refl; tells-it = clock-told (g .clock) (formed-registers g good .clock) }
-  by false true k e o z zero-is h =
+  by false true k e x o z zero-is h =
       record {
         asks = ask.Serial;
         decided = refl;
@@ -133,28 +149,50 @@ module _ (g : Registers) (good : registersGood g ≡ true) (n : ℕ) where
         can = refl;
         tells-it = serial-told (g .facts .serial) (formed-facts (g .facts) (formed-registers g good .facts) .serial);
       }
-  by false false true e o z zero-is h =
+  by false false true e x o z zero-is h =
       record { asks = ask.Account; decided = refl; allowed = λ mode a. a; obeys = λ m. refl; can = refl; tells-it = account-told (g .account) (formed-registers g good .account) }
-  by false false false true true z zero-is h =
+  by false false false true x true z zero-is h =
       record {
         asks = ask.Energy Total;
         decided = refl;
         allowed = λ mode a. a;
         obeys = λ m. refl;
         can = refl;
-        tells-it = subst (λ (i : ℕ). tellsEnergy i (linesOf (energySet 0 (g .counters .total) ∷ [])) ≡ true) (sym (eqb-true n 0 zero-is))
-            (energy-told 0 (g .counters .total) (total-small (g .counters) (formed-registers g good .counters)));
+        tells-it = subst (λ (i : ℕ). tellsEnergy (familyIn g) i (linesOf (energySet (familyIn g) false 0 (g .counters .total) ∷ [])) ≡ true) (sym (eqb-true n 0 zero-is))
+            (energy-told (familyIn g) 0 (g .counters .total) (total-small (counterEnd (familyIn g)) (g .counters) (counter-end-some (familyIn g)) (formed-registers g good .counters)));
       }
-  by false false false true false z zero-is h =
+  by false false false true x false z zero-is h =
       record {
         asks = ask.Energy (zoneEnergy n);
         decided = refl;
         allowed = λ mode a. a;
         obeys = λ m. refl;
         can = refl;
-        tells-it = energy-told n (counterOf (g .counters) n) (counter-small (g .counters) (formed-registers g good .counters) n);
+        tells-it = energy-told (familyIn g) n (counterOf (g .counters) n) (counter-small (counterEnd (familyIn g)) (g .counters) (counter-end-some (familyIn g)) (formed-registers g good .counters) n);
       }
-  by false false false false o true zero-is h =
+  by false false false false true true z zero-is h =
+      let end = exportEnd (familyIn g) in
+      record {
+        asks = ask.Export Total;
+        decided = refl;
+        allowed = λ mode a. a;
+        obeys = λ m. refl;
+        can = refl;
+        tells-it = subst (λ (i : ℕ). tellsExport (familyIn g) i (linesOf (energySet (familyIn g) true 0 (g .exported .total) ∷ [])) ≡ true) (sym (eqb-true n 0 zero-is))
+            (export-told (familyIn g) 0 (g .exported .total) (omega (arith, total-small end (g .exported) (export-end-some (familyIn g)) (formed-registers g good .exported), export-end-low (familyIn g))));
+      }
+  by false false false false true false z zero-is h =
+      let end = exportEnd (familyIn g) in
+      record {
+        asks = ask.Export (zoneEnergy n);
+        decided = refl;
+        allowed = λ mode a. a;
+        obeys = λ m. refl;
+        can = refl;
+        tells-it = export-told (familyIn g) n (counterOf (g .exported) n)
+            (omega (arith, counter-small end (g .exported) (export-end-some (familyIn g)) (formed-registers g good .exported) n, export-end-low (familyIn g)));
+      }
+  by false false false false false o true zero-is h =
       record {
         asks = ask.Table (record { 0 = n });
         decided = refl;
@@ -163,14 +201,14 @@ module _ (g : Registers) (good : registersGood g ≡ true) (n : ℕ) where
         can = h;
         tells-it = row-told n (rowOf (g .tables) n) (row-good g good n h);
       }
-  by false false false false o false zero-is h = absurd (none h)
+  by false false false false false o false zero-is h = absurd (none h)
     where
       none : goodTable (tablesIn g) 0 ≡ true → ⊥
       none e = omega (arith, leb-true 1 0 (unfold goodTable between in (and-left (leb 1 0) (leb 0 (tablesIn g)) e)))
 
-  pub read-answered : (letter : ℕ) → goodFields (tablesIn g) (readOf letter n) ≡ true → Answered g (readOf letter n) (tells letter n)
+  pub read-answered : (letter : ℕ) → goodFields (tablesIn g) (familyIn g) (readOf letter n) ≡ true → Answered g (readOf letter n) (tells (familyIn g) letter n)
   unfolding readOf tells
-  read-answered letter h = by (eqb letter 84) (eqb letter 76) (eqb letter 75) (eqb letter 69) (eqb n 0) (eqb letter 90) refl h
+  read-answered letter h = by (eqb letter 84) (eqb letter 76) (eqb letter 75) (eqb letter 69) (eqb letter 71) (eqb n 0) (eqb letter 90) refl h
 
 -- ---- and so the reply is right
 
@@ -182,11 +220,11 @@ shown-character : Within (between 10 126) isCharacter
 unfolding between isCharacter
 shown-character = within (between 10 126) isCharacter refl (λ c h. omega (arith, leb-true c 126 (and-right (leb 10 c) (leb c 126) h)))
 
-module _ (g : Registers) (good : registersGood g ≡ true) (letter n : ℕ) (built : goodFields (tablesIn g) (readOf letter n) ≡ true) where
-  pub read-right : (a : Ask) → answerable (tablesIn g) a ≡ true → tells letter n (askedData g a) ≡ true → rightRead (tablesIn g) letter n (onWire (blockOf (askedData g a))) ≡ true
+module _ (g : Registers) (good : registersGood g ≡ true) (letter n : ℕ) (built : goodFields (tablesIn g) (familyIn g) (readOf letter n) ≡ true) where
+  pub read-right : (a : Ask) → answerable (tablesIn g) a ≡ true → tells (familyIn g) letter n (askedData g a) ≡ true → rightRead (tablesIn g) (familyIn g) letter n (onWire (blockOf (askedData g a))) ≡ true
   unfolding rightRead
   read-right a can h =
       let s = asked-shown g a good can in
-      and-both (goodFields (tablesIn g) (readOf letter n)) (answers letter n (onWire (blockOf (askedData g a)))) built
+      and-both (goodFields (tablesIn g) (familyIn g) (readOf letter n)) (answers (familyIn g) letter n (onWire (blockOf (askedData g a)))) built
       (block-answers (askedData g a) (every-weaker (between 10 126) isContent shown-content (askedData g a) s)
-      (every-weaker (between 10 126) isCharacter shown-character (askedData g a) s) letter n h)
+      (every-weaker (between 10 126) isCharacter shown-character (askedData g a) s) (familyIn g) letter n h)

@@ -12,7 +12,7 @@ use Rattle.values.specs.Registers.{goodTable}
 use Rattle.frames.specs.Frames.{blockOf, onWire}
 use Rattle.state.specs.Sizes.{replyRoom}
 use Rattle.state.specs.declared.Meter.{Meter}
-use Rattle.state.specs.WellFormed.{wellFormed, tablesIn, editionOf}
+use Rattle.state.specs.WellFormed.{wellFormed, tablesIn, editionOf, familyOf}
 use Rattle.state.specs.Link.{linkOf, isWired}
 use Rattle.state.specs.Setting.{withAttempts, withTables}
 use Rattle.replies.specs.declared.Ask.{Ask}
@@ -36,9 +36,12 @@ pub record Waits (m : Meter) : Type 0 where
   pub listening : m .mode ≡ 0
   pub empty : m .receiver .count ≡ 0
 
--- [3]: the session is for a meter of its edition
-abbrev pub ForEdition : Told → Meter → Type 0
-ForEdition t m = t .edition ≡ editionOf m
+-- [3], [10]: the session is for a meter of its edition and its family
+abbrev pub ForMeter : Told → Meter → Type 0
+ForMeter t m = (t .edition ≡ editionOf m) × (t .decimals ≡ familyOf m)
+
+abbrev pub Suits : Session → Meter → Type 0
+Suits s m = (s .edition ≡ editionOf m) × (s .decimals ≡ familyOf m)
 
 -- the head calls any meter, or this one by its serial, or by the zeros that every meter answers
 pub data Calls (t : Told) (m : Meter) : Type 0 where
@@ -65,8 +68,8 @@ pub record Roomy (rooms : ℕ → ℕ → ℕ) (buffers : ℕ → ℕ) : Type 0 
 pub record StopsAfter (s : Session) (work : List ℕ) (talk : ℕ → Talk) (n fact : ℕ) (after : Meter) : Type 0 where
   pub within : n ≤ s .count + 4
   pub going : (k : ℕ) → k < n → talk k .turn ≡ asking s work (k + 1)
-  pub built : (k : ℕ) → k < n → goodMessage (tablesOf (s .edition)) (messageAt s work (k + 1)) ≡ true
-  pub edition : (k : ℕ) → k < n → s .edition ≡ editionOf (talk k .meter)
+  pub built : (k : ℕ) → k < n → goodMessage (tablesOf (s .edition)) (s .decimals) (messageAt s work (k + 1)) ≡ true
+  pub suits : (k : ℕ) → k < n → Suits s (talk k .meter)
   pub heard : (k : ℕ) → k < n → Listens (talk k .meter) (messageAt s work (k + 1))
   pub optical : (k : ℕ) → k < n → isWired (linkOf (talk k .meter)) ≡ false
   pub stops : talk n .turn ≡ stopped s n fact

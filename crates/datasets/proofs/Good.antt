@@ -1,27 +1,29 @@
 -- Each line that a meter shows is a good data set, and good data sets hold printable characters, CR and LF alone: no ETX.
 -- Kind by kind of character (`Within`), over each value's form. Assumes nothing.
-use mathlib.Core.Path.{_≡_, refl}
-use mathlib.Core.Bool.{true, _&&_}
+use mathlib.Core.Path.{_≡_, refl, _∙_}
+use mathlib.Core.Bool.{Bool, true, false, cond, _&&_}
 use mathlib.Core.List.{List, [], _∷_, _++_}
-use Prim.Native.Nat.{ℕ, _≤_}
+use Prim.Native.Nat.{ℕ, _+_, _≤_}
 use native.Mathlib.Omega.{arith}
 use borrow.Author.Tests.{le-leb}
-use lib.Dec.{leb}
-use lib.ListN.{length, take, drop}
+use lib.Dec.{leb, eqb}
+use lib.ListN.{length, take, drop, length-append}
 use Rattle.line.specs.Runs.{every}
 use Rattle.line.proofs.Runs.{and-left, and-right, and-both, every-append, every-take, every-drop, every-weaker}
 use Rattle.text.specs.Classes.{between, isDigit, isLetter, isPrintable, isAddress, isValue}
 use Rattle.text.specs.Layout.{layoutText}
 use Rattle.text.specs.Decimal.{decimal}
-use Rattle.text.proofs.Decimal.{decimal-digits}
+use Rattle.text.proofs.Decimal.{decimal-digits, length-decimal}
 use Rattle.clock.specs.declared.Date.{Date}
 use Rattle.clock.specs.declared.Time.{Time}
 use Rattle.clock.specs.declared.Stamp.{Stamp}
+use Rattle.values.specs.Family.{counterDigits, counterDecimals, importName, exportName}
 use Rattle.values.specs.Registers.{isAccountCharacter}
-use Rattle.values.specs.Texts.{serialText, tableText, dateText, timeText, stampText, counterText, dateForm, timeForm, stampForm, counterForm, tableForm}
-use Rattle.datasets.specs.Sets.{DataSet, dataSet, linesOf, lineOf, timeSet, dateSet, serialSet, accountSet, energySet, tableSet, closedSet, keptSet}
+use Rattle.values.specs.Texts.{serialText, tableText, dateText, timeText, stampText, counterText, energyText, dateForm, timeForm, stampForm, counterForm, tableForm}
+use Rattle.values.proofs.Families.{shown, energy-long}
+use Rattle.datasets.specs.Sets.{DataSet, dataSet, linesOf, lineOf, timeSet, dateSet, serialSet, accountSet, energyName, energySet, tableSet, closedSet, keptSet}
 use Rattle.datasets.specs.Good.{goodSet, goodSets}
-use Rattle.datasets.proofs.Lengths.{time-long, date-long, stamp-long, counter-long, serial-long}
+use Rattle.datasets.proofs.Lengths.{time-long, date-long, stamp-long, serial-long, name-long}
 use Rattle.datasets.proofs.Characters.{digit-shown, digit-address, account-shown, row-shown, value-line, address-line, layout-within}
 
 -- an address and a value of their kinds and lengths
@@ -55,12 +57,6 @@ pub account-good : (s : List ℕ) → length s ≡ 10 → every isAccountCharact
 unfolding every isAddress isLetter isDigit between
 account-good s n h = good (accountSet s) refl refl (omega arith) (every-weaker isAccountCharacter isValue account-shown s h)
 
-pub energy-good : (n wh : ℕ) → goodSet (energySet n wh) ≡ true
-unfolding every isAddress isLetter isDigit between counterText isValue isPrintable
-energy-good n wh =
-    good (energySet n wh) (unfold decimal in refl) (every-weaker isDigit isAddress digit-address (decimal 1 n) (decimal-digits 1 n))
-    (omega (arith, counter-long wh)) (layout-within isValue digit-shown (counterForm 9 3) _ refl)
-
 pub table-good : (n : ℕ) (row : List ℕ) → length row ≤ 32 → every (between 49 52) row ≡ true → goodSet (tableSet n row) ≡ true
 unfolding every isAddress isLetter isDigit between tableText
 table-good n row short h =
@@ -76,11 +72,43 @@ unfolding every isAddress isLetter isDigit between stampText isValue isPrintable
 closed-good k t =
     good (closedSet k t) (unfold decimal in refl) (in-digits 2 k) (omega (arith, stamp-long t)) (layout-within isValue digit-shown stampForm _ refl)
 
-pub kept-good : (k n wh : ℕ) → goodSet (keptSet k n wh) ≡ true
-unfolding every isAddress isLetter isDigit between counterText isValue isPrintable
-kept-good k n wh =
-    good (keptSet k n wh) (unfold decimal in refl) (every-append isAddress (decimal 1 n) (42 ∷ decimal 2 k) (in-digits 1 n) (in-digits 2 k))
-    (omega (arith, counter-long wh)) (layout-within isValue digit-shown (counterForm 9 3) _ refl)
+-- [10]: so does an energy's name, which is short
+name-good : (family : ℕ) (out : Bool) → every isAddress (energyName family out) ≡ true
+unfolding energyName importName every isAddress isLetter isDigit between
+name-good family out = by (eqb family 0) out
+  where
+    by : (b o : Bool) → every isAddress (cond o exportName (cond b (49 ∷ 53 ∷ 46 ∷ 56 ∷ 46 ∷ []) (49 ∷ 46 ∷ 56 ∷ 46 ∷ []))) ≡ true
+    by b true = refl
+    by true false = refl
+    by false false = refl
+
+energy-shown : (family count : ℕ) → every isValue (energyText family count) ≡ true
+unfolding energyText counterText every isValue isPrintable between
+energy-shown family count = layout-within isValue digit-shown (counterForm (counterDigits family) (counterDecimals family)) _ refl
+
+short : (n : ℕ) → 1 ≤ n → n ≤ 16 → between 1 16 n ≡ true
+unfolding between
+short n some few = rw (le-leb 1 n some, le-leb n 16 few)
+
+named : (family : ℕ) (out : Bool) (number : List ℕ) (count : ℕ) → 1 ≤ length number → length number ≤ 4 → every isAddress number ≡ true
+    → goodSet (record { address = energyName family out ++ number; value = energyText family count }) ≡ true
+named family out number count some few h =
+    let name = energyName family out in
+    let long = length-append name number in
+    good (record { address = name ++ number; value = energyText family count })
+    (short (length (name ++ number)) (omega arith) (omega (arith, name-long family out)))
+    (every-append isAddress name number (name-good family out) h)
+    (omega (arith, energy-long family count, shown family .digits-most)) (energy-shown family count)
+
+pub energy-good : (family : ℕ) (out : Bool) (n count : ℕ) → goodSet (energySet family out n count) ≡ true
+energy-good family out n count = named family out (decimal 1 n) count (omega (arith, length-decimal 1 n)) (omega (arith, length-decimal 1 n)) (in-digits 1 n)
+
+pub kept-good : (family : ℕ) (out : Bool) (k n count : ℕ) → goodSet (keptSet family out k n count) ≡ true
+kept-good family out k n count =
+    let number = decimal 1 n ++ (42 ∷ decimal 2 k) in
+    let long : length number ≡ 4 = length-append (decimal 1 n) (42 ∷ decimal 2 k) ∙ omega (arith, length-decimal 1 n, length-decimal 2 k) in
+    named family out number count (omega arith) (omega arith)
+    (every-append isAddress (decimal 1 n) (42 ∷ decimal 2 k) (in-digits 1 n) (unfold every isAddress isLetter isDigit between in (in-digits 2 k)))
 
 pub good-append : (s t : List DataSet) → goodSets s ≡ true → goodSets t ≡ true → goodSets (s ++ t) ≡ true
 unfolding goodSets

@@ -1,17 +1,22 @@
 -- How long each value's text and each line is. Assumes nothing.
 use mathlib.Core.Path.{_≡_, refl, sym, ap, _∙_}
+use mathlib.Core.Bool.{Bool, true, false, cond}
 use mathlib.Core.List.{List, [], _∷_, _++_, append-assoc}
-use Prim.Native.Nat.{ℕ, _+_}
+use Prim.Native.Nat.{ℕ, _+_, _≤_}
 use native.Mathlib.Omega.{arith}
+use lib.Dec.{eqb}
 use lib.ListN.{length, take, drop, length-append, length-drop}
 use lib.Seq.{length-take-le}
 use Rattle.text.specs.Decimal.{decimal}
+use Rattle.text.proofs.Decimal.{length-decimal}
 use Rattle.text.specs.Layout.{layoutText}
 use Rattle.clock.specs.declared.Date.{Date}
 use Rattle.clock.specs.declared.Time.{Time}
 use Rattle.clock.specs.declared.Stamp.{Stamp}
-use Rattle.values.specs.Texts.{serialText, tableText, dateText, timeText, stampText, counterText}
-use Rattle.datasets.specs.Sets.{DataSet, dataSet, linesOf, lineOf, timeSet, dateSet, serialSet, accountSet, energySet, tableSet, closedSet, keptSet}
+use Rattle.values.specs.Texts.{serialText, tableText, dateText, timeText, stampText}
+use Rattle.values.specs.Family.{counterDigits, importName, exportName}
+use Rattle.values.proofs.Families.{shown, energy-long}
+use Rattle.datasets.specs.Sets.{DataSet, dataSet, linesOf, lineOf, timeSet, dateSet, serialSet, accountSet, energyName, energySet, tableSet, closedSet, keptSet}
 
 pub time-long : (t : Time) → length (timeText t) ≡ 8
 unfolding timeText layoutText decimal
@@ -24,10 +29,6 @@ date-long d = refl
 pub stamp-long : (t : Stamp) → length (stampText t) ≡ 14
 unfolding stampText layoutText decimal
 stamp-long t = refl
-
-pub counter-long : (n : ℕ) → length (counterText 9 3 n) ≡ 14
-unfolding counterText layoutText decimal
-counter-long n = refl
 
 pub table-long : (n : ℕ) → length (tableText n) ≡ 2
 unfolding tableText layoutText decimal
@@ -66,9 +67,23 @@ serial-line s h = line-long (serialSet s .address) (serialText s) ∙ omega (ari
 pub account-line : (s : List ℕ) → length s ≡ 10 → length (lineOf (accountSet s)) ≡ 19
 account-line s h = line-long (accountSet s .address) s ∙ omega arith
 
-pub energy-line : (n wh : ℕ) → length (lineOf (energySet n wh)) ≡ 24
-unfolding decimal
-energy-line n wh = line-long (energySet n wh .address) (counterText 9 3 wh) ∙ omega (arith, counter-long wh)
+pub name-long : (family : ℕ) (out : Bool) → length (energyName family out) ≤ 5
+unfolding energyName importName
+name-long family out = by (eqb family 0) out
+  where
+    by : (b o : Bool) → length (cond o exportName (cond b (49 ∷ 53 ∷ 46 ∷ 56 ∷ 46 ∷ []) (49 ∷ 46 ∷ 56 ∷ 46 ∷ []))) ≤ 5
+    by b true = omega arith
+    by true false = omega arith
+    by false false = omega arith
+
+pub energy-line : (family : ℕ) (out : Bool) (n count : ℕ)
+    → length (lineOf (energySet family out n count)) ≡ length (energyName family out) + (counterDigits family + 10)
+energy-line family out n count =
+    line-long (energySet family out n count .address) (energySet family out n count .value)
+    ∙ omega (arith, length-append (energyName family out) (decimal 1 n), length-decimal 1 n, energy-long family count)
+
+pub energy-most : (family : ℕ) (out : Bool) (n count : ℕ) → length (lineOf (energySet family out n count)) ≤ 24
+energy-most family out n count = omega (arith, energy-line family out n count, name-long family out, shown family .digits-most)
 
 pub table-line : (n : ℕ) (row : List ℕ) → length (lineOf (tableSet n row)) ≡ 12 + length row
 table-line n row = line-long (tableSet n row .address) row ∙ omega (arith, table-long n)
@@ -77,6 +92,18 @@ pub closed-line : (k : ℕ) (t : Stamp) → length (lineOf (closedSet k t)) ≡ 
 unfolding decimal
 closed-line k t = line-long (closedSet k t .address) (stampText t) ∙ omega (arith, stamp-long t)
 
-pub kept-line : (k n wh : ℕ) → length (lineOf (keptSet k n wh)) ≡ 27
-unfolding decimal
-kept-line k n wh = line-long (keptSet k n wh .address) (counterText 9 3 wh) ∙ omega (arith, counter-long wh)
+pub kept-line : (family : ℕ) (out : Bool) (k n count : ℕ)
+    → length (lineOf (keptSet family out k n count)) ≡ length (energyName family out) + (counterDigits family + 13)
+kept-line family out k n count =
+    line-long (keptSet family out k n count .address) (keptSet family out k n count .value)
+    ∙ omega (
+      arith,
+      length-append (energyName family out) (decimal 1 n ++ (42 ∷ decimal 2 k)),
+      length-append (decimal 1 n) (42 ∷ decimal 2 k),
+      length-decimal 1 n,
+      length-decimal 2 k,
+      energy-long family count,
+    )
+
+pub kept-most : (family : ℕ) (out : Bool) (k n count : ℕ) → length (lineOf (keptSet family out k n count)) ≤ 27
+kept-most family out k n count = omega (arith, kept-line family out k n count, name-long family out, shown family .digits-most)

@@ -1,4 +1,5 @@
 -- Document 01, the lines of "Deciding a frame": a data set, its address, and the line that shows it.
+use mathlib.Core.Bool.{Bool, cond}
 use mathlib.Core.List.{List, [], _∷_, _++_}
 use Prim.Native.Nat.{ℕ}
 use Rattle.line.specs.Quoted.{chars}
@@ -7,8 +8,8 @@ pub use Rattle.text.specs.DataSet.{DataSet}
 use Rattle.clock.specs.declared.Date.{Date}
 use Rattle.clock.specs.declared.Time.{Time}
 use Rattle.clock.specs.declared.Stamp.{Stamp}
-use Rattle.values.specs.Edition.{counterDigits, counterDecimals}
-use Rattle.values.specs.Texts.{serialText, tableText, dateText, timeText, stampText, counterText}
+use Rattle.values.specs.Family.{importName, exportName}
+use Rattle.values.specs.Texts.{serialText, tableText, dateText, timeText, stampText, energyText}
 
 -- address(value) CR LF
 unfoldable pub dataSet : List ℕ → List ℕ → List ℕ
@@ -35,9 +36,13 @@ serialSet s = record { address = chars "C.1.0"; value = serialText s }
 abbrev pub accountSet : List ℕ → DataSet
 accountSet s = record { address = chars "0.0.0"; value = s }
 
--- 15.8.n(eeeeee.eee*kWh)
-abbrev pub energySet : ℕ → ℕ → DataSet
-energySet n wh = record { address = chars "15.8." ++ decimal 1 n; value = counterText counterDigits counterDecimals wh }
+-- what came in, or what went out
+unfoldable pub energyName : ℕ → Bool → List ℕ
+energyName family out = cond out exportName (importName family)
+
+-- 15.8.n(eeeeee.eee*kWh); 1.8.n and 2.8.n of an EQM meter
+abbrev pub energySet : ℕ → Bool → ℕ → ℕ → DataSet
+energySet family out n count = record { address = energyName family out ++ decimal 1 n; value = energyText family count }
 
 -- 131.0.xx(row)
 abbrev pub tableSet : ℕ → List ℕ → DataSet
@@ -47,9 +52,9 @@ tableSet n row = record { address = chars "131.0." ++ tableText n; value = row }
 abbrev pub closedSet : ℕ → Stamp → DataSet
 closedSet k t = record { address = chars "0.1.2*" ++ decimal 2 k; value = stampText t }
 
--- 15.8.n*kk(eeeeee.eee*kWh)
-abbrev pub keptSet : ℕ → ℕ → ℕ → DataSet
-keptSet k n wh = record { address = chars "15.8." ++ (decimal 1 n ++ (chars "*" ++ decimal 2 k)); value = counterText counterDigits counterDecimals wh }
+-- 15.8.n*kk(eeeeee.eee*kWh); 1.8.n*kk and 2.8.n*kk of an EQM meter
+abbrev pub keptSet : ℕ → Bool → ℕ → ℕ → ℕ → DataSet
+keptSet family out k n count = record { address = energyName family out ++ (decimal 1 n ++ (chars "*" ++ decimal 2 k)); value = energyText family count }
 
 abbrev pub lineOf : DataSet → List ℕ
 lineOf s = dataSet (s .address) (s .value)

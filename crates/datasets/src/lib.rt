@@ -1,10 +1,13 @@
 // Data sets: each value that a meter shows as its line, `address(value)` CR LF, put into a lent buffer.
 // Each function gives the place after its line.
 ghost use mathlib.Core.Path.{_≡_};
+ghost use mathlib.Core.List.{_++_};
 ghost use Prim.Native.Nat.{_+_, _≤_};
 ghost use lib.ListN.{length};
+ghost use Rattle.line.specs.Quoted.{chars};
 ghost use Rattle.text.specs.Writing.{stored};
 ghost use Rattle.values.specs.Registers.{energyNo};
+ghost use Rattle.values.specs.Texts.{energyText};
 ghost use Rattle.datasets.specs.Sets.{lineOf, timeSet, dateSet, serialSet, accountSet, energySet, tableSet, closedSet, keptSet};
 use clock::Date;
 use clock::Stamp;
@@ -57,17 +60,34 @@ pub fn put_account_set(buf: &mut [u8], at: usize, s: &[u8]) -> usize
     text::put(buf, b, b")\r\n")
 }
 
-// A counter's Wh as `15.8.n(eeeeee.eee*kWh)`.
-pub fn put_energy_set(buf: &mut [u8], at: usize, e: Energy, wh: u32) -> usize
-    requires { ⌜ at + 24 ≤ length (now buf) ⌝ }
-    ensures next { λ r. ⌜ r ≡ at + 24 ⌝ }
-    ensures held { λ _. ⌜ now (buf .exit) ≡ stored (now (buf .entry)) at (lineOf (energySet (energyNo e) wh)) ⌝ }
+// A counter's line, whose opening is its address and the bracket.
+fn put_counter_set(buf: &mut [u8], at: usize, opening: &[u8], n: u32, family: u8) -> usize
+    requires { ⌜ at + length (now opening) + 17 ≤ length (now buf) ⌝ }
+    ensures next { λ r. ⌜ r ≡ at + length (now (opening .entry) ++ (energyText family n ++ chars ")\r\n")) ⌝ }
+    ensures held { λ _. ⌜ now (buf .exit) ≡ stored (now (buf .entry)) at (now (opening .entry) ++ (energyText family n ++ chars ")\r\n")) ⌝ }
 {
-    let n = values::energy_no(e);
-    let opening = [b'1', b'5', b'.', b'8', b'.', 48 + n % 10, b'('];
-    let a = text::put(buf, at, &opening);
-    let b = values::writing::put_counter(buf, a, wh);
+    let a = text::put(buf, at, opening);
+    let b = values::writing::put_counter(buf, a, n, family);
     text::put(buf, b, b")\r\n")
+}
+
+// A counter as `15.8.n(eeeeee.eee*kWh)`; of an EQM meter as `1.8.n`, or as `2.8.n` what went out.
+pub fn put_energy_set(buf: &mut [u8], at: usize, e: Energy, n: u32, out: bool, family: u8) -> usize
+    requires { ⌜ at + 24 ≤ length (now buf) ⌝ }
+    ensures next { λ r. ⌜ r ≡ at + length (lineOf (energySet family out (energyNo e) n)) ⌝ }
+    ensures held { λ _. ⌜ now (buf .exit) ≡ stored (now (buf .entry)) at (lineOf (energySet family out (energyNo e) n)) ⌝ }
+{
+    let digit = 48 + values::energy_no(e) % 10;
+    if out {
+        let opening = [b'2', b'.', b'8', b'.', digit, b'('];
+        return put_counter_set(buf, at, &opening, n, family);
+    }
+    if family == 0 {
+        let opening = [b'1', b'5', b'.', b'8', b'.', digit, b'('];
+        return put_counter_set(buf, at, &opening, n, family);
+    }
+    let opening = [b'1', b'.', b'8', b'.', digit, b'('];
+    put_counter_set(buf, at, &opening, n, family)
 }
 
 // A whole row. It is copied out first: two moves each way, as the length is fixed and a local array is apart from the buffer.
@@ -142,26 +162,31 @@ pub fn put_closed_set(buf: &mut [u8], at: usize, k: u8, stamp: Stamp) -> usize
     text::put(buf, b, b")\r\n")
 }
 
-// A zone's counter in the period numbered k as `15.8.n*kk(eeeeee.eee*kWh)`.
-pub fn put_kept_set(buf: &mut [u8], at: usize, k: u8, z: ZoneNo, wh: u32) -> usize
+// A zone's counter in the period numbered k: the same with `*kk` behind n.
+pub fn put_kept_set(
+    buf: &mut [u8],
+    at: usize,
+    k: u8,
+    z: ZoneNo,
+    n: u32,
+    out: bool,
+    family: u8,
+) -> usize
     requires { ⌜ at + 27 ≤ length (now buf) ⌝ }
-    ensures next { λ r. ⌜ r ≡ at + 27 ⌝ }
-    ensures held { λ _. ⌜ now (buf .exit) ≡ stored (now (buf .entry)) at (lineOf (keptSet k (z .0) wh)) ⌝ }
+    ensures next { λ r. ⌜ r ≡ at + length (lineOf (keptSet family out k (z .0) n)) ⌝ }
+    ensures held { λ _. ⌜ now (buf .exit) ≡ stored (now (buf .entry)) at (lineOf (keptSet family out k (z .0) n)) ⌝ }
 {
-    let n = z.0;
-    let opening = [
-        b'1',
-        b'5',
-        b'.',
-        b'8',
-        b'.',
-        48 + n % 10,
-        b'*',
-        48 + k / 10 % 10,
-        48 + k % 10,
-        b'(',
-    ];
-    let a = text::put(buf, at, &opening);
-    let b = values::writing::put_counter(buf, a, wh);
-    text::put(buf, b, b")\r\n")
+    let d = 48 + z.0 % 10;
+    let t = 48 + k / 10 % 10;
+    let u = 48 + k % 10;
+    if out {
+        let opening = [b'2', b'.', b'8', b'.', d, b'*', t, u, b'('];
+        return put_counter_set(buf, at, &opening, n, family);
+    }
+    if family == 0 {
+        let opening = [b'1', b'5', b'.', b'8', b'.', d, b'*', t, u, b'('];
+        return put_counter_set(buf, at, &opening, n, family);
+    }
+    let opening = [b'1', b'.', b'8', b'.', d, b'*', t, u, b'('];
+    put_counter_set(buf, at, &opening, n, family)
 }

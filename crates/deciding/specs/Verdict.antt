@@ -22,20 +22,20 @@ entry d = cond (sameText d (chars "()")) Enter (cond (fits (chars "(########)") 
 unfoldable pub bareVerdict : ℕ → ℕ → ℕ → Verdict
 bareVerdict mode a b = cond (eqb a (char "B") && eqb b (char "0")) (cond (leb 2 mode && leb mode 4) Leave (Refuse 8)) (Refuse 7)
 
--- with STX: P1 in mode 2, R1 in 3 and 4, W1 in 4; of a meter with so many tables
-unfoldable pub framedVerdict : ℕ → ℕ → ℕ → ℕ → List ℕ → Verdict
-framedVerdict tables mode a b d =
+-- with STX: P1 in mode 2, R1 in 3 and 4, W1 in 4; of a meter with so many tables and of a family
+unfoldable pub framedVerdict : ℕ → ℕ → ℕ → ℕ → ℕ → List ℕ → Verdict
+framedVerdict tables family mode a b d =
     cond (eqb a (char "P") && eqb b (char "1")) (cond (eqb mode 2) (entry d) (Refuse 8))
-    (cond (eqb a (char "R") && eqb b (char "1")) (cond (eqb mode 3 || eqb mode 4) (asked tables d) (Refuse 8))
+    (cond (eqb a (char "R") && eqb b (char "1")) (cond (eqb mode 3 || eqb mode 4) (asked tables family d) (Refuse 8))
     (cond (eqb a (char "W") && eqb b (char "1")) (cond (eqb mode 4) (told tables d) (Refuse 8))
     (Refuse 7)))
 
-unfoldable pub shapeVerdict : ℕ → ℕ → List ℕ → Verdict
-shapeVerdict tables mode h =
+unfoldable pub shapeVerdict : ℕ → ℕ → ℕ → List ℕ → Verdict
+shapeVerdict tables family mode h =
     cond (bareShape h) (bareVerdict mode (getD h 1 0) (getD h 2 0))
-    (cond (framedShape h) (framedVerdict tables mode (getD h 1 0) (getD h 2 0) (content h))
+    (cond (framedShape h) (framedVerdict tables family mode (getD h 1 0) (getD h 2 0) (content h))
     (Refuse 6))
 
 -- the held characters through ETX, whether one was damaged, and the BCC
-unfoldable pub verdict : ℕ → ℕ → List ℕ → Bool → ℕ → Verdict
-verdict tables mode h mark sum = cond mark (Refuse 3) (cond (eqb sum (bccOf (drop 1 h))) (shapeVerdict tables mode h) (Refuse 4))
+unfoldable pub verdict : ℕ → ℕ → ℕ → List ℕ → Bool → ℕ → Verdict
+verdict tables family mode h mark sum = cond mark (Refuse 3) (cond (eqb sum (bccOf (drop 1 h))) (shapeVerdict tables family mode h) (Refuse 4))

@@ -1,7 +1,7 @@
 // Deciding a frame: from the held characters, the mark and the BCC to what the meter does, or the number of its refusal.
 ghost use mathlib.Core.Path.{_≡_};
 ghost use Rattle.deciding.specs.Shape.{bareShape, framedShape, content};
-ghost use Rattle.deciding.specs.Asking.{tableAsked, energyAsked, asked};
+ghost use Rattle.deciding.specs.Asking.{tableAsked, energyNamed, energyAt, energyAsked, asked};
 ghost use Rattle.deciding.specs.Telling.{enclosed, inner, clockTold, accountTold, tableTold, told};
 ghost use Rattle.deciding.specs.Verdict.{entry, bareVerdict, framedVerdict, shapeVerdict, verdict};
 use clock::Clock;
@@ -58,8 +58,8 @@ fn bare(mode: u8, a: u8, b: u8) -> Verdict
 }
 
 // A frame with STX: P1, R1 and W1 are known, each allowed in its modes.
-fn framed(tables: u8, mode: u8, a: u8, b: u8, d: &[u8]) -> Verdict
-    ensures { λ r. ⌜ r ≡ framedVerdict tables mode a b (now (d .entry)) ⌝ }
+fn framed(tables: u8, family: u8, mode: u8, a: u8, b: u8, d: &[u8]) -> Verdict
+    ensures { λ r. ⌜ r ≡ framedVerdict tables family mode a b (now (d .entry)) ⌝ }
 {
     if (a == b'P') & (b == b'1') {
         if mode == 2 {
@@ -69,7 +69,7 @@ fn framed(tables: u8, mode: u8, a: u8, b: u8, d: &[u8]) -> Verdict
     }
     if (a == b'R') & (b == b'1') {
         if (mode == 3) | (mode == 4) {
-            return asking::asks(d, tables);
+            return asking::asks(d, tables, family);
         }
         return Verdict::Refuse(8);
     }
@@ -82,8 +82,8 @@ fn framed(tables: u8, mode: u8, a: u8, b: u8, d: &[u8]) -> Verdict
     Verdict::Refuse(7)
 }
 
-fn by_shape(tables: u8, mode: u8, h: &[u8]) -> Verdict
-    ensures { λ r. ⌜ r ≡ shapeVerdict tables mode (now (h .entry)) ⌝ }
+fn by_shape(tables: u8, family: u8, mode: u8, h: &[u8]) -> Verdict
+    ensures { λ r. ⌜ r ≡ shapeVerdict tables family mode (now (h .entry)) ⌝ }
 {
     if shape::is_bare(h) {
         return bare(mode, text::at(h, 1), text::at(h, 2));
@@ -91,6 +91,7 @@ fn by_shape(tables: u8, mode: u8, h: &[u8]) -> Verdict
     if shape::is_framed(h) {
         return framed(
             tables,
+            family,
             mode,
             text::at(h, 1),
             text::at(h, 2),
@@ -100,15 +101,15 @@ fn by_shape(tables: u8, mode: u8, h: &[u8]) -> Verdict
     Verdict::Refuse(6)
 }
 
-// What a whole frame comes to, of a meter with so many tables: its held characters through ETX, whether any was damaged, and its BCC.
-pub fn decide(tables: u8, mode: u8, h: &[u8], mark: bool, sum: u8) -> Verdict
-    ensures { λ r. ⌜ r ≡ verdict tables mode (now (h .entry)) mark sum ⌝ }
+// What a whole frame comes to, of a meter with so many tables and of a family: its held characters through ETX, whether any was damaged, and its BCC.
+pub fn decide(tables: u8, family: u8, mode: u8, h: &[u8], mark: bool, sum: u8) -> Verdict
+    ensures { λ r. ⌜ r ≡ verdict tables family mode (now (h .entry)) mark sum ⌝ }
 {
     if mark {
         return Verdict::Refuse(3);
     }
     if sum == line::bcc(text::rest(h, 1)) {
-        return by_shape(tables, mode, h);
+        return by_shape(tables, family, mode, h);
     }
     Verdict::Refuse(4)
 }

@@ -53,6 +53,7 @@ still-fit a s g n row fit there good =
             account = f .account;
             clock = f .clock;
             counters = f .counters;
+            exported = f .exported;
             tables = row-good (tablesIn g) (g .tables) n row (f .tables) there good;
             archive = f .archive;
           });

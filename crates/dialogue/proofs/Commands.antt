@@ -17,24 +17,26 @@ use Rattle.text.specs.Writing.{stored}
 use Rattle.text.specs.Decimal.{decimal}
 use Rattle.text.specs.Layout.{layoutText}
 use Rattle.values.specs.Edition.{rowLength}
+use Rattle.values.specs.Family.{isEqm}
 use Rattle.values.proofs.Editions.{tables-most}
-use Rattle.values.specs.Registers.{goodPassword, goodAccount, goodRow, goodTable}
+use Rattle.values.specs.Registers.{goodPassword, goodAccount, goodRow, goodTable, goodZone}
 use Rattle.values.specs.Texts.{tableText}
 use Rattle.values.proofs.Rules.{digits-long, account-long, row-long, zone-most}
 use Rattle.frames.specs.Frames.{frameOf, onWire}
-use Rattle.frames.specs.Commands.{P1, R1, bracketed, setAccount, setTable}
+use Rattle.frames.specs.Commands.{P1, R1, bracketed, askExport, setAccount, setTable}
 use Rattle.frames.specs.Session.{passwordData}
 use Rattle.state.specs.Sizes.{rowLength}
 use Rattle.state.specs.declared.Registers.{Registers}
-use Rattle.state.specs.WellFormed.{tablesIn}
+use Rattle.state.specs.WellFormed.{tablesIn, familyIn}
 use Rattle.state.specs.Setting.{withAccount, withTables, withRow}
+use Rattle.deciding.specs.declared.Verdict.the-variants.{Refuse}
 use Rattle.deciding.specs.Verdict.{framedVerdict, entry, verdict}
 use Rattle.deciding.specs.Asking.{asked}
 use Rattle.deciding.specs.Telling.{told}
 use Rattle.meter.specs.Outcomes.{ack, nak}
 use Rattle.meter.specs.Acting.{acted, tried}
 use Rattle.reading.proofs.Leading.{or-cases}
-use Rattle.commands.specs.Spoken.{Command, enter, password, readClock, readSerial, readAccount, readTotal, readZone, readTable, writeClock, writeAccount, writeTable, goodFields, lettersOf, dataOf, spoken}
+use Rattle.commands.specs.Spoken.{Command, enter, password, readClock, readSerial, readAccount, readTotal, readZone, readTotalOut, readZoneOut, readTable, writeClock, writeAccount, writeTable, goodFields, lettersOf, dataOf, spoken}
 use Rattle.readback.proofs.Commands.{command-printable, letters-two, letters-printable, data-short}
 use Rattle.dialogue.specs.Feeding.{saidIn, atLast}
 use Rattle.dialogue.specs.Messages.{allowedAt, decidedAs, triedWith, obeyed}
@@ -42,43 +44,50 @@ use Rattle.dialogue.proofs.Feeding.{Fed}
 use Rattle.dialogue.proofs.Held.{Fit, idle, holding}
 use Rattle.dialogue.proofs.Rules.{besides, inFrame, printable-besides}
 use Rattle.dialogue.proofs.Frames.{heldFrame, verdict-is, frame-fed}
-use Rattle.dialogue.proofs.Meant.{entry-plain, entry-password, asked-clock, asked-serial, asked-account, asked-total, zone-least, asked-zone, asked-table, told-clock, told-account, told-table, told-other}
+use Rattle.dialogue.proofs.Meant.{entry-plain, entry-password, asked-clock, asked-serial, asked-account, asked-total, zone-least, asked-zone, asked-total-out, asked-zone-out, asked-out-none, asked-table, told-clock, told-account, told-table, told-other}
 
 -- a frame in a mode that allows it goes by its data
-module _ (tables mode : ℕ) (d : List ℕ) (printable : every isPrintable d ≡ true) where
-  by-entry : eqb mode 2 ≡ true → verdict tables mode (heldFrame 80 49 d) false (bccOf (80 ∷ 49 ∷ 2 ∷ (d ++ (3 ∷ [])))) ≡ entry d
+module _ (tables family mode : ℕ) (d : List ℕ) (printable : every isPrintable d ≡ true) where
+  by-entry : eqb mode 2 ≡ true → verdict tables family mode (heldFrame 80 49 d) false (bccOf (80 ∷ 49 ∷ 2 ∷ (d ++ (3 ∷ [])))) ≡ entry d
   unfolding framedVerdict isPrintable between
-  by-entry h = verdict-is 80 49 d refl refl printable tables mode ∙ (rw h)
+  by-entry h = verdict-is 80 49 d refl refl printable tables family mode ∙ (rw h)
 
-  by-asked : (eqb mode 3 || eqb mode 4) ≡ true → verdict tables mode (heldFrame 82 49 d) false (bccOf (82 ∷ 49 ∷ 2 ∷ (d ++ (3 ∷ [])))) ≡ asked tables d
+  by-asked : (eqb mode 3 || eqb mode 4) ≡ true → verdict tables family mode (heldFrame 82 49 d) false (bccOf (82 ∷ 49 ∷ 2 ∷ (d ++ (3 ∷ [])))) ≡ asked tables family d
   unfolding framedVerdict isPrintable between
-  by-asked h = verdict-is 82 49 d refl refl printable tables mode ∙ (rw h)
+  by-asked h = verdict-is 82 49 d refl refl printable tables family mode ∙ (rw h)
 
-  by-told : eqb mode 4 ≡ true → verdict tables mode (heldFrame 87 49 d) false (bccOf (87 ∷ 49 ∷ 2 ∷ (d ++ (3 ∷ [])))) ≡ told tables d
+  by-told : eqb mode 4 ≡ true → verdict tables family mode (heldFrame 87 49 d) false (bccOf (87 ∷ 49 ∷ 2 ∷ (d ++ (3 ∷ [])))) ≡ told tables d
   unfolding framedVerdict isPrintable between
-  by-told h = verdict-is 87 49 d refl refl printable tables mode ∙ (rw h)
+  by-told h = verdict-is 87 49 d refl refl printable tables family mode ∙ (rw h)
 
 -- the letters, STX and the data
 abbrev pub bodyOf : Command → List ℕ
 bodyOf c = lettersOf c ++ (2 ∷ dataOf c)
 
 -- the command that the head says is the command that the meter decides
-pub command-decided : (tables : ℕ) (c : Command) (mode : ℕ) → tables < 100 → goodFields tables c ≡ true → allowedAt c mode ≡ true
-    → verdict tables mode (1 ∷ (bodyOf c ++ (3 ∷ []))) false (bccOf (bodyOf c ++ (3 ∷ []))) ≡ decidedAs c
-unfolding decidedAs lettersOf dataOf allowedAt goodFields sameText matching
-command-decided tables enter mode few h k = by-entry tables mode (dataOf enter) (command-printable tables enter h) k ∙ entry-plain
-command-decided tables (password p) mode few h k = by-entry tables mode (dataOf (password p)) (command-printable tables (password p) h) k ∙ entry-password p h
-command-decided tables readClock mode few h k = by-asked tables mode (dataOf readClock) (command-printable tables readClock h) k ∙ asked-clock tables
-command-decided tables readSerial mode few h k = by-asked tables mode (dataOf readSerial) (command-printable tables readSerial h) k ∙ asked-serial tables
-command-decided tables readAccount mode few h k = by-asked tables mode (dataOf readAccount) (command-printable tables readAccount h) k ∙ asked-account tables
-command-decided tables readTotal mode few h k = by-asked tables mode (dataOf readTotal) (command-printable tables readTotal h) k ∙ asked-total tables
-command-decided tables (readZone n) mode few h k = by-asked tables mode (dataOf (readZone n)) (command-printable tables (readZone n) h) k ∙ asked-zone tables n (zone-least n h) (zone-most n h)
-command-decided tables (readTable n) mode few h k = by-asked tables mode (dataOf (readTable n)) (command-printable tables (readTable n) h) k ∙ asked-table tables n few h
-command-decided tables (writeClock c) mode few h k = by-told tables mode (dataOf (writeClock c)) (command-printable tables (writeClock c) h) k ∙ told-clock tables c h
-command-decided tables (writeAccount a) mode few h k = by-told tables mode (dataOf (writeAccount a)) (command-printable tables (writeAccount a) h) k ∙ told-account tables a h
-command-decided tables (writeTable n row) mode few h k =
-    by-told tables mode (dataOf (writeTable n row)) (command-printable tables (writeTable n row) h) k
-    ∙ told-table tables n row few (and-left (goodTable tables n) (goodRow row) h) (and-right (goodTable tables n) (goodRow row) h)
+module _ (tables family mode : ℕ) (few : tables < 100) where
+  pub command-decided : (c : Command) → goodFields tables family c ≡ true → allowedAt c mode ≡ true
+      → verdict tables family mode (1 ∷ (bodyOf c ++ (3 ∷ []))) false (bccOf (bodyOf c ++ (3 ∷ []))) ≡ decidedAs c
+  unfolding decidedAs lettersOf dataOf allowedAt goodFields sameText matching
+  command-decided enter h k = by-entry tables family mode (dataOf enter) (command-printable tables family enter h) k ∙ entry-plain
+  command-decided (password p) h k = by-entry tables family mode (dataOf (password p)) (command-printable tables family (password p) h) k ∙ entry-password p h
+  command-decided readClock h k = by-asked tables family mode (dataOf readClock) (command-printable tables family readClock h) k ∙ asked-clock tables family
+  command-decided readSerial h k = by-asked tables family mode (dataOf readSerial) (command-printable tables family readSerial h) k ∙ asked-serial tables family
+  command-decided readAccount h k = by-asked tables family mode (dataOf readAccount) (command-printable tables family readAccount h) k ∙ asked-account tables family
+  command-decided readTotal h k = by-asked tables family mode (dataOf readTotal) (command-printable tables family readTotal h) k ∙ asked-total tables family
+  command-decided (readZone n) h k =
+      by-asked tables family mode (dataOf (readZone n)) (command-printable tables family (readZone n) h) k ∙ asked-zone tables family n (zone-least n h) (zone-most n h)
+  command-decided readTotalOut h k = by-asked tables family mode (dataOf readTotalOut) (command-printable tables family readTotalOut h) k ∙ asked-total-out tables family h
+  command-decided (readZoneOut n) h k =
+      let zone = and-right (isEqm family) (goodZone n) h in
+      by-asked tables family mode (dataOf (readZoneOut n)) (command-printable tables family (readZoneOut n) h) k
+      ∙ asked-zone-out tables family n (and-left (isEqm family) (goodZone n) h) (zone-least n zone) (zone-most n zone)
+  command-decided (readTable n) h k = by-asked tables family mode (dataOf (readTable n)) (command-printable tables family (readTable n) h) k ∙ asked-table tables family n few h
+  command-decided (writeClock c) h k = by-told tables family mode (dataOf (writeClock c)) (command-printable tables family (writeClock c) h) k ∙ told-clock tables c h
+  command-decided (writeAccount a) h k = by-told tables family mode (dataOf (writeAccount a)) (command-printable tables family (writeAccount a) h) k ∙ told-account tables a h
+  command-decided (writeTable n row) h k =
+      by-told tables family mode (dataOf (writeTable n row)) (command-printable tables family (writeTable n row) h) k
+      ∙ told-table tables n row few (and-left (goodTable tables n) (goodRow row) h) (and-right (goodTable tables n) (goodRow row) h)
 
 -- what stood in the brackets, as the meter takes it from what it holds
 given : (x : List ℕ) (n : ℕ) (zs : List ℕ) → length x ≡ n → take n (((x ++ (41 ∷ [])) ++ (3 ∷ [])) ++ zs) ≡ x
@@ -102,7 +111,7 @@ row-given n row zs h = given row rowLength zs (row-long row h)
 
 module _ (mode a s : ℕ) (g : Registers) where
   -- and it does what the command says
-  pub command-done : (c : Command) → goodFields (tablesIn g) c ≡ true → acted (holding mode a s g 1 (bodyOf c ++ (3 ∷ []))) (decidedAs c) ≡ obeyed (idle mode a s g) c
+  pub command-done : (c : Command) → goodFields (tablesIn g) (familyIn g) c ≡ true → acted (holding mode a s g 1 (bodyOf c ++ (3 ∷ []))) (decidedAs c) ≡ obeyed (idle mode a s g) c
   unfolding acted decidedAs obeyed goodFields
   command-done enter h = refl
   command-done (password p) h =
@@ -114,6 +123,8 @@ module _ (mode a s : ℕ) (g : Registers) where
   command-done readAccount h = refl
   command-done readTotal h = refl
   command-done (readZone n) h = refl
+  command-done readTotalOut h = refl
+  command-done (readZoneOut n) h = refl
   command-done (readTable n) h = refl
   command-done (writeClock c) h = refl
   command-done (writeAccount x) h = ap (λ (x : List ℕ). ack s (idle mode a s (withAccount g x))) (account-given x (spare (bodyOf (writeAccount x))) h)
@@ -136,11 +147,11 @@ allowed-low c mode = pick (sameText (lettersOf c) P1) (sameText (lettersOf c) R1
     pick false false h = is 4 (lit≤ tt) h
 
 -- its characters are held for themselves
-body-plain : (tables : ℕ) (c : Command) → goodFields tables c ≡ true → every inFrame (bodyOf c) ≡ true
+body-plain : (tables family : ℕ) (c : Command) → goodFields tables family c ≡ true → every inFrame (bodyOf c) ≡ true
 unfolding every
-body-plain tables c h =
+body-plain tables family c h =
     every-append inFrame (lettersOf c) (2 ∷ dataOf c) (every-weaker isPrintable inFrame prints (lettersOf c) (letters-printable c))
-    (and-both (inFrame 2) (every inFrame (dataOf c)) (unfold besides in refl) (every-weaker isPrintable inFrame prints (dataOf c) (command-printable tables c h)))
+    (and-both (inFrame 2) (every inFrame (dataOf c)) (unfold besides in refl) (every-weaker isPrintable inFrame prints (dataOf c) (command-printable tables family c h)))
   where
     prints : (x : ℕ) → isPrintable x ≡ true → inFrame x ≡ true
     prints x = printable-besides 1 1 x (lit< tt) (lit< tt)
@@ -149,13 +160,13 @@ pub body-long : (c : Command) → length (bodyOf c) ≡ length (dataOf c) + 3
 body-long c = omega (arith, letters-two c, length-append (lettersOf c) (2 ∷ dataOf c))
 
 -- given byte by byte, it is taken at its last byte
-pub command-fed : (mode a s : ℕ) (g : Registers) (c : Command) → Fit mode a s g → goodFields (tablesIn g) c ≡ true → allowedAt c mode ≡ true
+pub command-fed : (mode a s : ℕ) (g : Registers) (c : Command) → Fit mode a s g → goodFields (tablesIn g) (familyIn g) c ≡ true → allowedAt c mode ≡ true
     → Fed (idle mode a s g) (onWire (spoken c)) (atLast (suc (suc (length (bodyOf c)))) s (saidIn (obeyed (idle mode a s g) c))) (obeyed (idle mode a s g) c .next)
 unfolding spoken frameOf
 command-fed mode a s g c fit h k =
     let few : tablesIn g < 100 = omega (arith, tables-most (g .facts .edition)) in
-    let d = command-decided (tablesIn g) c mode few h k in
-    frame-fed mode a s g fit (allowed-low c mode k) (bodyOf c) (body-plain (tablesIn g) c h) (omega (arith, body-long c, data-short (tablesIn g) c h)) (obeyed (idle mode a s g) c)
+    let d = command-decided (tablesIn g) (familyIn g) mode few c h k in
+    frame-fed mode a s g fit (allowed-low c mode k) (bodyOf c) (body-plain (tablesIn g) (familyIn g) c h) (omega (arith, body-long c, data-short (tablesIn g) (familyIn g) c h)) (obeyed (idle mode a s g) c)
     (ap (acted (holding mode a s g 1 (bodyOf c ++ (3 ∷ [])))) d ∙ command-done mode a s g c h)
 
 -- [3]: a write of a table that the meter has not is refused with 9, and nothing else comes of it
@@ -164,7 +175,33 @@ pub other-fed : (a s : ℕ) (g : Registers) (n : ℕ) (row : List ℕ) → Fit 4
 unfolding spoken frameOf acted goodFields goodTable between lettersOf dataOf setTable
 other-fed a s g n row fit low small none good =
     let c = writeTable n row in
-    let fields : goodFields 99 c ≡ true = rw (le-leb 1 n low, le-leb n 99 (omega arith)) good in
-    let d = by-told (tablesIn g) 4 (dataOf c) (command-printable 99 c fields) refl ∙ told-other (tablesIn g) n row low small none good in
-    frame-fed 4 a s g fit (lit≤ tt) (bodyOf c) (body-plain 99 c fields) (omega (arith, body-long c, data-short 99 c fields)) (nak 9 (idle 4 a s g))
+    let fields : goodFields 99 0 c ≡ true = rw (le-leb 1 n low, le-leb n 99 (omega arith)) good in
+    let d = by-told (tablesIn g) (familyIn g) 4 (dataOf c) (command-printable 99 0 c fields) refl ∙ told-other (tablesIn g) n row low small none good in
+    frame-fed 4 a s g fit (lit≤ tt) (bodyOf c) (body-plain 99 0 c fields) (omega (arith, body-long c, data-short 99 0 c fields)) (nak 9 (idle 4 a s g))
     (ap (acted (holding 4 a s g 1 (bodyOf c ++ (3 ∷ [])))) d)
+
+-- [10]: what went out is not told by a meter of document 01's family: 9, and nothing else comes of it
+low-reads : (mode : ℕ) → (eqb mode 3 || eqb mode 4) ≡ true → 2 ≤ mode
+low-reads mode h =
+    ⊎-elim (λ (e : eqb mode 3 ≡ true). omega (arith, eqb-true mode 3 e)) (λ (e : eqb mode 4 ≡ true). omega (arith, eqb-true mode 4 e)) (or-cases (eqb mode 3) (eqb mode 4) h)
+
+module _ (mode a s : ℕ) (g : Registers) (fit : Fit mode a s g) (reads : (eqb mode 3 || eqb mode 4) ≡ true) (old : familyIn g ≡ 0) where
+  abbrev Untold : Command → Type 0
+  Untold c =
+      Fed (idle mode a s g) (onWire (spoken c)) (atLast (suc (suc (length (bodyOf c)))) s (saidIn (nak 9 (idle mode a s g)))) (nak 9 (idle mode a s g) .next)
+
+  untold : (n : ℕ) (c : Command) → lettersOf c ≡ R1 → dataOf c ≡ askExport n → n ≤ 4 → goodFields 1 2 c ≡ true → Untold c
+  unfolding spoken frameOf acted
+  untold n c letters asks few fields =
+      let d : verdict (tablesIn g) (familyIn g) mode (1 ∷ (bodyOf c ++ (3 ∷ []))) false (bccOf (bodyOf c ++ (3 ∷ []))) ≡ Refuse 9 =
+      rw (letters, asks, old) (by-asked (tablesIn g) 0 mode (askExport n) (rw asks at (command-printable 1 2 c fields)) reads ∙ asked-out-none (tablesIn g) n few) in
+      frame-fed mode a s g fit (low-reads mode reads) (bodyOf c) (body-plain 1 2 c fields) (omega (arith, body-long c, data-short 1 2 c fields)) (nak 9 (idle mode a s g))
+      (ap (acted (holding mode a s g 1 (bodyOf c ++ (3 ∷ [])))) d)
+
+  pub total-untold : Untold readTotalOut
+  unfolding lettersOf dataOf goodFields isEqm
+  total-untold = untold 0 readTotalOut refl refl (omega arith) refl
+
+  pub zone-untold : (n : ℕ) → goodZone n ≡ true → Untold (readZoneOut n)
+  unfolding lettersOf dataOf goodFields isEqm
+  zone-untold n h = untold n (readZoneOut n) refl refl (zone-most n h) h

@@ -19,7 +19,7 @@ use Rattle.frames.specs.Frames.{closed, frameOf, bareFrame, onWire}
 use Rattle.frames.specs.Session.{signOn, closingSignOn, signOnTo, wiredSignOn, confirmation, goodSpeed}
 use Rattle.frames.proofs.Lines.{wired-line-long}
 use Rattle.state.specs.declared.Registers.{Registers}
-use Rattle.state.specs.WellFormed.{tablesIn}
+use Rattle.state.specs.WellFormed.{tablesIn, familyIn}
 use Rattle.state.specs.declared.Meter.{Meter}
 use Rattle.state.specs.Link.{linkOf, isWired}
 use Rattle.state.proofs.Parts.{rest-low}
@@ -27,7 +27,7 @@ use Rattle.meter.specs.Link.{slowToo}
 use Rattle.meter.specs.Outcomes.{Outcome}
 use Rattle.commands.specs.declared.Built.{Built}
 use Rattle.commands.specs.Building.{goodChoice, builtIn, keptOr, Builds}
-use Rattle.commands.specs.Spoken.{Command, enter, password, readClock, readSerial, readAccount, readTotal, readZone, readTable, writeClock, writeAccount, writeTable, spoken}
+use Rattle.commands.specs.Spoken.{Command, enter, password, readClock, readSerial, readAccount, readTotal, readZone, readTotalOut, readZoneOut, readTable, writeClock, writeAccount, writeTable, spoken}
 use Rattle.dialogue.specs.Feeding.{saidIn, atLast}
 use Rattle.commands.specs.Messages.{Message, call, close, callTo, callWired, confirm, command, leave, textOf, goodMessage}
 use Rattle.dialogue.specs.Messages.{allowedIn, triedWith, obeyed, names, digitHeard, heardOn, outcomeOf, Listens, Taken, misheard}
@@ -64,7 +64,7 @@ at-low mode n a s g x low e fit f =
     let slow : s ≡ resting g = rest-low (g .facts .link) n s low (here .speed) in
     at-mode mode n a s g x e (subst (λ (k : ℕ). FedAs (idle n a k g) x) (sym slow) (f (subst (λ (k : ℕ). Fit n a k g) slow here)))
 
-pub message-fed : (mode a s : ℕ) (g : Registers) (x : Message) → Fit mode a s g → goodMessage (tablesIn g) x ≡ true → allowedIn x mode ≡ true → FedAs (idle mode a s g) x
+pub message-fed : (mode a s : ℕ) (g : Registers) (x : Message) → Fit mode a s g → goodMessage (tablesIn g) (familyIn g) x ≡ true → allowedIn x mode ≡ true → FedAs (idle mode a s g) x
 unfolding textOf goodMessage allowedIn
 message-fed mode a s g call fit h k = unfold signOn in (at-low mode 0 a s g call (lit≤ tt) k fit (call-fed a g))
 message-fed mode a s g close fit h k = unfold closingSignOn in (at-low mode 0 a s g close (lit≤ tt) k fit (close-fed a g))
@@ -93,7 +93,7 @@ pub idle-listens : (mode a s : ℕ) (g : Registers) (x : Message) → Fit mode a
 idle-listens mode a s g x fit k = record { formed = idle-formed mode a s g fit; empty = refl; allowed = k }
 
 -- what the head says is what the meter takes
-pub message-taken : (m : Meter) (x : Message) → goodMessage (tablesIn (m .registers)) x ≡ true → Listens m x → Taken m x (onWire (textOf x))
+pub message-taken : (m : Meter) (x : Message) → goodMessage (tablesIn (m .registers)) (familyIn (m .registers)) x ≡ true → Listens m x → Taken m x (onWire (textOf x))
 message-taken m x h l =
     let f = l .formed in
     let fed = subst (λ (n : Meter). FedAs n x) (sym (idle-is m f (l .empty))) (message-fed (m .mode) (m .attempts) (m .speed) (m .registers) x (fit-is m f) h (l .allowed)) in
@@ -103,18 +103,18 @@ message-taken m x h l =
     }
 
 -- and that is what stands in the buffer of a builder whose promise is kept
-pub built-is-said : (tables : ℕ) (x : Message) (buf : List ℕ) (r : Built) (after : List ℕ) → goodMessage tables x ≡ true → 64 ≤ length buf
-    → Builds buf (goodMessage tables x) (onWire (textOf x)) r after → take (r .length) after ≡ onWire (textOf x)
+pub built-is-said : (tables family : ℕ) (x : Message) (buf : List ℕ) (r : Built) (after : List ℕ) → goodMessage tables family x ≡ true → 64 ≤ length buf
+    → Builds buf (goodMessage tables family x) (onWire (textOf x)) r after → take (r .length) after ≡ onWire (textOf x)
 unfolding builtIn keptOr holding
-built-is-said tables x buf r after h room b =
+built-is-said tables family x buf r after h room b =
     let bytes = onWire (textOf x) in
     let k : r ≡ record { number = 1; length = length bytes } = rw (h, le-ltb (length buf) 64 room) at (b .answer) in
     let w : after ≡ bytes ++ drop (length bytes) buf = rw (h, le-ltb (length buf) 64 room) at (b .held) in
     ap₂ (λ (n : Built) (l : List ℕ). take (n .length) l) k w ∙ take-append-seam bytes (drop (length bytes) buf)
 
-pub built-taken : (m : Meter) (x : Message) (buf : List ℕ) (r : Built) (after : List ℕ) → Listens m x → goodMessage (tablesIn (m .registers)) x ≡ true → 64 ≤ length buf
-    → Builds buf (goodMessage (tablesIn (m .registers)) x) (onWire (textOf x)) r after → Taken m x (take (r .length) after)
-built-taken m x buf r after l h room b = subst (Taken m x) (sym (built-is-said (tablesIn (m .registers)) x buf r after h room b)) (message-taken m x h l)
+pub built-taken : (m : Meter) (x : Message) (buf : List ℕ) (r : Built) (after : List ℕ) → Listens m x → goodMessage (tablesIn (m .registers)) (familyIn (m .registers)) x ≡ true → 64 ≤ length buf
+    → Builds buf (goodMessage (tablesIn (m .registers)) (familyIn (m .registers)) x) (onWire (textOf x)) r after → Taken m x (take (r .length) after)
+built-taken m x buf r after l h room b = subst (Taken m x) (sym (built-is-said (tablesIn (m .registers)) (familyIn (m .registers)) x buf r after h room b)) (message-taken m x h l)
 
 -- and never as something else
 either : (b : Bool) (x y : Outcome) → misheard (x .number) ≡ false → misheard (y .number) ≡ false → misheard (cond b x y .number) ≡ false
@@ -130,6 +130,8 @@ command-heard m readSerial = refl
 command-heard m readAccount = refl
 command-heard m readTotal = refl
 command-heard m (readZone n) = refl
+command-heard m readTotalOut = refl
+command-heard m (readZoneOut n) = refl
 command-heard m (readTable n) = refl
 command-heard m (writeClock c) = refl
 command-heard m (writeAccount a) = refl

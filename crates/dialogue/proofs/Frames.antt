@@ -21,7 +21,7 @@ use Rattle.state.specs.declared.Registers.{Registers}
 use Rattle.state.specs.declared.Meter.{Meter}
 use Rattle.receiving.specs.declared.Hearing.the-variants.{Frame}
 use Rattle.deciding.specs.Shape.{startGood, bareShape, framedShape, content}
-use Rattle.state.specs.WellFormed.{tablesIn}
+use Rattle.state.specs.WellFormed.{tablesIn, familyIn}
 use Rattle.deciding.specs.Verdict.{framedVerdict, shapeVerdict, verdict}
 use Rattle.meter.specs.Outcomes.{Outcome, silent}
 use Rattle.meter.specs.Acting.{acted}
@@ -65,7 +65,7 @@ module _ (mode a s : ℕ) (g : Registers) (fit : Fit mode a s g) (h : 2 ≤ mode
       small x k = let s = other 1 1 x k .plain .small in rw (le-leb 0 x (omega arith), le-leb x 127 (omega arith))
 
   -- after ETX the frame is whole, whatever comes
-  completes : (c : ℕ) → c < 128 → character ended replyRoom (sent c) ≡ acted ended (verdict (tablesIn g) mode (1 ∷ (body ++ (3 ∷ []))) false c)
+  completes : (c : ℕ) → c < 128 → character ended replyRoom (sent c) ≡ acted ended (verdict (tablesIn g) (familyIn g) mode (1 ∷ (body ++ (3 ∷ []))) false c)
   unfolding heard
   completes c low =
       let ys = body ++ (3 ∷ []) in
@@ -76,11 +76,11 @@ module _ (mode a s : ℕ) (g : Registers) (fit : Fit mode a s g) (h : 2 ≤ mode
       ∙ ap (λ (x : ℕ). eqb x 3) (getD-append-seam body 3 zs 0) in
       let f = holding-formed mode a s g fit 1 inFrame (frame-rule mode h) ys (omega (arith, frame-limit mode h)) ended-small in
       heard-as ended c Frame f low (ends-frame mode h (length ys) _ c (ap (λ (k : ℕ). eqb k 3) (last-held 1 ys) ∙ l))
-      ∙ at-none (acted ended (verdict (tablesIn g) mode _ false c)) (acted-nowhere ended (verdict (tablesIn g) mode _ false c))
-      ∙ ap (λ (t : List ℕ). acted ended (verdict (tablesIn g) mode t false c)) (held-is 1 ys)
+      ∙ at-none (acted ended (verdict (tablesIn g) (familyIn g) mode _ false c)) (acted-nowhere ended (verdict (tablesIn g) (familyIn g) mode _ false c))
+      ∙ ap (λ (t : List ℕ). acted ended (verdict (tablesIn g) (familyIn g) mode t false c)) (held-is 1 ys)
 
   -- all of it: nothing at each byte but the last, and there what is done with the verdict
-  pub frame-fed : (o : Outcome) → acted ended (verdict (tablesIn g) mode (1 ∷ (body ++ (3 ∷ []))) false (bccOf (body ++ (3 ∷ [])))) ≡ o
+  pub frame-fed : (o : Outcome) → acted ended (verdict (tablesIn g) (familyIn g) mode (1 ∷ (body ++ (3 ∷ []))) false (bccOf (body ++ (3 ∷ [])))) ≡ o
       → Fed (idle mode a s g) (onWire (1 ∷ closed body)) (atLast (suc (suc (length body))) s (saidIn o)) (o .next)
   unfolding closed
   frame-fed o e =
@@ -119,11 +119,11 @@ module _ (x y : ℕ) (d : List ℕ) (px : isPrintable x ≡ true) (py : isPrinta
   unfolding framedShape startGood
   framed = rw (content-is, etx-last, printable, px, py, le-leb 5 (length (heldFrame x y d)) (omega (arith, frame-long)))
 
-  shape-is : (tables mode : ℕ) → shapeVerdict tables mode (heldFrame x y d) ≡ framedVerdict tables mode x y d
+  shape-is : (tables family mode : ℕ) → shapeVerdict tables family mode (heldFrame x y d) ≡ framedVerdict tables family mode x y d
   unfolding shapeVerdict
-  shape-is tables mode = rw (not-bare, framed, content-is)
+  shape-is tables family mode = rw (not-bare, framed, content-is)
 
   -- a frame of two printable letters and printable data goes by them
-  pub verdict-is : (tables mode : ℕ) → verdict tables mode (heldFrame x y d) false (bccOf (x ∷ y ∷ 2 ∷ (d ++ (3 ∷ [])))) ≡ framedVerdict tables mode x y d
+  pub verdict-is : (tables family mode : ℕ) → verdict tables family mode (heldFrame x y d) false (bccOf (x ∷ y ∷ 2 ∷ (d ++ (3 ∷ [])))) ≡ framedVerdict tables family mode x y d
   unfolding verdict
-  verdict-is tables mode = rw (eq-eqb (bccOf (x ∷ y ∷ 2 ∷ (d ++ (3 ∷ [])))) _ refl) (shape-is tables mode)
+  verdict-is tables family mode = rw (eq-eqb (bccOf (x ∷ y ∷ 2 ∷ (d ++ (3 ∷ [])))) _ refl) (shape-is tables family mode)

@@ -1,6 +1,6 @@
 -- The data of each command, as the meter reads them: P1 is an entry, R1 an ask, W1 a change. Assumes nothing.
 use mathlib.Core.Path.{_≡_, refl, sym, ap, _∙_}
-use mathlib.Core.Bool.{true, false, cond, _&&_, and-true}
+use mathlib.Core.Bool.{Bool, true, false, cond, _&&_, and-true}
 use mathlib.Core.List.{List, [], _∷_, _++_}
 use Prim.Native.Nat.{ℕ, zero, suc, _+_, _-_, _/_, _%_, _^_, _≤_, _<_}
 use native.Mathlib.Omega.{arith}
@@ -20,17 +20,18 @@ use Rattle.text.proofs.Matching.{matching-length}
 use Rattle.clock.specs.declared.Clock.{Clock}
 use Rattle.clock.specs.Seconds.{realClock}
 use Rattle.values.specs.declared.Energy.the-variants.{Total}
+use Rattle.values.specs.Family.{isEqm}
 use Rattle.values.specs.Registers.{zoneEnergy, goodZone, goodDigits, goodPassword, goodAccount, goodRow, goodTable}
 use Rattle.values.specs.Texts.{tableText, clockText, tableForm}
 use Rattle.values.specs.Reading.{tableRead, someTable, noTable}
 use Rattle.values.specs.declared.reading.TableRead.{TableRead}
 use Rattle.values.proofs.RoundTrip.{clock-reads-back, table-reads-back}
 use Rattle.values.proofs.Rules.{digits-long}
-use Rattle.frames.specs.Commands.{bracketed, askClock, askSerial, askAccount, askEnergy, askTable, setClock, setAccount, setTable}
+use Rattle.frames.specs.Commands.{bracketed, askClock, askSerial, askAccount, askEnergy, askExport, askTable, setClock, setAccount, setTable}
 use Rattle.frames.specs.Session.{enterData, passwordData}
 use Rattle.replies.specs.declared.Ask.the-variants as ask
 use Rattle.deciding.specs.declared.Verdict.the-variants.{Refuse, Enter, Password, Read, WriteClock, WriteAccount, WriteTable}
-use Rattle.deciding.specs.Asking.{tableNamed, tableAsked, energyAsked, asked}
+use Rattle.deciding.specs.Asking.{tableNamed, tableAsked, energyNamed, energyAt, energyAsked, asked}
 use Rattle.deciding.specs.Telling.{enclosed, inner, clockNamed, clockTold, accountTold, tableMeant, tableTold, told}
 use Rattle.deciding.specs.Verdict.{entry}
 
@@ -64,39 +65,67 @@ module _ (p : List ℕ) (good : goodPassword p ≡ true) where
 
 -- R1
 
-pub asked-clock : (tables : ℕ) → asked tables askClock ≡ Read ask.Clock
+pub asked-clock : (tables family : ℕ) → asked tables family askClock ≡ Read ask.Clock
 unfolding asked askClock bracketed sameText matching
-asked-clock tables = refl
+asked-clock tables family = refl
 
-pub asked-serial : (tables : ℕ) → asked tables askSerial ≡ Read ask.Serial
+pub asked-serial : (tables family : ℕ) → asked tables family askSerial ≡ Read ask.Serial
 unfolding asked askClock askSerial bracketed sameText matching
-asked-serial tables = refl
+asked-serial tables family = refl
 
-pub asked-account : (tables : ℕ) → asked tables askAccount ≡ Read ask.Account
+pub asked-account : (tables family : ℕ) → asked tables family askAccount ≡ Read ask.Account
 unfolding asked askClock askSerial askAccount bracketed sameText matching
-asked-account tables = refl
+asked-account tables family = refl
 
-pub asked-total : (tables : ℕ) → asked tables (askEnergy 0) ≡ Read (ask.Energy Total)
-unfolding asked energyAsked askClock askSerial askAccount askEnergy bracketed sameText matching
-asked-total tables = refl
+pub asked-total : (tables family : ℕ) → asked tables family (askEnergy 0) ≡ Read (ask.Energy Total)
+unfolding asked energyAsked energyNamed energyAt askClock askSerial askAccount askEnergy bracketed sameText matching
+asked-total tables family = refl
 
 pub zone-least : (n : ℕ) → goodZone n ≡ true → 1 ≤ n
 unfolding goodZone between
 zone-least n h = leb-true 1 n (and-left (leb 1 n) (leb n 4) h)
 
-pub asked-zone : (tables n : ℕ) → 1 ≤ n → n ≤ 4 → asked tables (askEnergy n) ≡ Read (ask.Energy (zoneEnergy n))
-unfolding asked energyAsked askClock askSerial askAccount askEnergy bracketed sameText matching
-asked-zone tables zero l h = absurd (omega arith)
-asked-zone tables (suc zero) l h = refl
-asked-zone tables (suc (suc zero)) l h = refl
-asked-zone tables (suc (suc (suc zero))) l h = refl
-asked-zone tables (suc (suc (suc (suc zero)))) l h = refl
-asked-zone tables (suc (suc (suc (suc (suc n))))) l h = absurd (omega arith)
+pub asked-zone : (tables family n : ℕ) → 1 ≤ n → n ≤ 4 → asked tables family (askEnergy n) ≡ Read (ask.Energy (zoneEnergy n))
+unfolding asked energyAsked energyNamed energyAt askClock askSerial askAccount askEnergy bracketed sameText matching
+asked-zone tables family zero l h = absurd (omega arith)
+asked-zone tables family (suc zero) l h = refl
+asked-zone tables family (suc (suc zero)) l h = refl
+asked-zone tables family (suc (suc (suc zero))) l h = refl
+asked-zone tables family (suc (suc (suc (suc zero)))) l h = refl
+asked-zone tables family (suc (suc (suc (suc (suc n))))) l h = absurd (omega arith)
+
+-- of an EQM meter, what went out
+pub asked-total-out : (tables family : ℕ) → isEqm family ≡ true → asked tables family (askExport 0) ≡ Read (ask.Export Total)
+unfolding asked energyAsked energyNamed energyAt askClock askSerial askAccount askExport bracketed sameText matching
+asked-total-out tables family e = rw e
+
+pub asked-zone-out : (tables family n : ℕ) → isEqm family ≡ true → 1 ≤ n → n ≤ 4 → asked tables family (askExport n) ≡ Read (ask.Export (zoneEnergy n))
+unfolding asked energyAsked energyNamed energyAt askClock askSerial askAccount askExport bracketed sameText matching
+asked-zone-out tables family zero e l h = absurd (omega arith)
+asked-zone-out tables family (suc zero) e l h = rw e
+asked-zone-out tables family (suc (suc zero)) e l h = rw e
+asked-zone-out tables family (suc (suc (suc zero))) e l h = rw e
+asked-zone-out tables family (suc (suc (suc (suc zero)))) e l h = rw e
+asked-zone-out tables family (suc (suc (suc (suc (suc n))))) e l h = absurd (omega arith)
+
+-- one of document 01's family is not asked for it
+pub asked-out-none : (tables n : ℕ) → n ≤ 4 → asked tables 0 (askExport n) ≡ Refuse 9
+unfolding asked energyAsked energyNamed tableAsked isEqm askClock askSerial askAccount askExport bracketed sameText matching fits agrees
+asked-out-none tables zero h = refl
+asked-out-none tables (suc zero) h = refl
+asked-out-none tables (suc (suc zero)) h = refl
+asked-out-none tables (suc (suc (suc zero))) h = refl
+asked-out-none tables (suc (suc (suc (suc zero)))) h = refl
+asked-out-none tables (suc (suc (suc (suc (suc n))))) h = absurd (omega arith)
+
+neither : (b : Bool) → (b && false) ≡ false
+neither true = refl
+neither false = refl
 
 -- Z(xx), of two digits
-two-asked : (tables x y : ℕ) → isDigit x ≡ true → isDigit y ≡ true → asked tables (90 ∷ 40 ∷ x ∷ y ∷ 41 ∷ []) ≡ tableNamed (tableRead tables (x ∷ y ∷ []))
-unfolding asked energyAsked tableAsked askClock askSerial askAccount askEnergy bracketed sameText matching fits agrees
-two-asked tables x y hx hy = rw (hx, hy)
+two-asked : (tables family x y : ℕ) → isDigit x ≡ true → isDigit y ≡ true → asked tables family (90 ∷ 40 ∷ x ∷ y ∷ 41 ∷ []) ≡ tableNamed (tableRead tables (x ∷ y ∷ []))
+unfolding asked energyAsked energyNamed tableAsked askClock askSerial askAccount bracketed sameText matching fits agrees
+two-asked tables family x y hx hy = rw (neither (isEqm family), hx, hy)
 
 ask-table-is : (n : ℕ) → askTable n ≡ 90 ∷ 40 ∷ (48 + n / 10 % 10) ∷ (48 + n % 10) ∷ 41 ∷ []
 unfolding askTable bracketed tableText layoutText decimal
@@ -106,10 +135,10 @@ digits-are : (n : ℕ) → (48 + n / 10 % 10) ∷ (48 + n % 10) ∷ [] ≡ table
 unfolding tableText layoutText decimal
 digits-are n = refl
 
-pub asked-table : (tables n : ℕ) → tables < 100 → goodTable tables n ≡ true → asked tables (askTable n) ≡ Read (ask.Table (record { 0 = n }))
-asked-table tables n few good =
-    ap (asked tables) (ask-table-is n)
-    ∙ two-asked tables (48 + n / 10 % 10) (48 + n % 10) (digit-is (n / 10 % 10) (omega arith)) (digit-is (n % 10) (omega arith))
+pub asked-table : (tables family n : ℕ) → tables < 100 → goodTable tables n ≡ true → asked tables family (askTable n) ≡ Read (ask.Table (record { 0 = n }))
+asked-table tables family n few good =
+    ap (asked tables family) (ask-table-is n)
+    ∙ two-asked tables family (48 + n / 10 % 10) (48 + n % 10) (digit-is (n / 10 % 10) (omega arith)) (digit-is (n % 10) (omega arith))
     ∙ ap (λ (t : List ℕ). tableNamed (tableRead tables t)) (digits-are n)
     ∙ ap tableNamed (table-reads-back tables n few good)
 

@@ -26,7 +26,7 @@ use Rattle.frames.specs.Session.{signOn, closingSignOn, signOnTo, wiredLine, wi
 use Rattle.state.specs.Sizes.{replyRoom}
 use Rattle.state.specs.declared.Registers.{Registers}
 use Rattle.state.specs.declared.Meter.{Meter}
-use Rattle.state.specs.WellFormed.{tablesIn, limit}
+use Rattle.state.specs.WellFormed.{tablesIn, familyIn, limit}
 use Rattle.state.specs.Closing.{closing}
 use Rattle.state.proofs.Parts.{formed-registers, formed-facts}
 use Rattle.receiving.specs.declared.Hearing.the-variants.{Line, Confirm}
@@ -333,13 +333,13 @@ module _ (a : ℕ) (g : Registers) (fit : Fit 1 a (resting g) g) where
 
 -- ---- B0
 
-leaves : (tables mode : ℕ) → (leb 2 mode && leb mode 4) ≡ true → verdict tables mode (1 ∷ 66 ∷ 48 ∷ 3 ∷ []) false (bccOf (66 ∷ 48 ∷ 3 ∷ [])) ≡ Leave
+leaves : (tables family mode : ℕ) → (leb 2 mode && leb mode 4) ≡ true → verdict tables family mode (1 ∷ 66 ∷ 48 ∷ 3 ∷ []) false (bccOf (66 ∷ 48 ∷ 3 ∷ [])) ≡ Leave
 unfolding verdict shapeVerdict bareVerdict bareShape startGood isPrintable between
-leaves tables mode h = rw (eq-eqb (bccOf (66 ∷ 48 ∷ 3 ∷ [])) _ refl, h)
+leaves tables family mode h = rw (eq-eqb (bccOf (66 ∷ 48 ∷ 3 ∷ [])) _ refl, h)
 
 pub leave-fed : (mode a s : ℕ) (g : Registers) → Fit mode a s g → (leb 2 mode && leb mode 4) ≡ true
     → Fed (idle mode a s g) (onWire (bareFrame B0)) (atLast 4 s (saidIn (outcomeOf (idle mode a s g) leave))) (outcomeOf (idle mode a s g) leave .next)
 unfolding bareFrame outcomeOf every besides acted
 leave-fed mode a s g fit h =
     frame-fed mode a s g fit (leb-true 2 mode (and-left (leb 2 mode) (leb mode 4) h)) (66 ∷ 48 ∷ []) refl (lit≤ tt) (ack s (idle 0 a (resting g) g))
-    (ap (acted (holding mode a s g 1 (66 ∷ 48 ∷ 3 ∷ []))) (leaves (tablesIn g) mode h))
+    (ap (acted (holding mode a s g 1 (66 ∷ 48 ∷ 3 ∷ []))) (leaves (tablesIn g) (familyIn g) mode h))

@@ -28,7 +28,7 @@ use Rattle.state.specs.Link.{linkOf, isWired}
 use Rattle.meter.specs.Link.{zeros, slowToo}
 use Rattle.meter.specs.Outcomes.{Outcome, speedOf, silent, saying, nak, ack}
 use Rattle.meter.specs.Character.{signedOn, periodClosed, readOut}
-use Rattle.commands.specs.Spoken.{Command, enter, password, readClock, readSerial, readAccount, readTotal, readZone, readTable, writeClock, writeAccount, writeTable, lettersOf}
+use Rattle.commands.specs.Spoken.{Command, enter, password, readClock, readSerial, readAccount, readTotal, readZone, readTotalOut, readZoneOut, readTable, writeClock, writeAccount, writeTable, lettersOf}
 use Rattle.commands.specs.Messages.{Message, call, close, callTo, callWired, confirm, command, leave}
 use Rattle.dialogue.specs.Feeding.{saidIn, answered, left, atLast}
 
@@ -55,6 +55,8 @@ decidedAs readSerial = verdict.Read ask.Serial
 decidedAs readAccount = verdict.Read ask.Account
 decidedAs readTotal = verdict.Read (ask.Energy Total)
 decidedAs (readZone n) = verdict.Read (ask.Energy (zoneEnergy n))
+decidedAs readTotalOut = verdict.Read (ask.Export Total)
+decidedAs (readZoneOut n) = verdict.Read (ask.Export (zoneEnergy n))
 decidedAs (readTable n) = verdict.Read (ask.Table (record { 0 = n }))
 decidedAs (writeClock c) = verdict.WriteClock c
 decidedAs (writeAccount a) = verdict.WriteAccount
@@ -80,6 +82,8 @@ obeyed m readSerial = telling m ask.Serial
 obeyed m readAccount = telling m ask.Account
 obeyed m readTotal = telling m (ask.Energy Total)
 obeyed m (readZone n) = telling m (ask.Energy (zoneEnergy n))
+obeyed m readTotalOut = telling m (ask.Export Total)
+obeyed m (readZoneOut n) = telling m (ask.Export (zoneEnergy n))
 obeyed m (readTable n) = telling m (ask.Table (record { 0 = n }))
 obeyed m (writeClock c) = ack (speedOf m) (withRegisters m (withClock (m .registers) c))
 obeyed m (writeAccount a) = ack (speedOf m) (withRegisters m (withAccount (m .registers) a))

@@ -24,7 +24,7 @@ W1 = chars "W1"
 unfoldable pub bracketed : List ℕ → List ℕ
 bracketed content = chars "(" ++ (content ++ chars ")")
 
--- R1: T(), L(), K(), E0() to E4(), Z(xx)
+-- R1: T(), L(), K(), E0() to E4(), Z(xx); [10]: G0() to G4()
 unfoldable pub askClock : List ℕ
 askClock = chars "T()"
 
@@ -34,9 +34,16 @@ askSerial = chars "L()"
 unfoldable pub askAccount : List ℕ
 askAccount = chars "K()"
 
--- 0 asks for the total, 1 to 4 for a zone
+-- a letter with a number: 0 asks for the total, 1 to 4 for a zone
+abbrev pub lettered : ℕ → ℕ → List ℕ
+lettered letter n = letter ∷ (char "0" + n) ∷ chars "()"
+
+-- of what came in, and of what went out
 unfoldable pub askEnergy : ℕ → List ℕ
-askEnergy n = char "E" ∷ (char "0" + n) ∷ chars "()"
+askEnergy n = lettered (char "E") n
+
+unfoldable pub askExport : ℕ → List ℕ
+askExport n = lettered (char "G") n
 
 unfoldable pub askTable : ℕ → List ℕ
 askTable n = char "Z" ∷ bracketed (tableText n)

@@ -5,7 +5,7 @@ ghost use Rattle.clock.specs.Seconds.{realClock, dateOf, timeOf};
 ghost use Rattle.values.specs.Edition.{tablesOf};
 ghost use Rattle.values.specs.Registers.{goodSerial, goodPassword, goodAccount, goodRow, goodTable, goodZone};
 ghost use Rattle.frames.specs.Frames.{frameOf, bareFrame, onWire};
-ghost use Rattle.frames.specs.Commands.{B0, P1, R1, W1, askClock, askSerial, askAccount, askEnergy, askTable, setClock, setAccount, setTable};
+ghost use Rattle.frames.specs.Commands.{B0, P1, R1, W1, askClock, askSerial, askAccount, askEnergy, askExport, askTable, setClock, setAccount, setTable};
 ghost use Rattle.frames.specs.Session.{signOn, closingSignOn, signOnTo, wiredSignOn, confirmation, goodSpeed, enterData, passwordData};
 ghost use Rattle.commands.specs.Building.{goodChoice, Builds, BuildsFor};
 use clock::Clock;
@@ -139,6 +139,26 @@ pub extern "C" fn dirgemist_head_read_zone(zone: u8, out: &mut [u8], size: &mut 
     ensures { λ r. ⌜ Builds (now (out .entry)) (goodZone zone) (onWire (frameOf R1 (askEnergy zone))) (record { number = r; length = now (size .exit) }) (now (out .exit)) ⌝ }
 {
     let b = commands::read_zone(out, ZoneNo(zone));
+    *size = b.length;
+    b.number
+}
+
+// R1 for the total of what went out.
+#[no_mangle]
+pub extern "C" fn dirgemist_head_read_total_out(out: &mut [u8], size: &mut usize) -> u8
+    ensures { λ r. ⌜ Builds (now (out .entry)) (true) (onWire (frameOf R1 (askExport 0))) (record { number = r; length = now (size .exit) }) (now (out .exit)) ⌝ }
+{
+    let b = commands::read_total_out(out);
+    *size = b.length;
+    b.number
+}
+
+// R1 for what went out in a zone.
+#[no_mangle]
+pub extern "C" fn dirgemist_head_read_zone_out(zone: u8, out: &mut [u8], size: &mut usize) -> u8
+    ensures { λ r. ⌜ Builds (now (out .entry)) (goodZone zone) (onWire (frameOf R1 (askExport zone))) (record { number = r; length = now (size .exit) }) (now (out .exit)) ⌝ }
+{
+    let b = commands::read_zone_out(out, ZoneNo(zone));
     *size = b.length;
     b.number
 }

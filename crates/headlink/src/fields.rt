@@ -2,11 +2,13 @@
 ghost use mathlib.Core.Path.{_≡_};
 ghost use lib.ListN.{length};
 ghost use Rattle.clock.specs.Seconds.{dateOf};
-ghost use Rattle.values.specs.Reading.{dateRead, timeRead, stampRead, counterRead};
+ghost use Rattle.values.specs.Reading.{dateRead, timeRead, stampRead, energyRead};
 ghost use Rattle.values.specs.Serials.{serialRead, accountRead, rowRead};
-ghost use Rattle.headlink.specs.Telling.{valueNumber, Tells};
+ghost use Rattle.headlink.specs.Telling.{valueNumber, Tells, eqmTold};
 
 pub const SHORT: u8 = 26;
+
+pub const NO_FAMILY: u8 = 18;
 
 fn number(ok: bool) -> u8
     ensures { λ r. ⌜ r ≡ valueNumber ok ⌝ }
@@ -124,10 +126,43 @@ pub extern "C" fn dirgemist_head_value_period(
 // A counter's Wh.
 #[no_mangle]
 pub extern "C" fn dirgemist_head_value_counter(value: &[u8], wh: &mut u32) -> u8
-    ensures number { λ r. ⌜ r ≡ valueNumber (counterRead 9 3 (now (value .entry)) .ok) ⌝ }
-    ensures wh { λ _. ⌜ now (wh .exit) ≡ counterRead 9 3 (now (value .entry)) .wh ⌝ }
+    ensures number { λ r. ⌜ r ≡ valueNumber (energyRead 0 (now (value .entry)) .ok) ⌝ }
+    ensures wh { λ _. ⌜ now (wh .exit) ≡ energyRead 0 (now (value .entry)) .number ⌝ }
 {
-    let v = values::reading::read_counter(value);
-    *wh = v.wh;
+    let v = values::reading::read_counter(value, 0);
+    *wh = v.number;
     number(v.ok)
+}
+
+// What is told of an EQM meter's counter.
+pub struct Counted {
+    pub number: u8,
+    pub count: u32,
+}
+
+fn read_eqm(decimals: u8, value: &[u8]) -> Counted
+    ensures { λ r. ⌜ r ≡ eqmTold decimals (now (value .entry)) ⌝ }
+{
+    let known = values::family::is_family(decimals) & values::family::is_eqm(decimals);
+    if known {
+        let v = values::reading::read_counter(value, decimals);
+        return Counted {
+            number: number(v.ok),
+            count: v.number,
+        };
+    }
+    Counted {
+        number: NO_FAMILY,
+        count: 0,
+    }
+}
+
+// An EQM meter's counter, in units of its last place; 18 for decimals that no such meter has.
+#[no_mangle]
+pub extern "C" fn dirgemist_head_value_eqm(decimals: u8, value: &[u8], count: &mut u32) -> u8
+    ensures { λ r. ⌜ record { number = r; count = now (count .exit) } ≡ eqmTold decimals (now (value .entry)) ⌝ }
+{
+    let t = read_eqm(decimals, value);
+    *count = t.count;
+    t.number
 }

@@ -10,22 +10,23 @@ use Rattle.text.specs.Decimal.{decimal, valueFrom, valueOf, numberAt}
 use Rattle.clock.specs.Dates.{leap, thirty, daysIn, realDate, realTime}
 use Rattle.clock.specs.Seconds.{realClock}
 use Rattle.values.specs.Edition.{tablesOf}
+use Rattle.values.specs.Family.{isEqm}
 use Rattle.values.specs.Registers.{goodDigits, isAccountCharacter, goodAccount, goodRow, goodTable}
 use Rattle.values.specs.Reading.{clockRead, tableRead}
 use Rattle.values.specs.Texts.{serialText, wiredText, tableText, clockText}
 use Rattle.frames.specs.Frames.{closed, frameOf, bareFrame}
-use Rattle.frames.specs.Commands.{bracketed, askClock, askSerial, askAccount, askEnergy, setClock, setAccount, setTable}
+use Rattle.frames.specs.Commands.{bracketed, askClock, askSerial, askAccount, askEnergy, askExport, setClock, setAccount, setTable}
 use Rattle.frames.specs.Session.{signOn, closingSignOn, signOnTo, wiredLine, confirmation, enterData, passwordData}
 use Rattle.state.specs.Link.{isWired}
 use Rattle.history.specs.Saying.{carries, says, orElse, since, endsWith}
-use Rattle.history.specs.Frames.{dataIn, isFrame, leaves, enters, tries, goodWrite, writeData, tells, inside, writeOf, writeIn, someWrite, isAsk, asks, isTaken}
+use Rattle.history.specs.Frames.{dataIn, isFrame, leaves, enters, tries, goodWrite, writeData, tells, inside, writeOf, writeIn, someWrite, isOneOf, isAsk, asks, isTaken}
 use Rattle.history.specs.Past.{happens, pastOf}
 use Rattle.history.specs.Standing.{calls, callsOptical, callsWired, closesPeriod, signsOn, asksForPassword, opened, refusedIn, standing}
 use Rattle.history.specs.Deeds.{wroteAll, deedsAt, deeds, writesOf}
 use Rattle.history.specs.Examples.{spoken, Examples}
 
 pub examples : Examples
-unfolding damagedAt seven sent undamagedAll bccOf every between isDigit isLetter isPrintable matching sameText agrees fits pattern layoutText decimal valueFrom valueOf numberAt leap thirty daysIn realDate realTime realClock goodDigits isAccountCharacter tablesOf goodAccount goodRow goodTable clockRead tableRead serialText wiredText tableText clockText closed frameOf bareFrame bracketed askClock askSerial askAccount askEnergy setClock setAccount setTable signOn closingSignOn signOnTo wiredLine isWired confirmation enterData passwordData carries says orElse since endsWith dataIn isFrame leaves enters tries goodWrite writeData tells inside writeOf writeIn someWrite isAsk asks isTaken happens pastOf calls callsOptical callsWired closesPeriod signsOn asksForPassword opened refusedIn standing wroteAll deedsAt deeds writesOf spoken ones
+unfolding damagedAt seven sent undamagedAll bccOf every between isDigit isLetter isPrintable matching sameText agrees fits pattern layoutText decimal valueFrom valueOf numberAt leap thirty daysIn realDate realTime realClock goodDigits isAccountCharacter tablesOf isEqm goodAccount goodRow goodTable clockRead tableRead serialText wiredText tableText clockText closed frameOf bareFrame bracketed askClock askSerial askAccount askEnergy askExport setClock setAccount setTable signOn closingSignOn signOnTo wiredLine isWired confirmation enterData passwordData carries says orElse since endsWith dataIn isFrame leaves enters tries goodWrite writeData tells inside writeOf writeIn someWrite isOneOf isAsk asks isTaken happens pastOf calls callsOptical callsWired closesPeriod signsOn asksForPassword opened refusedIn standing wroteAll deedsAt deeds writesOf spoken ones
 examples =
     record {
       programmed = refl;
@@ -50,6 +51,10 @@ examples =
       wired-deaf = refl;
       wired-dropped = refl;
       wired-asked = refl;
+      asked-out = refl;
+      no-out = refl;
+      pulse-out = refl;
+      no-pulse-out = refl;
       saturday = refl;
       no-saturday = refl;
     }

@@ -1,4 +1,4 @@
--- What a history tells the registers: the writes, the seconds, the energy and the calls that close a period, the newest first.
+-- What a history tells the registers: the writes, the seconds, the energy in and out and the calls that close a period, the newest first.
 use mathlib.Core.Bool.{cond, _&&_}
 use mathlib.Core.List.{List, [], _∷_, _++_}
 use Prim.Native.Nat.{ℕ}
@@ -6,7 +6,7 @@ use lib.Dec.{eqb}
 use Rattle.values.specs.Edition.{tablesOf}
 use Rattle.state.specs.declared.Facts.{Facts}
 use Rattle.meter.specs.declared.Event.{Event}
-use Rattle.meter.specs.declared.Event.the-variants.{Character, Silence, Tick, Pulse, PowerUp, Unknown}
+use Rattle.meter.specs.declared.Event.the-variants.{Character, Silence, Tick, Pulse, PowerUp, PulseOut, Unknown}
 use Rattle.history.specs.Frames.{Write, writeIn}
 use Rattle.history.specs.Standing.{Standing, standing, closesPeriod, isWhole, frameBy}
 
@@ -14,6 +14,7 @@ pub data Deed : Type 0 where
   wrote : Write → Deed
   second : Deed
   energy : ℕ → Deed
+  energyOut : ℕ → Deed
   closed : Deed
 
 unfoldable pub wroteAll : List Write → List Deed
@@ -30,8 +31,9 @@ unfoldable pub deedsAt : Facts → Standing → Event → List Deed
 deedsAt facts s (Character b) = byByte facts s b
 deedsAt facts s Silence = []
 deedsAt facts s Tick = second ∷ []
-deedsAt facts s (Pulse wh) = energy wh ∷ []
+deedsAt facts s (Pulse units) = energy units ∷ []
 deedsAt facts s PowerUp = []
+deedsAt facts s (PulseOut units) = energyOut units ∷ []
 deedsAt facts s Unknown = []
 
 unfoldable pub deeds : Facts → List Event → List Deed
@@ -43,5 +45,6 @@ unfoldable pub writesOf : List Deed → List Write
 writesOf [] = []
 writesOf (wrote w ∷ ds) = w ∷ writesOf ds
 writesOf (second ∷ ds) = writesOf ds
-writesOf (energy wh ∷ ds) = writesOf ds
+writesOf (energy units ∷ ds) = writesOf ds
+writesOf (energyOut units ∷ ds) = writesOf ds
 writesOf (closed ∷ ds) = writesOf ds

@@ -7,16 +7,16 @@ use Rattle.line.specs.Quoted.{char, chars}
 use Rattle.line.specs.Controls.{SOH, STX, ETX}
 use Rattle.line.specs.Characters.{sent}
 use Rattle.frames.specs.Frames.{frameOf, bareFrame, onWire}
-use Rattle.frames.specs.Commands.{B0, P1, R1, W1, askAccount, setAccount, setTable}
+use Rattle.frames.specs.Commands.{B0, P1, R1, W1, askAccount, askExport, setAccount, setTable}
 use Rattle.frames.specs.Session.{signOn, wiredSignOn, confirmation, enterData, passwordData}
 use Rattle.state.specs.Sizes.{replyRoom}
 use Rattle.state.specs.Making.{factsOf}
 use Rattle.state.specs.declared.Facts.{Facts}
 use Rattle.meter.specs.declared.Event.{Event}
-use Rattle.meter.specs.declared.Event.the-variants.{Character, Silence, Tick, Pulse, PowerUp}
+use Rattle.meter.specs.declared.Event.the-variants.{Character, Silence, Tick, Pulse, PowerUp, PulseOut}
 use Rattle.history.specs.Frames.{Write, account, row}
 use Rattle.history.specs.Past.{pastOf}
-use Rattle.history.specs.Deeds.{deeds, writesOf}
+use Rattle.history.specs.Deeds.{energyOut, deeds, writesOf}
 
 abbrev pub ours : Facts
 ours = factsOf (chars "1234567890") (chars "20304050") 1 1 0
@@ -24,6 +24,10 @@ ours = factsOf (chars "1234567890") (chars "20304050") 1 1 0
 -- the same on the wired link
 abbrev pub onTheWire : Facts
 onTheWire = factsOf (chars "1234567890") (chars "20304050") 1 2 0
+
+-- an EQM meter there
+abbrev pub eqmThere : Facts
+eqmThere = factsOf (chars "1234567890") (chars "20304050") 1 2 3
 
 -- the same of edition 2
 abbrev pub later : Facts
@@ -36,13 +40,16 @@ spoken (b ∷ bs) = (replyRoom, Character b) ∷ spoken bs
 
 -- the writes told, the newest first
 abbrev pub tellsUs : List (ℕ × Event) → List Write
-tellsUs es = writesOf (deeds ours (pastOf [] es))
+tellsUs es = writesOf (deeds ours (pastOf 0 [] es))
 
 abbrev pub tellsThere : List (ℕ × Event) → List Write
-tellsThere es = writesOf (deeds onTheWire (pastOf [] es))
+tellsThere es = writesOf (deeds onTheWire (pastOf 0 [] es))
 
 abbrev pub tellsLater : List (ℕ × Event) → List Write
-tellsLater es = writesOf (deeds later (pastOf [] es))
+tellsLater es = writesOf (deeds later (pastOf 0 [] es))
+
+abbrev pub tellsEqm : List (ℕ × Event) → List Write
+tellsEqm es = writesOf (deeds eqmThere (pastOf 3 [] es))
 
 -- sign-on, confirmation and the right password; the same with (), and with a password that is wrong
 abbrev pub opening : List ℕ → List ℕ
@@ -111,6 +118,11 @@ pub record Examples : Type 0 where
   pub wired-deaf : tellsThere (spoken (programming ++ accountWrite)) ≡ []
   pub wired-dropped : tellsThere (spoken (programmingThere ++ set (onesWrite 1) 12 0x31 ++ accountWrite)) ≡ []
   pub wired-asked : tellsThere (spoken (programmingThere ++ onWire (frameOf R1 askAccount) ++ accountWrite)) ≡ account newAccount ∷ []
+  -- what went out is a question to an EQM meter alone, and so is a pulse out one that happened
+  pub asked-out : tellsEqm (spoken (programmingThere ++ onWire (frameOf R1 (askExport 4)) ++ accountWrite)) ≡ account newAccount ∷ []
+  pub no-out : tellsThere (spoken (programmingThere ++ onWire (frameOf R1 (askExport 4)) ++ accountWrite)) ≡ []
+  pub pulse-out : deeds eqmThere (pastOf 3 [] ((0, PulseOut 5) ∷ [])) ≡ energyOut 5 ∷ []
+  pub no-pulse-out : deeds ours (pastOf 0 [] ((0, PulseOut 5) ∷ [])) ≡ []
   -- table 25 is told to edition 2 alone
   pub saturday : tellsLater (spoken (programming ++ onesWrite 25)) ≡ ones 25 ∷ []
   pub no-saturday : tellsUs (spoken (programming ++ onesWrite 25)) ≡ []

@@ -1,4 +1,4 @@
--- What a whole frame says: it is compared with the frame that the rules build, for a meter of so many tables.
+-- What a whole frame says: it is compared with the frame that the rules build, for a meter of so many tables and of a family.
 use mathlib.Core.Bool.{Bool, true, false, cond, _&&_, _||_}
 use mathlib.Core.List.{List, [], _∷_, map}
 use Prim.Native.Nat.{ℕ, _-_}
@@ -11,10 +11,11 @@ use Rattle.text.specs.Classes.{isPrintable, sameText}
 use Rattle.text.specs.Layout.{fits}
 use Rattle.clock.specs.Seconds.{realClock}
 use Rattle.clock.specs.declared.Clock.{Clock}
+use Rattle.values.specs.Family.{isEqm}
 use Rattle.values.specs.Registers.{goodAccount, goodRow, goodTable}
 use Rattle.values.specs.Reading.{clockRead, tableRead}
 use Rattle.frames.specs.Frames.{frameOf, bareFrame}
-use Rattle.frames.specs.Commands.{B0, P1, R1, W1, askClock, askSerial, askAccount, askEnergy, setClock, setAccount, setTable}
+use Rattle.frames.specs.Commands.{B0, P1, R1, W1, askClock, askSerial, askAccount, askEnergy, askExport, setClock, setAccount, setTable}
 use Rattle.frames.specs.Session.{enterData}
 use Rattle.history.specs.Saying.{says}
 
@@ -90,16 +91,19 @@ unfoldable pub someWrite : List Write → Bool
 someWrite [] = false
 someWrite (w ∷ ws) = true
 
--- R1 with what may be asked: T(), L(), K(), E0() to E4(), Z(xx)
-unfoldable pub isAsk : ℕ → List ℕ → Bool
-isAsk tables d =
-    sameText d askClock || (sameText d askSerial || (sameText d askAccount
-    || (sameText d (askEnergy 0) || (sameText d (askEnergy 1) || (sameText d (askEnergy 2) || (sameText d (askEnergy 3) || (sameText d (askEnergy 4)
-    || (fits (chars "Z(##)") d && tableRead tables (take 2 (drop 2 d)) .ok))))))))
+-- the total's ask or a zone's
+unfoldable pub isOneOf : (ℕ → List ℕ) → List ℕ → Bool
+isOneOf ask d = sameText d (ask 0) || (sameText d (ask 1) || (sameText d (ask 2) || (sameText d (ask 3) || sameText d (ask 4))))
 
-unfoldable pub asks : ℕ → List ℕ → Bool
-asks tables frame = isFrame R1 frame && isAsk tables (dataIn frame)
+-- R1 with what may be asked: T(), L(), K(), E0() to E4(), Z(xx); [10]: G0() to G4() of an EQM meter
+unfoldable pub isAsk : ℕ → ℕ → List ℕ → Bool
+isAsk tables family d =
+    sameText d askClock || (sameText d askSerial || (sameText d askAccount
+    || (isOneOf askEnergy d || ((isEqm family && isOneOf askExport d) || (fits (chars "Z(##)") d && tableRead tables (take 2 (drop 2 d)) .ok)))))
+
+unfoldable pub asks : ℕ → ℕ → List ℕ → Bool
+asks tables family frame = isFrame R1 frame && isAsk tables family (dataIn frame)
 
 -- a frame that is taken in modes 3 and 4: a question in either, a write in mode 4
-unfoldable pub isTaken : ℕ → ℕ → List ℕ → Bool
-isTaken tables mode frame = asks tables frame || (eqb mode 4 && someWrite (writeIn tables frame))
+unfoldable pub isTaken : ℕ → ℕ → ℕ → List ℕ → Bool
+isTaken tables family mode frame = asks tables family frame || (eqb mode 4 && someWrite (writeIn tables frame))

@@ -12,7 +12,7 @@ use Rattle.frames.specs.Session.{signOn, closingSignOn, signOnTo, wiredSignOn, 
 use Rattle.state.specs.Link.{isWired}
 use Rattle.state.specs.declared.Facts.{Facts}
 use Rattle.meter.specs.declared.Event.{Event}
-use Rattle.meter.specs.declared.Event.the-variants.{Character, Silence, Tick, Pulse, PowerUp, Unknown}
+use Rattle.meter.specs.declared.Event.the-variants.{Character, Silence, Tick, Pulse, PowerUp, PulseOut, Unknown}
 use Rattle.history.specs.Saying.{carries, says, since, endsWith}
 use Rattle.history.specs.Frames.{leaves, enters, tries, passwordIn, isTaken}
 
@@ -95,7 +95,7 @@ abbrev pub framed : Facts → Standing → List ℕ → Standing
 framed facts s frame =
     cond (eqb (s .mode) 2) (entered facts s frame)
     (cond (leaves frame) (anew s 0)
-    (cond (isTaken (tablesOf (facts .edition)) (s .mode) frame) (anew s (s .mode)) (anew s (refusedIn facts (s .mode)))))
+    (cond (isTaken (tablesOf (facts .edition)) (facts .decimals) (s .mode) frame) (anew s (s .mode)) (anew s (refusedIn facts (s .mode)))))
 
 abbrev pub inSession : Facts → Standing → ℕ → Standing
 inSession facts s b = cond (isWhole s) (framed facts s (frameBy s b)) (cond (isTooMany s b) (anew s (refusedIn facts (s .mode))) (saidMore s b))
@@ -109,6 +109,7 @@ standing facts [] = standingAs 0 0 []
 standing facts (Character b ∷ past) = afterByte facts (standing facts past) b
 standing facts (Silence ∷ past) = anew (standing facts past) 0
 standing facts (Tick ∷ past) = standing facts past
-standing facts (Pulse wh ∷ past) = standing facts past
+standing facts (Pulse units ∷ past) = standing facts past
+standing facts (PulseOut units ∷ past) = standing facts past
 standing facts (PowerUp ∷ past) = standingAs 0 0 []
 standing facts (Unknown ∷ past) = standing facts past

@@ -8,9 +8,10 @@ use Rattle.line.specs.Characters.{seven, undamagedAll}
 use Rattle.line.specs.Quoted.{char, chars}
 use Rattle.text.specs.Classes.{sameText}
 use Rattle.text.specs.Decimal.{decimal}
+use Rattle.values.specs.Family.{importName, exportName}
 use Rattle.values.specs.Registers.{goodAccount, goodRow}
 use Rattle.values.specs.Texts.{tableText}
-use Rattle.values.specs.Reading.{dateRead, timeRead, counterRead}
+use Rattle.values.specs.Reading.{dateRead, timeRead, energyRead}
 use Rattle.values.specs.Serials.{serialRead}
 use Rattle.frames.specs.Frames.{onWire}
 use Rattle.replies.specs.Fixed.{identification, passwordAsk, accepted, refused}
@@ -49,12 +50,18 @@ tellsSerial s = isLine (chars "C.1.0(") s && serialRead (valueIn (chars "C.1.0("
 unfoldable pub tellsAccount : List ℕ → Bool
 tellsAccount s = isLine (chars "0.0.0(") s && goodAccount (valueIn (chars "0.0.0(") s)
 
--- En(): an energy at the address of the one asked
-abbrev pub energyOpening : ℕ → List ℕ
-energyOpening n = chars "15.8." ++ (decimal 1 n ++ chars "(")
+-- En() and Gn(): an energy at the address of the one asked, as the family shows it
+abbrev pub energyOpening : List ℕ → ℕ → List ℕ
+energyOpening name n = name ++ (decimal 1 n ++ chars "(")
 
-unfoldable pub tellsEnergy : ℕ → List ℕ → Bool
-tellsEnergy n s = isLine (energyOpening n) s && counterRead 9 3 (valueIn (energyOpening n) s) .ok
+unfoldable pub tellsCounter : ℕ → List ℕ → List ℕ → Bool
+tellsCounter family opening s = isLine opening s && energyRead family (valueIn opening s) .ok
+
+unfoldable pub tellsEnergy : ℕ → ℕ → List ℕ → Bool
+tellsEnergy family n s = tellsCounter family (energyOpening (importName family) n) s
+
+unfoldable pub tellsExport : ℕ → ℕ → List ℕ → Bool
+tellsExport family n s = tellsCounter family (energyOpening exportName n) s
 
 -- Z(xx): a row at the number of the table asked
 abbrev pub tableOpening : ℕ → List ℕ
@@ -63,23 +70,24 @@ tableOpening n = chars "131.0." ++ (tableText n ++ chars "(")
 unfoldable pub tellsRow : ℕ → List ℕ → Bool
 tellsRow n s = isLine (tableOpening n) s && goodRow (valueIn (tableOpening n) s)
 
--- just the lines that a read asked for: a letter of R1, with its number
-unfoldable pub tells : ℕ → ℕ → List ℕ → Bool
-tells letter n s =
+-- just the lines that a read asked for, of a meter of a family: a letter of R1, with its number
+unfoldable pub tells : ℕ → ℕ → ℕ → List ℕ → Bool
+tells family letter n s =
     cond (eqb letter (char "T")) (tellsClock s)
     (cond (eqb letter (char "L")) (tellsSerial s)
     (cond (eqb letter (char "K")) (tellsAccount s)
-    (cond (eqb letter (char "E")) (tellsEnergy n s)
-    (cond (eqb letter (char "Z")) (tellsRow n s) false))))
+    (cond (eqb letter (char "E")) (tellsEnergy family n s)
+    (cond (eqb letter (char "G")) (tellsExport family n s)
+    (cond (eqb letter (char "Z")) (tellsRow n s) false)))))
 
 -- the data of a stripped block
 unfoldable pub dataIn : List ℕ → List ℕ
 dataIn s = take (partOf s .length) (drop (partOf s .start) s)
 
 -- a stripped block that has such a part
-unfoldable pub answersIn : ℕ → ℕ → List ℕ → Bool
-answersIn letter n s = eqb (partOf s .number) 1 && tells letter n (dataIn s)
+unfoldable pub answersIn : ℕ → ℕ → ℕ → List ℕ → Bool
+answersIn family letter n s = eqb (partOf s .number) 1 && tells family letter n (dataIn s)
 
 -- a block that strips and parts, and whose data is those lines
-unfoldable pub answers : ℕ → ℕ → List ℕ → Bool
-answers letter n reply = undamagedAll reply && answersIn letter n (map seven reply)
+unfoldable pub answers : ℕ → ℕ → ℕ → List ℕ → Bool
+answers family letter n reply = undamagedAll reply && answersIn family letter n (map seven reply)

@@ -5,7 +5,7 @@ ghost use Prim.Native.Nat.{_≤_};
 ghost use lib.ListN.{length};
 ghost use Rattle.line.specs.Characters.{seven};
 ghost use Rattle.judging.specs.Lines.{isLine, valueIn};
-ghost use Rattle.judging.specs.Right.{identifies, asksPassword, accepts, refuses, energyOpening, tableOpening, tellsTime, tellsDate, tellsClock, tellsSerial, tellsAccount, tellsEnergy, tellsRow, tells, answersIn, answers};
+ghost use Rattle.judging.specs.Right.{identifies, asksPassword, accepts, refuses, tellsTime, tellsDate, tellsClock, tellsSerial, tellsAccount, tellsCounter, tellsEnergy, tellsExport, tellsRow, tells, answersIn, answers};
 use values::TableNo;
 
 // What ends a line of data, and how long the line of the time is.
@@ -102,13 +102,34 @@ fn tells_account(s: &[u8]) -> bool
     is_line(b"0.0.0(", s) & good
 }
 
-// An energy at the address of the one asked; 0 is the total.
-fn tells_energy(n: u8, s: &[u8]) -> bool
-    ensures { λ r. ⌜ r ≡ tellsEnergy n (now (s .entry)) ⌝ }
+// A counter at an address, as a family shows it.
+fn tells_counter(family: u8, opening: &[u8], s: &[u8]) -> bool
+    requires { ⌜ length (now opening) ≤ 16 ⌝ }
+    ensures { λ r. ⌜ r ≡ tellsCounter family (now (opening .entry)) (now (s .entry)) ⌝ }
 {
-    let opening = [b'1', b'5', b'.', b'8', b'.', b'0' + n % 10, b'('];
-    let read = values::reading::read_counter(value_in(&opening, s));
-    is_line(&opening, s) & read.ok
+    let read = values::reading::read_counter(value_in(opening, s), family);
+    is_line(opening, s) & read.ok
+}
+
+// An energy at the address of the one asked; 0 is the total.
+fn tells_energy(family: u8, n: u8, s: &[u8]) -> bool
+    ensures { λ r. ⌜ r ≡ tellsEnergy family n (now (s .entry)) ⌝ }
+{
+    let digit = b'0' + n % 10;
+    if family == 0 {
+        let opening = [b'1', b'5', b'.', b'8', b'.', digit, b'('];
+        return tells_counter(family, &opening, s);
+    }
+    let opening = [b'1', b'.', b'8', b'.', digit, b'('];
+    tells_counter(family, &opening, s)
+}
+
+// The same of what went out.
+fn tells_export(family: u8, n: u8, s: &[u8]) -> bool
+    ensures { λ r. ⌜ r ≡ tellsExport family n (now (s .entry)) ⌝ }
+{
+    let opening = [b'2', b'.', b'8', b'.', b'0' + n % 10, b'('];
+    tells_counter(family, &opening, s)
 }
 
 // A row at the number of the table asked.
@@ -130,9 +151,9 @@ fn tells_row(n: u8, s: &[u8]) -> bool
     is_line(&opening, s) & good
 }
 
-// Just the lines that a read asked for: a letter of R1, with its number.
-fn tells_asked(letter: u8, n: u8, s: &[u8]) -> bool
-    ensures { λ r. ⌜ r ≡ tells letter n (now (s .entry)) ⌝ }
+// Just the lines that a read asked for, of a meter of a family: a letter of R1, with its number.
+fn tells_asked(family: u8, letter: u8, n: u8, s: &[u8]) -> bool
+    ensures { λ r. ⌜ r ≡ tells family letter n (now (s .entry)) ⌝ }
 {
     if letter == b'T' {
         return tells_clock(s);
@@ -144,7 +165,10 @@ fn tells_asked(letter: u8, n: u8, s: &[u8]) -> bool
         return tells_account(s);
     }
     if letter == b'E' {
-        return tells_energy(n, s);
+        return tells_energy(family, n, s);
+    }
+    if letter == b'G' {
+        return tells_export(family, n, s);
     }
     if letter == b'Z' {
         return tells_row(n, s);
@@ -153,23 +177,23 @@ fn tells_asked(letter: u8, n: u8, s: &[u8]) -> bool
 }
 
 // A block that strips and parts, and whose data is those lines. None of these has more than 64 bytes.
-pub fn is_answer(letter: u8, n: u8, reply: &[u8]) -> bool
-    ensures { λ r. ⌜ r ≡ answers letter n (now (reply .entry)) ⌝ }
+pub fn is_answer(family: u8, letter: u8, n: u8, reply: &[u8]) -> bool
+    ensures { λ r. ⌜ r ≡ answers family letter n (now (reply .entry)) ⌝ }
 {
     let mut plain = [0u8; 64];
     let stripped = blocks::strip(reply, &mut plain);
     if stripped.number != blocks::DONE {
         return false;
     }
-    is_answer_in(letter, n, text::first(&plain, stripped.length))
+    is_answer_in(family, letter, n, text::first(&plain, stripped.length))
 }
 
 // The same of a stripped reply.
-fn is_answer_in(letter: u8, n: u8, s: &[u8]) -> bool
-    ensures { λ r. ⌜ r ≡ answersIn letter n (now (s .entry)) ⌝ }
+fn is_answer_in(family: u8, letter: u8, n: u8, s: &[u8]) -> bool
+    ensures { λ r. ⌜ r ≡ answersIn family letter n (now (s .entry)) ⌝ }
 {
     if blocks::part_check(s) != blocks::DONE {
         return false;
     }
-    tells_asked(letter, n, blocks::part(s))
+    tells_asked(family, letter, n, blocks::part(s))
 }

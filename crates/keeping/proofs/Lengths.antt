@@ -8,9 +8,10 @@ use lib.ListN.{length}
 use Rattle.clock.specs.Seconds.{realClock}
 use Rattle.clock.specs.declared.Clock.{Clock}
 use Rattle.values.specs.Edition.{isEdition}
+use Rattle.values.specs.Family.{isFamily}
 use Rattle.values.specs.Registers.{goodDigits, goodSerial, goodAccount, goodPassword}
 use Rattle.state.specs.declared.Facts.{Facts}
-use Rattle.state.specs.WellFormed.{linkGood, decimalsGood, factsGood, factoryGood}
+use Rattle.state.specs.WellFormed.{linkGood, factsGood, factoryGood}
 use Rattle.state.specs.Making.{factsOf, notMade, madeOf}
 
 -- one of four that is false
@@ -31,7 +32,7 @@ module _ (serial account password : List ℕ) (clock : Clock) (edition link deci
   life = factsOf serial password edition link decimals
 
   abbrev numbers : Bool
-  numbers = isEdition edition && (linkGood link && decimalsGood decimals)
+  numbers = isEdition edition && (linkGood link && isFamily decimals)
 
   pub serial-long : eqb (length serial) 10 ≡ false → madeOf life account clock ≡ notMade edition decimals
   unfolding madeOf factoryGood factsGood goodDigits

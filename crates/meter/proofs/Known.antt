@@ -10,6 +10,7 @@ use lib.Seq.{length-take-le}
 use Rattle.line.proofs.Runs.{and-left, and-right}
 use Rattle.text.specs.Classes.{between}
 use Rattle.values.specs.Edition.{tablesOf}
+use Rattle.values.specs.Family.{counterEnd, exportEnd}
 use Rattle.values.specs.Registers.{goodTable}
 use Rattle.values.proofs.Editions.{tables-most}
 use Rattle.clock.specs.Dates.{realDate}
@@ -17,7 +18,7 @@ use Rattle.clock.specs.Seconds.{realClock}
 use Rattle.clock.proofs.Real.{date-facts}
 use Rattle.state.specs.Sizes.{heldPlaces, tablePlaces}
 use Rattle.state.specs.declared.Meter.{Meter}
-use Rattle.state.specs.WellFormed.{tablesIn, countersGood, archiveGood, wellFormed}
+use Rattle.state.specs.WellFormed.{tablesIn, familyOf, countersGood, archiveGood, wellFormed}
 use Rattle.state.proofs.Parts.{formed, formed-registers, Long, long}
 use Rattle.state.proofs.Archives.{formed-archive}
 use Rattle.replies.specs.Shown.{Lengths}
@@ -26,13 +27,13 @@ use Rattle.replies.specs.Shown.{Lengths}
 pub piece-long : (m : Meter) → wellFormed m ≡ true → (a n : ℕ) → a + n ≤ heldPlaces → length (take n (drop a (m .receiver .held))) ≡ n
 piece-long m h a n r = length-take-le n (drop a (m .receiver .held)) (omega (arith, length-drop a (m .receiver .held), long m h .held))
 
-pub archive-good : (m : Meter) → wellFormed m ≡ true → archiveGood (m .registers .archive) ≡ true
+pub archive-good : (m : Meter) → wellFormed m ≡ true → archiveGood (familyOf m) (m .registers .archive) ≡ true
 archive-good m h = formed-registers (m .registers) (formed m h .registers) .archive
 
 pub lengths : (m : Meter) → wellFormed m ≡ true → Lengths (tablesIn (m .registers)) (m .registers)
 lengths m h =
     let l = long m h in
-    let a = formed-archive (m .registers .archive) (archive-good m h) in
+    let a = formed-archive (familyOf m) (m .registers .archive) (archive-good m h) in
     record { serial = l .serial; account = l .account; rows = l .tables; few = tables-most (m .registers .facts .edition); places = a .long; kept = a .count }
 
 pub table-low : (tables n : ℕ) → goodTable tables n ≡ true → 1 ≤ n
@@ -44,8 +45,11 @@ unfolding goodTable between
 table-high edition n h =
     omega (arith, tables-most edition, leb-true n (tablesOf edition) (and-right (leb 1 n) (leb n (tablesOf edition)) h))
 
-pub counters-good : (m : Meter) → wellFormed m ≡ true → countersGood (m .registers .counters) ≡ true
+pub counters-good : (m : Meter) → wellFormed m ≡ true → countersGood (counterEnd (familyOf m)) (m .registers .counters) ≡ true
 counters-good m h = formed-registers (m .registers) (formed m h .registers) .counters
+
+pub exported-good : (m : Meter) → wellFormed m ≡ true → countersGood (exportEnd (familyOf m)) (m .registers .exported) ≡ true
+exported-good m h = formed-registers (m .registers) (formed m h .registers) .exported
 
 pub month-low : (m : Meter) → wellFormed m ≡ true → m .registers .clock .date .month ≤ 12
 unfolding realClock

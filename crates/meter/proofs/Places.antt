@@ -7,7 +7,7 @@ use Prim.Native.Nat.{ℕ}
 use Rattle.text.specs.Classes.{sameText}
 use Rattle.values.specs.Registers.{goodTable}
 use Rattle.state.specs.declared.Meter.{Meter}
-use Rattle.state.specs.WellFormed.{tablesIn, marked}
+use Rattle.state.specs.WellFormed.{tablesIn, familyOf, marked}
 use Rattle.receiving.specs.Receivers.{heldText}
 use Rattle.deciding.specs.declared.Verdict.{Verdict}
 use Rattle.deciding.specs.declared.Verdict.the-variants.{Refuse, Leave, Enter, Password, Read, WriteClock, WriteAccount, WriteTable}
@@ -38,12 +38,12 @@ at-none o e = ap (atPlace o) (sym e)
 
 -- a frame without damage
 pub whole-frame : (m : Meter) (c : ℕ) (d : Bool) → (marked (m .receiver) || d) ≡ false
-    → frameEnded m c d ≡ acted m (verdict (tablesIn (m .registers)) (m .mode) (heldText (m .receiver)) false c)
+    → frameEnded m c d ≡ acted m (verdict (tablesIn (m .registers)) (familyOf m) (m .mode) (heldText (m .receiver)) false c)
 whole-frame m c d h = go (marked (m .receiver)) d h
   where
     go : (k d : Bool) → (k || d) ≡ false
-        → atPlace (acted m (verdict (tablesIn (m .registers)) (m .mode) (heldText (m .receiver)) (k || d) c)) (cond k (m .receiver .place) (cond d (m .receiver .count) 0))
-        ≡ acted m (verdict (tablesIn (m .registers)) (m .mode) (heldText (m .receiver)) false c)
+        → atPlace (acted m (verdict (tablesIn (m .registers)) (familyOf m) (m .mode) (heldText (m .receiver)) (k || d) c)) (cond k (m .receiver .place) (cond d (m .receiver .count) 0))
+        ≡ acted m (verdict (tablesIn (m .registers)) (familyOf m) (m .mode) (heldText (m .receiver)) false c)
     go true d h = absurd (let z : _≡_ {A = ℕ} 0 1 = cc in omega arith)
     go false true h = absurd (let z : _≡_ {A = ℕ} 0 1 = cc in omega arith)
-    go false false h = at-none (acted m (verdict (tablesIn (m .registers)) (m .mode) (heldText (m .receiver)) false c)) (acted-nowhere m _)
+    go false false h = at-none (acted m (verdict (tablesIn (m .registers)) (familyOf m) (m .mode) (heldText (m .receiver)) false c)) (acted-nowhere m _)

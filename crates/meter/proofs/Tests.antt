@@ -1,20 +1,21 @@
 -- The tests of an event, in their order: the edition, what refuses it whatever the state, then a malformed state; and what an event has that passed the first. Assumes nothing.
 use mathlib.Core.Path.{_≡_, refl, sym, ap, _∙_}
-use mathlib.Core.Bool.{Bool, true, false, cond}
+use mathlib.Core.Bool.{Bool, true, false, cond, not, _&&_, _||_}
 use mathlib.Core.List.{[]}
 use Prim.Native.Nat.{ℕ, _≤_}
 use native.Mathlib.Omega.{arith}
 use lib.Dec.{eqb, ltb}
 use borrow.Author.Tests.{ltb-false}
 use Rattle.values.specs.Edition.{isEdition}
+use Rattle.values.specs.Family.{isEqm}
 use Rattle.state.specs.Sizes.{replyRoom}
 use Rattle.state.specs.declared.Meter.{Meter}
-use Rattle.state.specs.WellFormed.{editionOf, wellFormed}
+use Rattle.state.specs.WellFormed.{editionOf, familyOf, wellFormed}
 use Rattle.meter.specs.declared.Event.{Event}
-use Rattle.meter.specs.declared.Event.the-variants.{Character, Silence, Tick, Pulse, PowerUp, Unknown}
+use Rattle.meter.specs.declared.Event.the-variants.{Character, Silence, Tick, Pulse, PowerUp, PulseOut, Unknown}
 use Rattle.meter.specs.Outcomes.{Outcome, silent, unheard, ofEdition}
 use Rattle.meter.specs.Character.{character}
-use Rattle.meter.specs.Events.{afterTick, afterPulse, afterPowerUp, silence, tick, pulse, powerUp}
+use Rattle.meter.specs.Events.{afterTick, afterPulse, afterPowerUp, pulseRefused, silence, tick, pulse, powerUp}
 use Rattle.meter.specs.Life.{met, refusal, happened}
 
 -- 99, 13 or 12, then 14
@@ -29,13 +30,14 @@ tested-13 : (m : Meter) (p : Bool) (o : Outcome) → cond p (unheard 13 m) (cond
 tested-13 m true o = refl
 tested-13 m false o = refl
 
-pub met-in-order : (m : Meter) (room : ℕ) (e : Event) → met m room e ≡ ofEdition m (inOrder m (refusal room e) (happened m e))
+pub met-in-order : (m : Meter) (room : ℕ) (e : Event) → met m room e ≡ ofEdition m (inOrder m (refusal (familyOf m) room e) (happened m e))
 unfolding met refusal happened character silence tick pulse powerUp
 met-in-order m room (Character b) = ap (ofEdition m) (tested-12 m (ltb room replyRoom) _)
 met-in-order m room Silence = ap (ofEdition m) (tested-12 m (ltb room replyRoom) _)
 met-in-order m room Tick = refl
-met-in-order m room (Pulse wh) = ap (ofEdition m) (tested-13 m (ltb 1000000 wh) _)
+met-in-order m room (Pulse units) = ap (ofEdition m) (tested-13 m (pulseRefused (familyOf m) false units) _)
 met-in-order m room PowerUp = refl
+met-in-order m room (PulseOut units) = ap (ofEdition m) (tested-13 m (pulseRefused (familyOf m) true units) _)
 met-in-order m room Unknown = refl
 
 -- a test whose number did not come
@@ -48,17 +50,31 @@ passed-13 true e = absurd (omega (arith, e))
 passed-13 false e = refl
 
 -- room for a reply, and a pulse that may be counted
-pub character-room : (room : ℕ) (e : Event) (b : ℕ) → e ≡ Character b → refusal room e ≡ 0 → replyRoom ≤ room
+pub character-room : (family room : ℕ) (e : Event) (b : ℕ) → e ≡ Character b → refusal family room e ≡ 0 → replyRoom ≤ room
 unfolding refusal
-character-room room e b is none = ltb-false room replyRoom (passed-12 (ltb room replyRoom) (sym (ap (refusal room) is) ∙ none))
+character-room family room e b is none = ltb-false room replyRoom (passed-12 (ltb room replyRoom) (sym (ap (refusal family room) is) ∙ none))
 
-pub silence-room : (room : ℕ) (e : Event) → e ≡ Silence → refusal room e ≡ 0 → replyRoom ≤ room
+pub silence-room : (family room : ℕ) (e : Event) → e ≡ Silence → refusal family room e ≡ 0 → replyRoom ≤ room
 unfolding refusal
-silence-room room e is none = ltb-false room replyRoom (passed-12 (ltb room replyRoom) (sym (ap (refusal room) is) ∙ none))
+silence-room family room e is none = ltb-false room replyRoom (passed-12 (ltb room replyRoom) (sym (ap (refusal family room) is) ∙ none))
 
-pub pulse-small : (room : ℕ) (e : Event) (wh : ℕ) → e ≡ Pulse wh → refusal room e ≡ 0 → wh ≤ 1000000
+pub few-units : (family : ℕ) (out : Bool) (units : ℕ) → pulseRefused family out units ≡ false → units ≤ 1000000
+unfolding pulseRefused
+few-units family out units h = ltb-false 1000000 units (or-right (out && not (isEqm family)) (ltb 1000000 units) h)
+  where
+    or-right : (p q : Bool) → (p || q) ≡ false → q ≡ false
+    or-right true q e = absurd (let z : _≡_ {A = ℕ} 0 1 = cc in omega arith)
+    or-right false q e = e
+
+pub pulse-small : (family room : ℕ) (e : Event) (units : ℕ) → e ≡ Pulse units → refusal family room e ≡ 0 → units ≤ 1000000
 unfolding refusal
-pulse-small room e wh is none = ltb-false 1000000 wh (passed-13 (ltb 1000000 wh) (sym (ap (refusal room) is) ∙ none))
+pulse-small family room e units is none =
+    few-units family false units (passed-13 (pulseRefused family false units) (sym (ap (refusal family room) is) ∙ none))
+
+pub pulse-out-small : (family room : ℕ) (e : Event) (units : ℕ) → e ≡ PulseOut units → refusal family room e ≡ 0 → units ≤ 1000000
+unfolding refusal
+pulse-out-small family room e units is none =
+    few-units family true units (passed-13 (pulseRefused family true units) (sym (ap (refusal family room) is) ∙ none))
 
 -- what passes has no reply, taken or refused
 quiet : (m : Meter) (e p q : Bool) (number : ℕ) (next : Meter)
@@ -72,9 +88,9 @@ pub tick-quiet : (m : Meter) → tick m .reply ≡ []
 unfolding tick
 tick-quiet m = quiet m (isEdition (editionOf m)) false (wellFormed m) 0 (afterTick m .next)
 
-pub pulse-quiet : (m : Meter) (wh : ℕ) → pulse m wh .reply ≡ []
+pub pulse-quiet : (m : Meter) (out : Bool) (units : ℕ) → pulse m out units .reply ≡ []
 unfolding pulse
-pulse-quiet m wh = quiet m (isEdition (editionOf m)) (ltb 1000000 wh) (wellFormed m) 13 (afterPulse m wh .next)
+pulse-quiet m out units = quiet m (isEdition (editionOf m)) (pulseRefused (familyOf m) out units) (wellFormed m) 13 (afterPulse m out units .next)
 
 pub power-up-quiet : (m : Meter) → powerUp m .reply ≡ []
 unfolding powerUp

@@ -9,7 +9,7 @@ use Rattle.frames.specs.Frames.{blockOf}
 use Rattle.frames.specs.Session.{speedSaid}
 use Rattle.state.specs.Sizes.{replyRoom}
 use Rattle.state.specs.declared.Meter.{Meter}
-use Rattle.state.specs.WellFormed.{tablesIn, editionOf, wellFormed, marked}
+use Rattle.state.specs.WellFormed.{tablesIn, editionOf, familyOf, wellFormed, marked}
 use Rattle.state.specs.Making.{emptyReceiver}
 use Rattle.receiving.specs.declared.Hearing.{Hearing}
 use Rattle.receiving.specs.declared.Hearing.the-variants.{Drop, Hold, Restart, Empty, Line, Confirm, Frame, TooLong}
@@ -66,7 +66,7 @@ confirmed m c damaged =
 -- a whole frame, c being its BCC; [2]: where one of its characters was damaged, the answer has the place of the first, else 0
 abbrev pub frameEnded : Meter → ℕ → Bool → Outcome
 frameEnded m c damaged =
-    atPlace (acted m (verdict (tablesIn (m .registers)) (m .mode) (heldText (m .receiver)) (marked (m .receiver) || damaged) c)) (hurtPlace (m .receiver) damaged)
+    atPlace (acted m (verdict (tablesIn (m .registers)) (familyOf m) (m .mode) (heldText (m .receiver)) (marked (m .receiver) || damaged) c)) (hurtPlace (m .receiver) damaged)
 
 unfoldable pub heard : Meter → ℕ → Bool → Hearing → Outcome
 heard m c damaged Drop = silent 0 m

@@ -1,13 +1,14 @@
--- Document 01, "Other events": silence, tick, pulse and power-up.
-use mathlib.Core.Bool.{cond}
+-- Document 01, "Other events": silence, tick, pulse and power-up. [10]: a pulse says its direction.
+use mathlib.Core.Bool.{Bool, cond, not, _&&_, _||_}
 use mathlib.Core.List.{[]}
 use Prim.Native.Nat.{ℕ}
 use lib.Dec.{eqb, ltb}
+use Rattle.values.specs.Family.{isEqm}
 use Rattle.state.specs.Sizes.{replyRoom}
 use Rattle.state.specs.declared.Meter.{Meter}
-use Rattle.state.specs.WellFormed.{wellFormed}
-use Rattle.state.specs.Setting.{inMode, withAttempts, withRegisters, withCounters}
-use Rattle.tariff.specs.Zones.{zoneIn, counted}
+use Rattle.state.specs.WellFormed.{familyOf, wellFormed}
+use Rattle.state.specs.Setting.{inMode, withAttempts, withRegisters}
+use Rattle.tariff.specs.Zones.{countedIn, countedOut}
 use Rattle.tariff.specs.Months.{secondLater}
 use Rattle.state.specs.Link.{linkOf, restSpeed}
 use Rattle.meter.specs.Link.{refusedReply}
@@ -27,12 +28,17 @@ afterTick m = silent 1 (withRegisters m (secondLater (m .registers)))
 unfoldable pub tick : Meter → Outcome
 tick m = ofEdition m (cond (wellFormed m) (afterTick m) (unheard 14 m))
 
--- 0 to 1,000,000 Wh
-abbrev pub afterPulse : Meter → ℕ → Outcome
-afterPulse m wh = silent 1 (withRegisters m (withCounters (m .registers) (counted (m .registers .counters) (zoneIn (m .registers)) wh)))
+-- a pulse in either direction, out or in, counts in the registers of its own
+abbrev pub afterPulse : Meter → Bool → ℕ → Outcome
+afterPulse m out units = silent 1 (withRegisters m (cond out (countedOut (m .registers) units) (countedIn (m .registers) units)))
 
-unfoldable pub pulse : Meter → ℕ → Outcome
-pulse m wh = ofEdition m (cond (ltb 1000000 wh) (unheard 13 m) (cond (wellFormed m) (afterPulse m wh) (unheard 14 m)))
+-- it has 0 to 1,000,000 units of the last place; a meter of document 01's family has no counters for what goes out
+unfoldable pub pulseRefused : ℕ → Bool → ℕ → Bool
+pulseRefused family out units = (out && not (isEqm family)) || ltb 1000000 units
+
+unfoldable pub pulse : Meter → Bool → ℕ → Outcome
+pulse m out units =
+    ofEdition m (cond (pulseRefused (familyOf m) out units) (unheard 13 m) (cond (wellFormed m) (afterPulse m out units) (unheard 14 m)))
 
 -- mode 0, empty receiver, attempts 0
 abbrev pub afterPowerUp : Meter → Outcome

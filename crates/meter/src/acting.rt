@@ -149,6 +149,7 @@ pub fn act_on_frame(m: Meter, c: u8, damaged: bool, reply: &mut [u8]) -> Answer
     let f = g.facts;
     let v = deciding::decide(
         values::tables_of(f.edition),
+        f.decimals,
         m.mode,
         text::first(&held, r.count as usize),
         false,

@@ -17,7 +17,6 @@ use state::link::link_of;
 use state::link::rest_speed;
 use state::setting::in_mode;
 use state::setting::with_attempts;
-use state::setting::with_counters;
 use state::setting::with_registers;
 
 // Silence, with room for the reply.
@@ -52,15 +51,16 @@ pub fn tick(m: Meter) -> Answer
     answers::quiet(1, with_registers(m, tariff::second_later(g)))
 }
 
-// The Wh of a pulse, counted in the zone of the hour.
-pub fn pulse(m: Meter, wh: u32) -> Answer
-    requires { ⌜ (wellFormed m ≡ true) × (wh ≤ 1000000) ⌝ }
-    ensures { λ r. ⌜ r ≡ answerOf (afterPulse m wh) ⌝ }
+// A pulse, counted in its direction.
+pub fn pulse(m: Meter, out: bool, units: u32) -> Answer
+    requires { ⌜ (wellFormed m ≡ true) × (units ≤ 1000000) ⌝ }
+    ensures { λ r. ⌜ r ≡ answerOf (afterPulse m out units) ⌝ }
 {
     let g = m.registers;
-    let c = g.counters;
-    let counters = tariff::count(c, tariff::zone_in(g), wh);
-    answers::quiet(1, with_registers(m, with_counters(g, counters)))
+    if out {
+        return answers::quiet(1, with_registers(m, tariff::count_out(g, units)));
+    }
+    answers::quiet(1, with_registers(m, tariff::count_in(g, units)))
 }
 
 // A session that starts anew.

@@ -24,13 +24,15 @@ mod lines;
 mod link;
 pub mod passing;
 
-// What can happen: a byte from the line, eight seconds of silence, a second, a pulse of so many Wh, power-up; or nothing that a meter knows.
+// What can happen: a byte from the line, eight seconds of silence, a second, a pulse of so many units that came in, power-up, one of so many that
+// went out; or nothing that a meter knows.
 pub enum Event {
     Character(u8),
     Silence,
     Tick,
     Pulse(u32),
     PowerUp,
+    PulseOut(u32),
     Unknown,
 }
 

@@ -19,7 +19,7 @@ use Rattle.values.specs.Edition.{isEdition, tablesOf}
 use Rattle.values.specs.Registers.{goodDigits, isAccountCharacter, goodAccount, goodRow, goodTable, goodZone}
 use Rattle.values.specs.Texts.{serialText, wiredText, tableText, clockText}
 use Rattle.frames.specs.Frames.{closed, frameOf, bareFrame}
-use Rattle.frames.specs.Commands.{bracketed, askClock, askSerial, askAccount, askEnergy, askTable, setClock, setAccount, setTable}
+use Rattle.frames.specs.Commands.{bracketed, askClock, askSerial, askAccount, askEnergy, askExport, askTable, setClock, setAccount, setTable}
 use Rattle.frames.specs.Session.{signOn, closingSignOn, signOnTo, wiredLine, confirmation, goodSpeed, enterData, passwordData}
 use Rattle.commands.specs.declared.Built.{Built}
 use Rattle.commands.specs.Building.{goodChoice, builtIn, keptOr}
@@ -45,7 +45,7 @@ for-none : {edition : ℕ} {buf : List ℕ} {ok : Bool} {command : List ℕ} {nu
 for-none is e after b = seen (λ (r : Built). r .number) e (b .none is .0)
 
 pub commands : Commands
-unfolding ones seven sent bccOf every holding between isDigit isLetter decimal layoutText leap thirty daysIn realDate realTime realClock goodDigits isAccountCharacter goodAccount isEdition tablesOf goodRow goodTable goodZone serialText wiredText tableText clockText closed frameOf bareFrame bracketed askClock askSerial askAccount askEnergy askTable setClock setAccount setTable signOn closingSignOn signOnTo wiredLine confirmation goodSpeed enterData passwordData goodChoice builtIn keptOr serial password broken
+unfolding ones seven sent bccOf every holding between isDigit isLetter decimal layoutText leap thirty daysIn realDate realTime realClock goodDigits isAccountCharacter goodAccount isEdition tablesOf goodRow goodTable goodZone serialText wiredText tableText clockText closed frameOf bareFrame bracketed askClock askSerial askAccount askEnergy askExport askTable setClock setAccount setTable signOn closingSignOn signOnTo wiredLine confirmation goodSpeed enterData passwordData goodChoice builtIn keptOr serial password broken
 commands =
     record {
       «sign_on» = (by-byte 0 refl, by-length refl);
@@ -61,6 +61,8 @@ commands =
       «read_account» = (by-byte 4 refl, by-number refl);
       «read_total» = (by-byte 5 refl, by-byte 5 refl);
       «read_zone» = (by-number refl, by-byte 5 refl);
+      «read_total_out» = (by-byte 4 refl, by-byte 5 refl);
+      «read_zone_out» = (by-number refl, by-byte 4 refl);
       «read_table_of» = (by-number refl, by-byte 6 refl);
       «read_table» = (for-some refl (by-number refl), for-none refl refl);
       «write_clock» = (by-number refl, by-byte 7 refl);

@@ -15,6 +15,7 @@ use Rattle.clock.specs.Dates.{leap, thirty, daysIn, realDate, realTime}
 use Rattle.clock.specs.Seconds.{realClock, nextSecond}
 use Rattle.clock.specs.Weekday.{daysBefore, dayNumber, weekday}
 use Rattle.values.specs.Edition.{isEdition, tablesOf}
+use Rattle.values.specs.Family.{isFamily, isEqm, counterEnd, exportEnd}
 use Rattle.values.specs.Registers.{goodDigits, isAccountCharacter, goodAccount, goodRow, goodTable}
 use Rattle.values.specs.Texts.{tableText}
 use Rattle.values.specs.Reading.{tableRead}
@@ -22,7 +23,7 @@ use Rattle.frames.specs.Frames.{closed, frameOf, bareFrame}
 use Rattle.frames.specs.Commands.{bracketed, setTable}
 use Rattle.frames.specs.Session.{closingSignOn, signOn, confirmation, speedSaid}
 use Rattle.state.specs.declared.Meter.{Meter}
-use Rattle.state.specs.WellFormed.{limit, firstGood, heldGood, markGood, receiverGood, below, zonesGood, sumOf, total, tablesGood, noTime, unused, periodGood, everyPeriod, archiveGood, linkGood, decimalsGood, factsGood, factoryGood, registersGood, wellFormed, speedGood, hurtGood}
+use Rattle.state.specs.WellFormed.{limit, firstGood, heldGood, markGood, receiverGood, below, zonesBelow, bothBelow, sumOf, total, tablesGood, noTime, unused, periodGood, everyPeriod, archiveGood, linkGood, factsGood, factoryGood, registersGood, wellFormed, speedGood, hurtGood}
 use Rattle.state.specs.Making.{factsRefused, madeOf, newRows}
 use Rattle.state.specs.Setting.{counterOf}
 use Rattle.receiving.specs.Hearing.{hearing, listening, confirming, framing}
@@ -37,30 +38,31 @@ use Rattle.meter.specs.Acting.{tried, acted}
 use Rattle.meter.specs.SignOn.{confirms, wantsBlock, wantsProgram, wantsPeriods}
 use Rattle.tariff.specs.Months.{monthStarts, monthClosed}
 use Rattle.meter.specs.Character.{symbol, lineEnded, confirmed, heard, taken, character}
-use Rattle.meter.specs.Events.{afterSilence, silence, tick, pulse, powerUp}
+use Rattle.meter.specs.Events.{afterSilence, silence, tick, pulseRefused, pulse, powerUp}
 use Rattle.meter.specs.declared.Event.{Event}
-use Rattle.meter.specs.declared.Event.the-variants.{Character, Silence, Tick, Pulse, PowerUp, Unknown}
+use Rattle.meter.specs.declared.Event.the-variants.{Character, Silence, Tick, Pulse, PowerUp, PulseOut, Unknown}
 use Rattle.meter.specs.Life.{eventOf, met, refusal, happened}
 use Rattle.settling.specs.declared.Heard.{Heard}
 use Rattle.settling.specs.Settling.{heardAs, heardBy, heardOf, settles}
 use Rattle.keeping.specs.declared.Shown.{Shown}
 use Rattle.keeping.specs.Shown.{checkedAs, shownAs}
 use Rattle.firmware.specs.declared.Reply.{Reply}
-use Rattle.mistakes.specs.Samples.{serial, account, password, twos, newMeter, heldIn}
+use Rattle.mistakes.specs.Samples.{serial, account, password, twos, newMeter, newEqm, heldIn}
 use Rattle.mistakes.specs.Events.{told, toldAll, toldMet, shortPassword, shortTried, signedOn, slowConfirmed, oddConfirmed, slowEntered, fastLeft, restarted, hurt, hurtLast, hurtAnew, Receiving, Passing, Happening, Settling, Lent, Kept}
-use Rattle.mistakes.proofs.Differing.{seen, number, byte}
+use Rattle.mistakes.proofs.Differing.{seen, number, flag, byte}
 
 -- the kinds of event, as numbers
 kindOf : Event → ℕ
 kindOf (Character b) = 0
 kindOf Silence = 1
 kindOf Tick = 2
-kindOf (Pulse wh) = 3
+kindOf (Pulse units) = 3
 kindOf PowerUp = 4
-kindOf Unknown = 5
+kindOf (PulseOut units) = 5
+kindOf Unknown = 6
 
 pub events : Receiving × Passing × Happening × Settling × Lent × Kept
-unfolding ones damagedAt seven sent bccOf every stored holding between isDigit isLetter isPrintable matching sameText decimal valueFrom valueOf numberAt layoutText pattern agrees fits leap thirty daysIn realDate realTime realClock goodDigits isAccountCharacter goodAccount goodRow goodTable tableText tableRead closed frameOf bracketed setTable signOn limit firstGood heldGood markGood hurtGood receiverGood tablesGood isEdition tablesOf linkGood decimalsGood factsGood registersGood wellFormed hearing listening confirming framing startGood bareShape content framedShape enclosed inner tableTold toldBy entry bareVerdict framedVerdict shapeVerdict verdict isWired restSpeed refusedReply afterRefusal tried acted calls opticalCall wiredCall identified slowToo symbol lineEnded confirmed heard taken character serial account password twos newMeter heldIn told toldAll toldMet shortPassword shortTried signedOn restarted hurt hurtLast hurtAnew daysBefore dayNumber weekday nextSecond tableFor zoneIn counted afterSilence silence tick pulse powerUp heardAs heardBy heardOf settles eventOf met refusal happened factsRefused madeOf checkedAs shownAs kindOf below zonesGood sumOf total factoryGood confirms wantsBlock wantsProgram confirmation speedSaid bareFrame speedGood slowConfirmed oddConfirmed slowEntered fastLeft noTime unused periodGood everyPeriod archiveGood closes closingSignOn wantsPeriods monthStarts monthClosed newRows ownDay
+unfolding ones damagedAt seven sent bccOf every stored holding between isDigit isLetter isPrintable matching sameText decimal valueFrom valueOf numberAt layoutText pattern agrees fits leap thirty daysIn realDate realTime realClock goodDigits isAccountCharacter goodAccount goodRow goodTable tableText tableRead closed frameOf bracketed setTable signOn limit firstGood heldGood markGood hurtGood receiverGood tablesGood isEdition tablesOf linkGood isFamily factsGood registersGood wellFormed hearing listening confirming framing startGood bareShape content framedShape enclosed inner tableTold toldBy entry bareVerdict framedVerdict shapeVerdict verdict isWired restSpeed refusedReply afterRefusal tried acted calls opticalCall wiredCall identified slowToo symbol lineEnded confirmed heard taken character serial account password twos newMeter heldIn told toldAll toldMet shortPassword shortTried signedOn restarted hurt hurtLast hurtAnew daysBefore dayNumber weekday nextSecond tableFor zoneIn counted afterSilence silence tick isEqm pulseRefused pulse powerUp newEqm heardAs heardBy heardOf settles eventOf met refusal happened factsRefused madeOf checkedAs shownAs kindOf below zonesBelow counterEnd exportEnd bothBelow sumOf total factoryGood confirms wantsBlock wantsProgram confirmation speedSaid bareFrame speedGood slowConfirmed oddConfirmed slowEntered fastLeft noTime unused periodGood everyPeriod archiveGood closes closingSignOn wantsPeriods monthStarts monthClosed newRows ownDay
 events = (
   record {
     receive = (seen (λ (a : Answer). a .number) refl, seen (λ (a : Answer). getD (a .next .registers .tables) 144 0) refl);
@@ -83,10 +85,15 @@ events = (
   record {
     «pass_second» = (seen (λ (a : Answer). a .next .registers .clock .time .second) refl, seen (λ (a : Answer). a .number) refl);
     «take_pulse» = (seen (λ (a : Answer). counterOf (a .next .registers .counters) 1) refl, seen (λ (a : Answer). a .number) refl);
+    take-pulse-out = (seen (λ (a : Answer). counterOf (a .next .registers .exported) 1) refl, seen (λ (a : Answer). a .number) refl);
+    take-pulse-out-first = (seen (λ (a : Answer). a .number) refl, seen (λ (a : Answer). a .number) refl);
+    «family_of» = (number refl, number refl);
+    «refuses_pulse» = (flag refl, flag refl);
     «power_up» = (seen (λ (a : Answer). a .next .attempts) refl, seen (λ (a : Answer). a .next .mode) refl);
   },
   record {
     «event_of» = (seen kindOf refl, seen kindOf refl);
+    event-of-out = (seen kindOf refl, seen kindOf refl);
     «refusal_of» = (number refl, number refl);
     act = (seen (λ (a : Answer). counterOf (a .next .registers .counters) 1) refl, seen (λ (a : Answer). a .next .registers .clock .time .second) refl);
     meet = (seen (λ (a : Answer). a .number) refl, seen (λ (a : Answer). a .number) refl);

@@ -14,13 +14,14 @@ use Rattle.text.specs.Layout.{layoutText, agrees, fits}
 use Rattle.clock.specs.Dates.{leap, thirty, daysIn, realDate, realTime}
 use Rattle.clock.specs.Seconds.{realClock, nextMonth, nextDay, nextSecond}
 use Rattle.values.specs.Edition.{isEdition, tablesOf}
+use Rattle.values.specs.Family.{isFamily, isEqm, counterEnd, exportEnd}
 use Rattle.values.specs.Registers.{goodDigits, isAccountCharacter, goodAccount, goodRow}
 use Rattle.values.specs.Texts.{serialText, wiredText, tableText}
 use Rattle.frames.specs.Frames.{closed, frameOf}
 use Rattle.frames.specs.Commands.{bracketed}
 use Rattle.frames.specs.Session.{wiredLine, confirmation, speedSaid}
 use Rattle.datasets.specs.Sets.{dataSet}
-use Rattle.state.specs.WellFormed.{limit, firstGood, heldGood, markGood, hurtGood, receiverGood, below, zonesGood, sumOf, total, tablesGood, noTime, unused, periodGood, everyPeriod, archiveGood, linkGood, decimalsGood, factsGood, factoryGood, registersGood, speedGood, wellFormed}
+use Rattle.state.specs.WellFormed.{limit, firstGood, heldGood, markGood, hurtGood, receiverGood, below, zonesBelow, bothBelow, sumOf, total, tablesGood, noTime, unused, periodGood, everyPeriod, archiveGood, linkGood, factsGood, factoryGood, registersGood, speedGood, wellFormed}
 use Rattle.state.specs.Making.{newRows, factsRefused, madeOf}
 use Rattle.state.specs.declared.Made.{Made}
 use Rattle.state.specs.Link.{isWired, restSpeed}
@@ -51,7 +52,7 @@ use Rattle.mistakes.proofs.Differing.{seen, number, flag, byte}
 use Rattle.mistakes.proofs.Posts.{strays}
 
 pub state : State
-unfolding every stored between isDigit isLetter decimal leap thirty daysIn realDate realTime realClock isEdition tablesOf goodDigits isAccountCharacter goodAccount limit firstGood heldGood markGood hurtGood receiverGood below zonesGood sumOf total tablesGood noTime unused periodGood everyPeriod archiveGood linkGood decimalsGood factsGood factoryGood registersGood speedGood wellFormed newRows factsRefused madeOf isWired restSpeed serial account password newMeter heldIn begun
+unfolding every stored between isDigit isLetter decimal leap thirty daysIn realDate realTime realClock isEdition tablesOf goodDigits isAccountCharacter goodAccount limit firstGood heldGood markGood hurtGood receiverGood below zonesBelow bothBelow isFamily isEqm counterEnd exportEnd sumOf total tablesGood noTime unused periodGood everyPeriod archiveGood linkGood factsGood factoryGood registersGood speedGood wellFormed newRows factsRefused madeOf isWired restSpeed serial account password newMeter heldIn begun
 state =
     record {
       first-row-only = number refl;
@@ -63,7 +64,7 @@ state =
     }
 
 pub meters : Meters
-unfolding ones damagedAt seven sent bccOf every stored between isDigit isLetter isPrintable matching sameText decimal layoutText agrees fits leap thirty daysIn realDate realTime realClock nextMonth nextDay nextSecond isEdition tablesOf goodDigits isAccountCharacter goodAccount closed frameOf bracketed limit firstGood heldGood markGood hurtGood receiverGood below zonesGood sumOf total tablesGood noTime unused periodGood everyPeriod archiveGood linkGood decimalsGood factsGood factoryGood registersGood speedGood wellFormed newRows isWired restSpeed hearing listening confirming framing startGood bareShape content framedShape entry bareVerdict framedVerdict shapeVerdict verdict monthStarts monthClosed refusedReply afterRefusal tried acted symbol heard taken character tick refusal confirms wantsBlock wantsProgram wantsPeriods confirmation speedSaid slowToo confirmed serial account password newMeter heldIn fast wrongPassword wrongTried slowConfirmed
+unfolding ones damagedAt seven sent bccOf every stored between isDigit isLetter isPrintable matching sameText decimal layoutText agrees fits leap thirty daysIn realDate realTime realClock nextMonth nextDay nextSecond isEdition tablesOf goodDigits isAccountCharacter goodAccount closed frameOf bracketed limit firstGood heldGood markGood hurtGood receiverGood below zonesBelow bothBelow isFamily isEqm counterEnd exportEnd sumOf total tablesGood noTime unused periodGood everyPeriod archiveGood linkGood factsGood factoryGood registersGood speedGood wellFormed newRows isWired restSpeed hearing listening confirming framing startGood bareShape content framedShape entry bareVerdict framedVerdict shapeVerdict verdict monthStarts monthClosed refusedReply afterRefusal tried acted symbol heard taken character tick refusal confirms wantsBlock wantsProgram wantsPeriods confirmation speedSaid slowToo confirmed serial account password newMeter heldIn fast wrongPassword wrongTried slowConfirmed
 meters =
     record {
       calls-a-small-buffer-malformed = number refl;

@@ -1,7 +1,7 @@
 -- The wrong answers for `state::setting`, `receiving`, `deciding` and `tariff` are ruled out, by computing. Assumes nothing.
 use mathlib.Core.Path.{refl}
 use lib.ListN.{getD}
-use Prim.Native.Nat.{ℕ}
+use Prim.Native.Nat.{ℕ, _+_}
 use Rattle.line.specs.Characters.{seven}
 use Rattle.line.specs.Checksum.{bccOf}
 use Rattle.line.specs.Runs.{every}
@@ -13,15 +13,16 @@ use Rattle.clock.specs.Dates.{leap, thirty, daysIn, realDate, realTime}
 use Rattle.clock.specs.Seconds.{realStamp, nextMonth, nextDay, nextSecond}
 use Rattle.clock.specs.Weekday.{daysBefore, dayNumber, weekday}
 use Rattle.values.specs.Edition.{tablesOf}
+use Rattle.values.specs.Family.{isEqm, counterEnd, exportEnd}
 use Rattle.values.specs.Texts.{tableText}
 use Rattle.frames.specs.Frames.{closed, frameOf}
-use Rattle.frames.specs.Commands.{bracketed, setTable}
+use Rattle.frames.specs.Commands.{bracketed, askClock, askSerial, askAccount, askExport, setTable}
 use Rattle.state.specs.declared.Receiver.{Receiver}
 use Rattle.state.specs.declared.Meter.{Meter}
 use Rattle.state.specs.declared.Counters.{Counters}
 use Rattle.state.specs.declared.Period.{Period}
 use Rattle.state.specs.declared.Registers.{Registers}
-use Rattle.state.specs.WellFormed.{below, zonesGood, noTime, unused, periodGood, everyPeriod, archiveGood}
+use Rattle.state.specs.WellFormed.{below, zonesBelow, bothBelow, noTime, unused, periodGood, everyPeriod, archiveGood}
 use Rattle.state.specs.Link.{isWired, restSpeed}
 use Rattle.state.specs.Making.{noPeriod, newRows}
 use Rattle.state.specs.Closing.{periodsOf, closedWith}
@@ -29,13 +30,16 @@ use Rattle.state.specs.Setting.{counterOf}
 use Rattle.receiving.specs.declared.Hearing.{Hearing}
 use Rattle.receiving.specs.declared.Hearing.the-variants.{Drop, Hold, Restart, Empty, Line, Confirm, Frame, TooLong}
 use Rattle.receiving.specs.Hearing.{hearing, listening, confirming, framing}
+use Rattle.replies.specs.declared.Ask.{Ask}
+use Rattle.replies.specs.declared.Ask.the-variants.{Clock, Serial, Account, Energy, Export, Table}
+use Rattle.deciding.specs.Asking.{tableAsked, energyNamed, energyAt, energyAsked, asked}
 use Rattle.deciding.specs.declared.Verdict.{Verdict}
 use Rattle.deciding.specs.declared.Verdict.the-variants.{Refuse, Leave, Enter, Password, Read, WriteClock, WriteAccount, WriteTable}
 use Rattle.deciding.specs.Shape.{startGood, bareShape, content, framedShape}
 use Rattle.deciding.specs.Verdict.{entry, bareVerdict, framedVerdict, shapeVerdict, verdict}
 use Rattle.tariff.specs.Zones.{ownDay, tableFor, zoneIn, counted}
 use Rattle.tariff.specs.Months.{monthStarts, monthClosed}
-use Rattle.mistakes.specs.Samples.{serial, account, twos, newMeter, used, heldIn, closedTwice, oldestFirst}
+use Rattle.mistakes.specs.Samples.{serial, account, twos, newMeter, used, newEqm, usedEqm, heldIn, closedTwice, oldestFirst}
 use Rattle.mistakes.specs.Receiving.{Setting, Hearings, Decisions, Closing, Tariff}
 use Rattle.mistakes.proofs.Differing.{seen, number, flag, byte}
 
@@ -50,12 +54,20 @@ hearingCase Confirm = 5
 hearingCase Frame = 6
 hearingCase TooLong = 7
 
+unfoldable askCase : Ask → ℕ
+askCase Clock = 0
+askCase Serial = 1
+askCase Account = 2
+askCase (Energy e) = 3
+askCase (Export e) = 4
+askCase (Table t) = 5
+
 unfoldable verdictCase : Verdict → ℕ
 verdictCase (Refuse n) = n
 verdictCase Leave = 100
 verdictCase Enter = 101
 verdictCase Password = 102
-verdictCase (Read a) = 103
+verdictCase (Read a) = 110 + askCase a
 verdictCase (WriteClock c) = 104
 verdictCase WriteAccount = 105
 verdictCase (WriteTable t) = 106
@@ -73,8 +85,8 @@ hearings =
     }
 
 pub decisions : Decisions
-unfolding seven bccOf every between isDigit isPrintable matching sameText decimal layoutText agrees fits tableText closed frameOf bracketed setTable startGood bareShape content framedShape entry bareVerdict framedVerdict shapeVerdict verdict verdictCase twos
-decisions = record { decide = (seen verdictCase refl, seen verdictCase refl) }
+unfolding seven bccOf every between isDigit isPrintable matching sameText decimal layoutText agrees fits tableText closed frameOf bracketed setTable startGood bareShape content framedShape entry bareVerdict framedVerdict shapeVerdict verdict asked energyAsked energyNamed energyAt tableAsked isEqm askClock askSerial askAccount askExport askCase verdictCase twos
+decisions = record { decide = (seen verdictCase refl, seen verdictCase refl); decide-out = (seen verdictCase refl, seen verdictCase refl) }
 
 pub setting : Setting
 unfolding stored decimal serial account twos newMeter used heldIn tablesOf newRows isWired restSpeed
@@ -96,7 +108,7 @@ setting =
     }
 
 pub closings : Closing
-unfolding stored decimal leap thirty daysIn realDate realTime realStamp every below zonesGood noTime unused periodGood everyPeriod archiveGood periodsOf closedWith serial account twos newMeter used closedTwice oldestFirst tablesOf newRows
+unfolding stored decimal leap thirty daysIn realDate realTime realStamp every below zonesBelow counterEnd exportEnd bothBelow noTime unused periodGood everyPeriod archiveGood periodsOf closedWith serial account twos newMeter used closedTwice oldestFirst tablesOf newRows
 closings =
     record {
       «archive_good» = (flag refl, flag refl);
@@ -105,7 +117,7 @@ closings =
     }
 
 pub tariff : Tariff
-unfolding stored decimal leap thirty daysIn nextMonth nextDay nextSecond monthStarts monthClosed periodsOf closedWith daysBefore dayNumber weekday tableFor zoneIn counted serial account twos newMeter used heldIn tablesOf newRows ownDay
+unfolding stored decimal leap thirty daysIn nextMonth nextDay nextSecond monthStarts monthClosed periodsOf closedWith daysBefore dayNumber weekday tableFor zoneIn counterEnd exportEnd counted serial account twos newMeter used newEqm usedEqm heldIn tablesOf newRows ownDay
 tariff =
     record {
       table-for-kilns = (number refl, number refl);
@@ -113,6 +125,9 @@ tariff =
       «zone_in» = (number refl, number refl);
       count = (seen (λ (c : Counters). counterOf c 2) refl, seen (λ (c : Counters). counterOf c 1) refl);
       count-total = (seen (λ (c : Counters). c .total) refl, seen (λ (c : Counters). c .total) refl);
+      count-eqm = (seen (λ (c : Counters). counterOf c 1) refl, seen (λ (c : Counters). c .total) refl);
+      «count_in» = (seen (λ (g : Registers). counterOf (g .counters) 1) refl, seen (λ (g : Registers). g .counters .total) refl);
+      «count_out» = (seen (λ (g : Registers). counterOf (g .exported) 1) refl, seen (λ (g : Registers). g .counters .total) refl);
       «second_later» = (seen (λ (g : Registers). g .archive .count) refl, seen (λ (g : Registers). g .archive .count) refl);
       second-later-month =
           (seen (λ (g : Registers). g .archive .count) refl, seen (λ (g : Registers). getD (g .archive .periods) 0 noPeriod .closed .date .day) refl);

@@ -11,9 +11,10 @@ use Rattle.text.specs.Layout.{layoutText, pattern, agrees, fits}
 use Rattle.clock.specs.declared.Date.{Date}
 use Rattle.clock.specs.declared.Time.{Time}
 use Rattle.clock.specs.Dates.{leap, thirty, daysIn, realDate, realTime}
+use Rattle.values.specs.Family.{isFamily, isEqm, counterDigits, counterDecimals}
 use Rattle.values.specs.Registers.{isAccountCharacter, goodAccount, goodRow}
-use Rattle.values.specs.Texts.{serialText, dateText, timeText, counterText}
-use Rattle.values.specs.Reading.{dateRead, timeRead, counterRead}
+use Rattle.values.specs.Texts.{serialText, dateText, timeText, counterText, energyText}
+use Rattle.values.specs.Reading.{dateRead, timeRead, counterRead, energyRead}
 use Rattle.values.specs.Serials.{serialRead, accountRead, rowRead}
 use Rattle.frames.specs.Frames.{closed, blockOf}
 use Rattle.datasets.specs.Sets.{dataSet}
@@ -29,7 +30,8 @@ use Rattle.reader.specs.declared.Placed.{Placed}
 use Rattle.reading.specs.Whole.{setOf, also, readFrom, readAll, placeAfter}
 use Rattle.finding.specs.declared.Lookup.{Lookup}
 use Rattle.finding.specs.Finding.{among, position, answered, lookup}
-use Rattle.headlink.specs.Telling.{valueNumber}
+use Rattle.headlink.specs.Telling.{valueNumber, eqmTold}
+use Rattle.headlink.specs.declared.fields.Counted.{Counted}
 use Rattle.mistakes.specs.Samples.{serial, twos}
 use Rattle.mistakes.specs.Replying.{block, misSummed, twoSets, sameTwice, badFirst, Damage, Blocks, Sets, Readers, Walks, Finds, Fields}
 use Rattle.mistakes.proofs.Differing.{seen, number, byte, long}
@@ -74,7 +76,7 @@ finds =
     }
 
 pub fields : Fields
-unfolding every holding between isDigit isLetter matching decimal valueFrom valueOf numberAt layoutText pattern agrees fits leap thirty daysIn realDate realTime isAccountCharacter goodAccount goodRow serialText dateText timeText counterText dateRead timeRead counterRead serialRead accountRead rowRead valueNumber serial twos
+unfolding every holding between isDigit isLetter matching decimal valueFrom valueOf numberAt layoutText pattern agrees fits leap thirty daysIn realDate realTime isAccountCharacter goodAccount goodRow serialText dateText timeText isFamily isEqm counterDigits counterDecimals counterText energyText dateRead timeRead counterRead energyRead serialRead accountRead rowRead valueNumber eqmTold serial twos
 fields =
     record {
       «dirgemist_head_value_serial» = (λ after t. number refl (t .number), λ after t. number refl (t .number));
@@ -83,4 +85,5 @@ fields =
       «dirgemist_head_value_date» = (number refl, seen (λ (d : Date). d .day) refl);
       «dirgemist_head_value_time» = (number refl, seen (λ (t : Time). t .hour) refl);
       «dirgemist_head_value_counter» = (number refl, number refl);
+      «dirgemist_head_value_eqm» = (seen (λ (c : Counted). c .number) refl, seen (λ (c : Counted). c .number) refl);
     }

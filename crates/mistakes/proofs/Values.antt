@@ -22,12 +22,13 @@ use Rattle.values.specs.declared.characters.SerialRead.{SerialRead}
 use Rattle.values.specs.declared.characters.AccountRead.{AccountRead}
 use Rattle.values.specs.declared.characters.RowRead.{RowRead}
 use Rattle.values.specs.Edition.{isEdition, tablesOf}
+use Rattle.values.specs.Family.{isFamily, isEqm, counterDigits, counterDecimals, counterEnd, exportEnd}
 use Rattle.values.specs.Registers.{goodDigits, isAccountCharacter, goodAccount, goodRow, goodTable, goodZone, energyNo}
-use Rattle.values.specs.Texts.{serialText, tableText, dateText, timeText, clockText, stampText, counterText}
-use Rattle.values.specs.Reading.{dateRead, timeRead, clockRead, stampRead, counterRead, tableRead}
+use Rattle.values.specs.Texts.{serialText, tableText, dateText, timeText, clockText, stampText, counterText, energyText}
+use Rattle.values.specs.Reading.{dateRead, timeRead, clockRead, stampRead, counterRead, energyRead, tableRead}
 use Rattle.values.specs.Serials.{serialRead, accountRead, rowRead}
 use Rattle.mistakes.specs.Samples.{serial}
-use Rattle.mistakes.specs.Values.{Clock, Rules, Reading, Characters, Writing}
+use Rattle.mistakes.specs.Values.{Clock, Rules, Families, Reading, Characters, Writing}
 use Rattle.mistakes.proofs.Differing.{seen, number, flag, byte}
 
 pub clock : Clock
@@ -60,15 +61,28 @@ rules =
       «energy_no» = (number refl, number refl);
     }
 
+pub families : Families
+unfolding between isFamily isEqm counterDigits counterDecimals counterEnd exportEnd
+families =
+    record {
+      «is_family» = (flag refl, flag refl);
+      «is_eqm» = (flag refl, flag refl);
+      «counter_digits» = (number refl, number refl);
+      «counter_decimals» = (number refl, number refl);
+      «counter_end» = (number refl, number refl);
+      «export_end» = (number refl, number refl);
+    }
+
 pub reading : Reading × Characters
-unfolding every between isDigit isLetter matching decimal valueFrom valueOf numberAt layoutText pattern agrees fits leap thirty daysIn realDate realTime realClock realStamp isAccountCharacter goodAccount goodRow goodTable serialText clockText stampText counterText dateRead timeRead clockRead stampRead counterRead tableRead serialRead accountRead rowRead serial
+unfolding every between isDigit isLetter matching decimal valueFrom valueOf numberAt layoutText pattern agrees fits leap thirty daysIn realDate realTime realClock realStamp isAccountCharacter goodAccount goodRow goodTable serialText clockText stampText counterDigits counterDecimals counterText energyText dateRead timeRead clockRead stampRead counterRead energyRead tableRead serialRead accountRead rowRead serial
 reading = (
   record {
     «read_date» = (seen (λ (r : DateRead). cond (r .ok) 1 0) refl, seen (λ (r : DateRead). r .date .year) refl);
     «read_time» = (seen (λ (r : TimeRead). cond (r .ok) 1 0) refl, seen (λ (r : TimeRead). r .time .second) refl);
     «read_clock» = (seen (λ (r : ClockRead). cond (r .ok) 1 0) refl, seen (λ (r : ClockRead). r .clock .date .month) refl);
     «read_stamp» = (seen (λ (r : StampRead). cond (r .ok) 1 0) refl, seen (λ (r : StampRead). r .stamp .hour) refl);
-    «read_counter» = (seen (λ (r : CounterRead). r .wh) refl, seen (λ (r : CounterRead). cond (r .ok) 1 0) refl);
+    «read_counter» = (seen (λ (r : CounterRead). r .number) refl, seen (λ (r : CounterRead). cond (r .ok) 1 0) refl);
+    read-counter-eqm = (seen (λ (r : CounterRead). cond (r .ok) 1 0) refl, seen (λ (r : CounterRead). r .number) refl);
     «read_table» = (seen (λ (r : TableRead). cond (r .ok) 1 0) refl, seen (λ (r : TableRead). cond (r .ok) 1 0) refl);
   },
   record {
@@ -79,7 +93,7 @@ reading = (
 )
 
 pub writing : Writing
-unfolding stored decimal layoutText serialText tableText dateText timeText clockText stampText counterText serial
+unfolding stored decimal layoutText serialText tableText dateText timeText clockText stampText counterDigits counterDecimals counterText energyText serial
 writing =
     record {
       «put_serial» = (byte 3 refl, byte 3 refl);
@@ -89,4 +103,5 @@ writing =
       «put_clock» = (byte 1 refl, byte 1 refl);
       «put_stamp» = (byte 10 refl, byte 8 refl);
       «put_counter» = (byte 5 refl, byte 6 refl);
+      put-counter-eqm = (byte 5 refl, byte 0 refl);
     }

@@ -14,6 +14,7 @@ use Rattle.text.specs.Layout.{layoutText, pattern, agrees, fits}
 use Rattle.clock.specs.Dates.{leap, thirty, daysIn, realDate, realTime}
 use Rattle.clock.specs.Seconds.{realClock, nextSecond}
 use Rattle.values.specs.Edition.{isEdition, tablesOf}
+use Rattle.values.specs.Family.{isFamily, counterEnd, exportEnd}
 use Rattle.values.specs.Registers.{goodDigits, isAccountCharacter, goodAccount, goodRow, goodTable}
 use Rattle.values.specs.Texts.{tableText}
 use Rattle.values.specs.Reading.{tableRead}
@@ -21,7 +22,7 @@ use Rattle.frames.specs.Frames.{closed, frameOf, bareFrame}
 use Rattle.frames.specs.Commands.{bracketed, setTable}
 use Rattle.frames.specs.Session.{signOn, confirmation, speedSaid}
 use Rattle.state.specs.declared.Meter.{Meter}
-use Rattle.state.specs.WellFormed.{limit, firstGood, heldGood, markGood, hurtGood, receiverGood, below, zonesGood, sumOf, total, tablesGood, linkGood, decimalsGood, factsGood, factoryGood, registersGood, wellFormed, speedGood, noTime, unused, periodGood, everyPeriod, archiveGood}
+use Rattle.state.specs.WellFormed.{limit, firstGood, heldGood, markGood, hurtGood, receiverGood, below, zonesBelow, bothBelow, sumOf, total, tablesGood, linkGood, factsGood, factoryGood, registersGood, wellFormed, speedGood, noTime, unused, periodGood, everyPeriod, archiveGood}
 use Rattle.state.specs.Making.{newRows}
 use Rattle.receiving.specs.Hearing.{hearing, listening, confirming, framing}
 use Rattle.deciding.specs.Shape.{startGood, bareShape, content, framedShape}
@@ -39,7 +40,7 @@ use Rattle.mistakes.specs.Whole.{awaiting, slice, heldSlice, Whole}
 use Rattle.mistakes.proofs.Differing.{seen}
 
 pub frames : Whole
-unfolding ones damagedAt seven sent bccOf every stored holding between isDigit isLetter isPrintable matching sameText decimal valueFrom valueOf numberAt layoutText pattern agrees fits leap thirty daysIn realDate realTime realClock goodDigits isAccountCharacter goodAccount goodRow goodTable tableText tableRead closed bracketed signOn limit firstGood heldGood markGood hurtGood receiverGood tablesGood linkGood decimalsGood factsGood registersGood wellFormed hearing listening confirming framing startGood bareShape content framedShape enclosed inner tableTold toldBy entry bareVerdict framedVerdict shapeVerdict verdict isWired restSpeed refusedReply afterRefusal tried acted calls opticalCall wiredCall identified slowToo symbol lineEnded confirmed heard taken character serial account password newMeter heldIn below zonesGood sumOf total factoryGood confirms wantsBlock wantsProgram confirmation speedSaid speedGood ends finishesAt atTheLast awaits frameTaken frameAt awaiting slice heldSlice noTime unused periodGood everyPeriod archiveGood closes isEdition tablesOf newRows
+unfolding ones damagedAt seven sent bccOf every stored holding between isDigit isLetter isPrintable matching sameText decimal valueFrom valueOf numberAt layoutText pattern agrees fits leap thirty daysIn realDate realTime realClock goodDigits isAccountCharacter goodAccount goodRow goodTable tableText tableRead closed bracketed signOn limit firstGood heldGood markGood hurtGood receiverGood tablesGood linkGood isFamily factsGood registersGood wellFormed hearing listening confirming framing startGood bareShape content framedShape enclosed inner tableTold toldBy entry bareVerdict framedVerdict shapeVerdict verdict isWired restSpeed refusedReply afterRefusal tried acted calls opticalCall wiredCall identified slowToo symbol lineEnded confirmed heard taken character serial account password newMeter heldIn below zonesBelow counterEnd exportEnd bothBelow sumOf total factoryGood confirms wantsBlock wantsProgram confirmation speedSaid speedGood ends finishesAt atTheLast awaits frameTaken frameAt awaiting slice heldSlice noTime unused periodGood everyPeriod archiveGood closes isEdition tablesOf newRows
 frames =
     record {
       «receive_frame» = (seen (λ (a : Answer). a .number) refl, seen (λ (a : Answer). a .number) refl);

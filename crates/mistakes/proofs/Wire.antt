@@ -15,6 +15,7 @@ use Rattle.clock.specs.Dates.{leap, thirty, daysIn, realDate, realTime}
 use Rattle.clock.specs.Seconds.{realClock, nextSecond}
 use Rattle.clock.specs.Weekday.{daysBefore, dayNumber, weekday}
 use Rattle.values.specs.Edition.{isEdition, tablesOf}
+use Rattle.values.specs.Family.{isFamily, counterEnd, exportEnd}
 use Rattle.values.specs.Registers.{goodDigits, isAccountCharacter, goodAccount, goodRow, goodTable}
 use Rattle.values.specs.Texts.{tableText}
 use Rattle.values.specs.Reading.{tableRead}
@@ -22,7 +23,7 @@ use Rattle.frames.specs.Frames.{closed, frameOf, bareFrame}
 use Rattle.frames.specs.Commands.{bracketed, setTable}
 use Rattle.frames.specs.Session.{signOnTo, wiredLine, closingSignOn, signOn, confirmation, speedSaid}
 use Rattle.state.specs.declared.Meter.{Meter}
-use Rattle.state.specs.WellFormed.{limit, firstGood, heldGood, markGood, receiverGood, below, zonesGood, sumOf, total, tablesGood, noTime, unused, periodGood, everyPeriod, archiveGood, linkGood, decimalsGood, factsGood, factoryGood, registersGood, wellFormed, speedGood, hurtGood}
+use Rattle.state.specs.WellFormed.{limit, firstGood, heldGood, markGood, receiverGood, below, zonesBelow, bothBelow, sumOf, total, tablesGood, noTime, unused, periodGood, everyPeriod, archiveGood, linkGood, factsGood, factoryGood, registersGood, wellFormed, speedGood, hurtGood}
 use Rattle.state.specs.Making.{newRows, factsRefused, madeOf}
 use Rattle.state.specs.Setting.{counterOf}
 use Rattle.receiving.specs.Hearing.{hearing, listening, confirming, framing}
@@ -42,7 +43,7 @@ use Rattle.mistakes.specs.Wire.{wiredMeter, wiredIn, zerosCalled, plainC
 use Rattle.mistakes.proofs.Differing.{seen, number, flag, byte}
 
 pub wire : Written × Lined × Linked × Answered × Heard
-unfolding ones damagedAt seven sent bccOf every stored holding between isDigit isLetter isPrintable matching sameText decimal valueFrom valueOf numberAt layoutText pattern agrees fits leap thirty daysIn realDate realTime realClock goodDigits isAccountCharacter goodAccount closed bracketed signOn limit firstGood heldGood markGood hurtGood receiverGood tablesGood isEdition tablesOf newRows linkGood decimalsGood factsGood registersGood wellFormed hearing listening confirming framing startGood bareShape content framedShape entry bareVerdict framedVerdict shapeVerdict verdict isWired restSpeed refusedReply afterRefusal tried acted calls opticalCall wiredCall identified slowToo symbol lineEnded confirmed heard taken character serial account password newMeter afterSilence silence powerUp below zonesGood sumOf total factoryGood confirms wantsBlock wantsProgram confirmation speedSaid bareFrame speedGood noTime unused periodGood everyPeriod archiveGood closes closingSignOn wantsPeriods wiredMeter wiredIn zerosCalled plainCalled wrongSum slowDigit serialText wiredText wiredLine signOnTo
+unfolding ones damagedAt seven sent bccOf every stored holding between isDigit isLetter isPrintable matching sameText decimal valueFrom valueOf numberAt layoutText pattern agrees fits leap thirty daysIn realDate realTime realClock goodDigits isAccountCharacter goodAccount closed bracketed signOn limit firstGood heldGood markGood hurtGood receiverGood tablesGood isEdition tablesOf newRows linkGood isFamily factsGood registersGood wellFormed hearing listening confirming framing startGood bareShape content framedShape entry bareVerdict framedVerdict shapeVerdict verdict isWired restSpeed refusedReply afterRefusal tried acted calls opticalCall wiredCall identified slowToo symbol lineEnded confirmed heard taken character serial account password newMeter afterSilence silence powerUp below zonesBelow counterEnd exportEnd bothBelow sumOf total factoryGood confirms wantsBlock wantsProgram confirmation speedSaid bareFrame speedGood noTime unused periodGood everyPeriod archiveGood closes closingSignOn wantsPeriods wiredMeter wiredIn zerosCalled plainCalled wrongSum slowDigit serialText wiredText wiredLine signOnTo
 wire = (
   record { «put_wired» = (byte 3 refl, byte 3 refl) },
   record { «wired_line» = (byte 1 refl, byte 0 refl) },

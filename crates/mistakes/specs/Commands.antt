@@ -9,7 +9,7 @@ use Rattle.clock.specs.Seconds.{realClock}
 use Rattle.values.specs.Edition.{tablesOf}
 use Rattle.values.specs.Registers.{goodSerial, goodPassword, goodAccount, goodRow, goodTable, goodZone}
 use Rattle.frames.specs.Frames.{frameOf, bareFrame, onWire}
-use Rattle.frames.specs.Commands.{B0, P0, P1, R1, W1, bracketed, askClock, askSerial, askAccount, askEnergy, askTable, setClock, setAccount, setTable}
+use Rattle.frames.specs.Commands.{B0, P0, P1, R1, W1, bracketed, askClock, askSerial, askAccount, askEnergy, askExport, askTable, setClock, setAccount, setTable}
 use Rattle.values.specs.Texts.{serialText}
 use Rattle.frames.specs.Session.{signOn, closingSignOn, signOnTo, wiredSignOn, confirmation, goodSpeed, enterData, passwordData}
 use Rattle.commands.specs.declared.Built.{Built}
@@ -75,6 +75,12 @@ pub record Commands : Type 0 where
   -- zone 0 taken, which asks for the total; zone 2 asked for as the first
   pub «read_zone» : NotAnswered room (goodZone 0) (onWire (frameOf R1 (askEnergy 0))) 1 10
       × NotLeft room (goodZone 2) (onWire (frameOf R1 (askEnergy 2))) (holding room (onWire (frameOf R1 (askEnergy 1))))
+  -- [10]: the total of what came in asked for; the first zone
+  pub «read_total_out» : NotLeft room true (onWire (frameOf R1 (askExport 0))) (holding room (onWire (frameOf R1 (askEnergy 0))))
+      × NotLeft room true (onWire (frameOf R1 (askExport 0))) (holding room (onWire (frameOf R1 (askExport 1))))
+  -- zone 0 taken, which asks for the total; what came in asked for
+  pub «read_zone_out» : NotAnswered room (goodZone 0) (onWire (frameOf R1 (askExport 0))) 1 10
+      × NotLeft room (goodZone 2) (onWire (frameOf R1 (askExport 2))) (holding room (onWire (frameOf R1 (askEnergy 2))))
   -- table 25; one digit for a number below 10
   pub «read_table_of» : NotAnswered room (goodTable 24 25) (onWire (frameOf R1 (askTable 25))) 1 11
       × NotLeft room (goodTable 24 7) (onWire (frameOf R1 (askTable 7))) (holding room (onWire (frameOf R1 (90 ∷ bracketed (chars "7")))))

@@ -10,20 +10,21 @@ use Rattle.frames.specs.Frames.{frameOf, bareFrame, onWire}
 use Rattle.frames.specs.Commands.{B0, P1, W1, bracketed, setTable}
 use Rattle.state.specs.Sizes.{replyRoom}
 use Rattle.state.specs.declared.Meter.{Meter}
+use Rattle.state.specs.WellFormed.{familyOf}
 use Rattle.replies.specs.Fixed.{accepted, refused, identification, passwordAsk}
 use Rattle.receiving.specs.Receivers.{keptReceiver, restartedReceiver}
 use Rattle.state.specs.Making.{emptyReceiver, noCounters, factsOf, madeOf}
 use Rattle.state.specs.Setting.{withHeld, withMark, withReceiver, inMode, withAttempts, withRegisters, withClock, withCounters, withZones, withTotal, withSpeed}
 use Rattle.meter.specs.Outcomes.{Outcome, answerOf, atPlace, silent, unheard, saying, nak, ack}
 use Rattle.meter.specs.Character.{symbol, character}
-use Rattle.meter.specs.Events.{silence, tick, pulse, powerUp}
+use Rattle.meter.specs.Events.{silence, tick, pulseRefused, pulse, powerUp}
 use Rattle.meter.specs.declared.Event.the-variants.{Character, Silence, Tick, Pulse, Unknown}
 use Rattle.meter.specs.Life.{eventOf, met, refusal, happened}
 use Rattle.settling.specs.Settling.{goesOn, refuses, settles}
 use Rattle.keeping.specs.Shown.{checkedAs, shownAs}
 use Rattle.firmware.specs.Replies.{replyOf}
 use Rattle.mistakes.specs.RuledOut.{RuledOut}
-use Rattle.mistakes.specs.Samples.{clockAt, serial, account, password, twos, newMeter, heldIn}
+use Rattle.mistakes.specs.Samples.{clockAt, serial, account, password, twos, newMeter, newEqm, heldIn}
 
 -- table 7 with the row of '2', all but its BCC held in programming mode; and what its BCC comes to
 unfoldable pub told : Meter
@@ -136,10 +137,19 @@ pub record Passing : Type 0 where
       × RuledOut (answerOf (tick (withAttempts newMeter 4)))
       (answerOf (silent 1 (withRegisters (withAttempts newMeter 4) (withClock (newMeter .registers) (clockAt 2000 1 1 12 0 1)))))
   -- the next zone's counter; more than 1,000,000 Wh taken
-  pub «take_pulse» : RuledOut (answerOf (pulse newMeter 5))
+  pub «take_pulse» : RuledOut (answerOf (pulse newMeter false 5))
       (answerOf (silent 1 (withRegisters newMeter (withCounters (newMeter .registers) (withZones noCounters (0 ∷ 5 ∷ 0 ∷ 0 ∷ []))))))
-      × RuledOut (answerOf (pulse newMeter 1000001))
+      × RuledOut (answerOf (pulse newMeter false 1000001))
       (answerOf (silent 1 (withRegisters newMeter (withCounters (newMeter .registers) (withZones noCounters (1000001 ∷ 0 ∷ 0 ∷ 0 ∷ []))))))
+  -- [10]: what goes out counted as what comes in; taken by a meter of document 01's family
+  pub take-pulse-out : RuledOut (answerOf (pulse newEqm true 5)) (answerOf (pulse newEqm false 5)) × RuledOut (answerOf (pulse newMeter true 5)) (answerOf (silent 1 newMeter))
+  -- a malformed state said before a pulse out that nothing counts; before one that is too much
+  pub take-pulse-out-first : RuledOut (answerOf (pulse (withAttempts newMeter 4) true 5)) (answerOf (unheard 14 (withAttempts newMeter 4)))
+      × RuledOut (answerOf (pulse (withAttempts newEqm 4) true 1000001)) (answerOf (unheard 14 (withAttempts newEqm 4)))
+  -- no family; an EQM meter's for one of document 01's
+  pub «family_of» : RuledOut (familyOf newEqm) 0 × RuledOut (familyOf newMeter) 3
+  -- what goes out of a meter of document 01's family let through; that of an EQM meter refused
+  pub «refuses_pulse» : RuledOut (pulseRefused 0 true 5) false × RuledOut (pulseRefused 3 true 5) true
   -- the attempts kept; programming mode kept
   pub «power_up» : RuledOut (answerOf (powerUp (withAttempts newMeter 3))) (answerOf (silent 1 (withAttempts newMeter 3)))
       × RuledOut (answerOf (powerUp (inMode newMeter 4))) (answerOf (silent 1 (inMode newMeter 4)))
@@ -148,8 +158,10 @@ pub record Passing : Type 0 where
 pub record Happening : Type 0 where
   -- a pulse taken as a tick; a character of nine bits taken by its low eight
   pub «event_of» : RuledOut (eventOf 3 5) Tick × RuledOut (eventOf 0 303) (Character 47)
+  -- [10]: a pulse out taken as one in; as no event
+  pub event-of-out : RuledOut (eventOf 5 5) (Pulse 5) × RuledOut (eventOf 5 5) Unknown
   -- room asked of a pulse that is too much; no room asked of silence
-  pub «refusal_of» : RuledOut (refusal 0 (Pulse 1000001)) 12 × RuledOut (refusal 2047 Silence) 0
+  pub «refusal_of» : RuledOut (refusal 0 0 (Pulse 1000001)) 12 × RuledOut (refusal 0 2047 Silence) 0
   -- a pulse taken as a tick; a tick on a clock that stands
   pub act : RuledOut (answerOf (happened newMeter (eventOf 3 5))) (answerOf (tick newMeter))
       × RuledOut (answerOf (happened newMeter (eventOf 2 5))) (answerOf (silent 1 newMeter))

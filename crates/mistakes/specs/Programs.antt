@@ -74,7 +74,7 @@ pub record State : Type 0 where
 
 pub record Meters : Type 0 where
   -- 14 for a buffer that is too small
-  pub calls-a-small-buffer-malformed : RuledOut (refusal 4095 Silence) 14
+  pub calls-a-small-buffer-malformed : RuledOut (refusal 0 4095 Silence) 14
   -- 10, and no attempt more
   pub forgives-a-wrong-password : RuledOut (answerOf wrongTried) (answerOf (nak 10 wrongPassword))
   -- the slow confirmation answered at 9600 baud, and the session at 9600

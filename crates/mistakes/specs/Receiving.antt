@@ -8,7 +8,9 @@ use Rattle.line.specs.Quoted.{chars}
 use Rattle.text.specs.Writing.{stored}
 use Rattle.clock.specs.Seconds.{dateOf}
 use Rattle.frames.specs.Frames.{frameOf}
-use Rattle.frames.specs.Commands.{P1, W1, bracketed, setTable}
+use Rattle.values.specs.Family.{counterEnd}
+use Rattle.values.specs.Registers.{zoneEnergy}
+use Rattle.frames.specs.Commands.{P1, R1, W1, bracketed, askExport, setTable}
 use Rattle.state.specs.Sizes.{rowLength, periodPlaces}
 use Rattle.state.specs.Making.{emptyReceiver, noCounters, noPeriod}
 use Rattle.state.specs.WellFormed.{archiveGood}
@@ -16,13 +18,14 @@ use Rattle.state.specs.Closing.{closing}
 use Rattle.receiving.specs.declared.Hearing.the-variants.{Hold, Restart}
 use Rattle.receiving.specs.Hearing.{hearing}
 use Rattle.receiving.specs.Receivers.{lastHeld, hurtPlace, keptReceiver, restartedReceiver}
-use Rattle.deciding.specs.declared.Verdict.the-variants.{Password, WriteTable}
+use Rattle.deciding.specs.declared.Verdict.the-variants.{Password, Read, WriteTable}
+use Rattle.replies.specs.declared.Ask.the-variants.{Energy, Export}
 use Rattle.deciding.specs.Verdict.{verdict}
 use Rattle.state.specs.Setting.{withHeld, withMark, withReceiver, inMode, withAttempts, withRegisters, withClock, withAccount, withTables, withCounters, withZones, withTotal, zonePlace, counterOf, rowStart, withRow, withSpeed}
-use Rattle.tariff.specs.Zones.{tableFor, zoneIn, counted}
+use Rattle.tariff.specs.Zones.{tableFor, zoneIn, counted, countedIn, countedOut}
 use Rattle.tariff.specs.Months.{secondLater}
 use Rattle.mistakes.specs.RuledOut.{RuledOut}
-use Rattle.mistakes.specs.Samples.{clockAt, serial, twos, newMeter, used, usedAt, heldIn, closedTwice, oldestFirst}
+use Rattle.mistakes.specs.Samples.{clockAt, serial, twos, newMeter, used, usedEqm, usedAt, heldIn, closedTwice, oldestFirst}
 
 -- of `receiving`
 pub record Hearings : Type 0 where
@@ -44,8 +47,11 @@ pub record Hearings : Type 0 where
 -- of `deciding`
 pub record Decisions : Type 0 where
   -- three digits as a password, which would count an attempt; a write in the mode that only reads
-  pub decide : RuledOut (verdict 24 2 (take 10 (frameOf P1 (bracketed (chars "123")))) false (getD (frameOf P1 (bracketed (chars "123"))) 10 0)) Password
-      × RuledOut (verdict 24 3 (take 35 (frameOf W1 (setTable 7 twos))) false (getD (frameOf W1 (setTable 7 twos)) 35 0)) (WriteTable (record { 0 = 7 }))
+  pub decide : RuledOut (verdict 24 0 2 (take 10 (frameOf P1 (bracketed (chars "123")))) false (getD (frameOf P1 (bracketed (chars "123"))) 10 0)) Password
+      × RuledOut (verdict 24 0 3 (take 35 (frameOf W1 (setTable 7 twos))) false (getD (frameOf W1 (setTable 7 twos)) 35 0)) (WriteTable (record { 0 = 7 }))
+  -- [10]: what went out told by a meter of document 01's family; what came in for it
+  pub decide-out : RuledOut (verdict 24 0 3 (take 9 (frameOf R1 (askExport 1))) false (getD (frameOf R1 (askExport 1)) 9 0)) (Read (Export (zoneEnergy 1)))
+      × RuledOut (verdict 24 3 3 (take 9 (frameOf R1 (askExport 1))) false (getD (frameOf R1 (askExport 1)) 9 0)) (Read (Energy (zoneEnergy 1)))
 
 -- of `state::setting`
 pub record Setting : Type 0 where
@@ -84,8 +90,8 @@ pub record Setting : Type 0 where
 -- of `state::closing`
 pub record Closing : Type 0 where
   -- a period without a time; a thirteenth
-  pub «archive_good» : RuledOut (archiveGood (record { periods = replicate periodPlaces noPeriod; count = 1 })) true
-      × RuledOut (archiveGood (record { periods = replicate periodPlaces noPeriod; count = 13 })) true
+  pub «archive_good» : RuledOut (archiveGood 0 (record { periods = replicate periodPlaces noPeriod; count = 1 })) true
+      × RuledOut (archiveGood 0 (record { periods = replicate periodPlaces noPeriod; count = 13 })) true
   -- nothing closed; the counters set back
   pub close : RuledOut (closing used) used × RuledOut (closing used) (withCounters (closing used) noCounters)
   -- the oldest first
@@ -101,11 +107,20 @@ pub record Tariff : Type 0 where
   pub «zone_in» : RuledOut (zoneIn (withTables used (stored (newMeter .registers .tables) 300 (chars "2")))) 1
       × RuledOut (zoneIn (withTables used (stored (newMeter .registers .tables) 300 (chars "2")))) 50
   -- the next zone's counter; 1,000,000,000 Wh and no return to 0
-  pub count : RuledOut (counted noCounters 2 5) (withZones noCounters (0 ∷ 0 ∷ 5 ∷ 0 ∷ []))
-      × RuledOut (counted (withZones noCounters (999999999 ∷ 0 ∷ 0 ∷ 0 ∷ [])) 1 1) (withZones noCounters (1000000000 ∷ 0 ∷ 0 ∷ 0 ∷ []))
+  pub count : RuledOut (counted (counterEnd 0) noCounters 2 5) (withZones noCounters (0 ∷ 0 ∷ 5 ∷ 0 ∷ []))
+      × RuledOut (counted (counterEnd 0) (withZones noCounters (999999999 ∷ 0 ∷ 0 ∷ 0 ∷ [])) 1 1) (withZones noCounters (1000000000 ∷ 0 ∷ 0 ∷ 0 ∷ []))
   -- the total of before the pulse; a total that does not roll over
-  pub count-total : RuledOut (counted noCounters 2 5) (withZones noCounters (0 ∷ 5 ∷ 0 ∷ 0 ∷ []))
-      × RuledOut (counted (withTotal (withZones noCounters (999999999 ∷ 0 ∷ 0 ∷ 0 ∷ [])) 999999999) 1 1) (withTotal noCounters 1000000000)
+  pub count-total : RuledOut (counted (counterEnd 0) noCounters 2 5) (withZones noCounters (0 ∷ 5 ∷ 0 ∷ 0 ∷ []))
+      × RuledOut (counted (counterEnd 0) (withTotal (withZones noCounters (999999999 ∷ 0 ∷ 0 ∷ 0 ∷ [])) 999999999) 1 1) (withTotal noCounters 1000000000)
+  -- [10]: 100,000,000 of an EQM meter and no return to 0; a total that goes on to 1,000,000,000
+  pub count-eqm : RuledOut (counted (counterEnd 3) (withZones noCounters (99999999 ∷ 0 ∷ 0 ∷ 0 ∷ [])) 1 1) (withZones noCounters (100000000 ∷ 0 ∷ 0 ∷ 0 ∷ []))
+      × RuledOut (counted (counterEnd 3) (withTotal (withZones noCounters (99999999 ∷ 0 ∷ 0 ∷ 0 ∷ [])) 99999999) 1 1) (withTotal noCounters 100000000)
+  -- counted as what goes out; the total of before the pulse
+  pub «count_in» : RuledOut (countedIn usedEqm 5) (countedOut usedEqm 5)
+      × RuledOut (countedIn usedEqm 5) (withCounters usedEqm (withZones (usedEqm .counters) (6 ∷ 2 ∷ 4 ∷ 8 ∷ [])))
+  -- counted as what comes in; in the total of what came in as well
+  pub «count_out» : RuledOut (countedOut usedEqm 5) (countedIn usedEqm 5)
+      × RuledOut (countedOut usedEqm 5) (withCounters (countedOut usedEqm 5) (withTotal (usedEqm .counters) 20))
   -- closed a second late; on every midnight
   pub «second_later» : RuledOut (secondLater (usedAt (clockAt 2000 2 1 0 0 0))) (closing (usedAt (clockAt 2000 2 1 0 0 1)))
       × RuledOut (secondLater (usedAt (clockAt 2000 2 1 23 59 59))) (closing (usedAt (clockAt 2000 2 2 0 0 0)))

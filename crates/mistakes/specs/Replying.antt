@@ -7,8 +7,8 @@ use lib.ListN.{take, drop, replicate}
 use Rattle.line.specs.Controls.{ETX, STX}
 use Rattle.line.specs.Quoted.{chars}
 use Rattle.clock.specs.Seconds.{dateOf, timeOf}
-use Rattle.values.specs.Texts.{serialText, dateText, timeText, counterText}
-use Rattle.values.specs.Reading.{dateRead, timeRead, counterRead}
+use Rattle.values.specs.Texts.{serialText, dateText, timeText, energyText}
+use Rattle.values.specs.Reading.{dateRead, timeRead, energyRead}
 use Rattle.values.specs.Serials.{serialRead, accountRead, rowRead}
 use Rattle.frames.specs.Frames.{blockOf}
 use Rattle.datasets.specs.Sets.{dataSet}
@@ -20,7 +20,7 @@ use Rattle.reading.specs.Sets.{endAt, setAt, setRead}
 use Rattle.reader.specs.declared.Reader.{Reader}
 use Rattle.reader.specs.Walking.{yields, moved, setAfter}
 use Rattle.finding.specs.Finding.{matchedAt, lookup}
-use Rattle.headlink.specs.Telling.{valueNumber, Tells}
+use Rattle.headlink.specs.Telling.{valueNumber, Tells, eqmTold}
 use Rattle.mistakes.specs.RuledOut.{RuledOut}
 use Rattle.mistakes.specs.Samples.{serial, account, twos}
 
@@ -112,4 +112,6 @@ pub record Fields : Type 0 where
   -- 24:00:00 taken; its numbers handed out all the same
   pub «dirgemist_head_value_time» : RuledOut (valueNumber (timeRead (timeText (timeOf 24 0 0)) .ok)) 1 × RuledOut (timeRead (timeText (timeOf 24 0 0)) .time) (timeOf 24 0 0)
   -- 25 for a good counter; its kWh and no decimals
-  pub «dirgemist_head_value_counter» : RuledOut (valueNumber (counterRead 9 3 (counterText 9 3 1500) .ok)) 25 × RuledOut (counterRead 9 3 (counterText 9 3 1500) .wh) 1
+  pub «dirgemist_head_value_counter» : RuledOut (valueNumber (energyRead 0 (energyText 0 1500) .ok)) 25 × RuledOut (energyRead 0 (energyText 0 1500) .number) 1
+  -- [10]: document 01's family read as an EQM one; 25 for decimals that no meter has
+  pub «dirgemist_head_value_eqm» : RuledOut (eqmTold 0 (energyText 0 1500)) (record { number = 1; count = 1500 }) × RuledOut (eqmTold 1 []) (record { number = 25; count = 0 })

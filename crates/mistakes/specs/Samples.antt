@@ -12,7 +12,7 @@ use Rattle.state.specs.declared.Registers.{Registers}
 use Rattle.state.specs.declared.Meter.{Meter}
 use Rattle.state.specs.Making.{emptyReceiver, noCounters, factsOf, meterOf}
 use Rattle.state.specs.Closing.{periodOf, closedWith, closing}
-use Rattle.state.specs.Setting.{withHeld, withReceiver, withClock, withArchive, withCounters, withTables, withZones, withTotal, withRow, inMode}
+use Rattle.state.specs.Setting.{withHeld, withReceiver, withClock, withArchive, withCounters, withExported, withTables, withZones, withTotal, withRow, inMode}
 
 abbrev pub clockAt : ℕ → ℕ → ℕ → ℕ → ℕ → ℕ → Clock
 clockAt y m d h n s = record { date = dateOf y m d; time = timeOf h n s }
@@ -48,6 +48,16 @@ unfoldable pub used : Registers
 unfolding newMeter
 used = withTables (withCounters (newMeter .registers) (withTotal (withZones noCounters (1 ∷ 2 ∷ 4 ∷ 8 ∷ [])) 15)) (withRow (newMeter .registers .tables) 8 twos)
 
+-- [10]: an EQM meter with three decimals; 1, 2, 4 and 8 of the last place came in, 16, 32, 64 and 128 went out
+unfoldable pub newEqm : Meter
+newEqm = meterOf (factsOf serial password 1 1 3) account noon
+
+unfoldable pub usedEqm : Registers
+unfolding newEqm
+usedEqm =
+    withExported (withCounters (newEqm .registers) (withTotal (withZones noCounters (1 ∷ 2 ∷ 4 ∷ 8 ∷ [])) 15))
+    (withTotal (withZones noCounters (16 ∷ 32 ∷ 64 ∷ 128 ∷ [])) 240)
+
 -- in a mode, holding some characters
 unfoldable pub heldIn : ℕ → List ℕ → Meter
 heldIn mode s = withReceiver (inMode newMeter mode) (withHeld emptyReceiver (stored (emptyReceiver .held) 0 s) (length s))
@@ -61,4 +71,4 @@ closedTwice = closing (withClock (closing used) (clockAt 2001 2 3 4 5 6))
 
 -- the same, the oldest first
 unfoldable pub oldestFirst : Registers
-oldestFirst = withArchive closedTwice (closedWith (periodOf noon (used .counters)) (closedWith (periodOf (clockAt 2001 2 3 4 5 6) (used .counters)) (used .archive)))
+oldestFirst = withArchive closedTwice (closedWith (periodOf noon (used .counters) (used .exported)) (closedWith (periodOf (clockAt 2001 2 3 4 5 6) (used .counters) (used .exported)) (used .archive)))

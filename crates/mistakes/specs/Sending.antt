@@ -10,21 +10,22 @@ use Rattle.clock.specs.Seconds.{dateOf, timeOf}
 use Rattle.values.specs.declared.Energy.the-variants.{Total}
 use Rattle.values.specs.Edition.{isEdition}
 use Rattle.values.specs.Registers.{energyNo, zoneEnergy}
-use Rattle.values.specs.Texts.{serialText, timeText, dateText}
+use Rattle.values.specs.Texts.{serialText, timeText, dateText, energyText}
 use Rattle.frames.specs.Frames.{sealed, frameOf, bareFrame, blockOf, onWire}
 use Rattle.frames.specs.Commands.{P0, P1, bracketed}
 use Rattle.state.specs.Sizes.{rowLength, replyRoom, periodPlaces, tablePlaces}
 use Rattle.state.specs.WellFormed.{editionOf, limit, wellFormed}
+use Rattle.state.specs.Closing.{closedWith}
 use Rattle.state.specs.Making.{emptyReceiver, noCounters, noPeriod, factsOf, meterOf, blankMeter, notMade, madeOf}
 use Rattle.datasets.specs.Sets.{dataSet, linesOf, lineOf, timeSet, dateSet, serialSet, accountSet, energySet, tableSet, closedSet, keptSet}
-use Rattle.replies.specs.declared.Ask.the-variants.{Energy, Table}
+use Rattle.replies.specs.declared.Ask.the-variants.{Energy, Export, Table}
 use Rattle.replies.specs.Answers.{askedData}
 use Rattle.replies.specs.Block.{blockSets, blockData}
 use Rattle.replies.specs.Periods.{longData}
 use Rattle.replies.specs.Fixed.{identification, passwordAsk, accepted, refused}
-use Rattle.state.specs.Setting.{withMark, withReceiver, withAttempts, withRegisters, withAccount, withTables, withArchive, withCounters, withZones, withTotal}
+use Rattle.state.specs.Setting.{withMark, withReceiver, withAttempts, withRegisters, withAccount, withTables, withArchive, withCounters, withExported, withZones, withTotal}
 use Rattle.mistakes.specs.RuledOut.{RuledOut}
-use Rattle.mistakes.specs.Samples.{noon, stampAt, serial, account, password, twos, newMeter, used, closedTwice, oldestFirst, heldIn}
+use Rattle.mistakes.specs.Samples.{noon, stampAt, serial, account, password, twos, newMeter, used, newEqm, usedEqm, closedTwice, oldestFirst, heldIn}
 
 -- of `frames`
 pub record Frames : Type 0 where
@@ -48,6 +49,16 @@ pub record States : Type 0 where
   -- a total that is off by one; a sum that is not rolled over
   pub is-well-formed-total : RuledOut (wellFormed (withRegisters newMeter (withCounters (newMeter .registers) (withTotal noCounters 1)))) true
       × RuledOut (wellFormed (withRegisters newMeter (withCounters (newMeter .registers) (withTotal (withZones noCounters (999999999 ∷ 1 ∷ 0 ∷ 0 ∷ [])) 1000000000)))) true
+  -- [10]: something gone out of a meter of document 01's family; one decimal
+  pub is-well-formed-family : RuledOut (wellFormed (withRegisters newMeter (withExported (newMeter .registers) (withTotal (withZones noCounters (1 ∷ 0 ∷ 0 ∷ 0 ∷ [])) 1)))) true
+      × RuledOut (wellFormed (meterOf (factsOf serial password 1 1 1) account noon)) true
+  -- one total for both directions, kept of what went out; of what came in
+  pub is-well-formed-directions : RuledOut (wellFormed (withRegisters newEqm (withExported (withCounters (newEqm .registers) (withTotal (withZones noCounters (1 ∷ 0 ∷ 0 ∷ 0 ∷ [])) 1)) (withTotal (withZones noCounters (2 ∷ 0 ∷ 0 ∷ 0 ∷ [])) 3)))) true
+      × RuledOut (wellFormed (withRegisters newEqm (withExported (withCounters (newEqm .registers) (withTotal (withZones noCounters (1 ∷ 0 ∷ 0 ∷ 0 ∷ [])) 3)) (withTotal (withZones noCounters (2 ∷ 0 ∷ 0 ∷ 0 ∷ [])) 2)))) true
+  -- an EQM meter's counter at 100,000,000; a period of document 01's family in which something went out
+  pub is-well-formed-ends : RuledOut (wellFormed (withRegisters newEqm (withCounters (newEqm .registers) (withTotal (withZones noCounters (100000000 ∷ 0 ∷ 0 ∷ 0 ∷ [])) 0)))) true
+      × RuledOut (wellFormed (withRegisters newMeter (withArchive (newMeter .registers)
+      (closedWith (record { closed = stampAt 2001 2 3 4 5; zones = replicate 4 0; exported = 1 ∷ 0 ∷ 0 ∷ 0 ∷ [] }) (newMeter .registers .archive))))) true
   -- [12]: a period without a time; a thirteenth
   pub is-well-formed-archive : RuledOut (wellFormed (withRegisters newMeter (withArchive (newMeter .registers) (record { periods = replicate periodPlaces noPeriod; count = 1 })))) true
       × RuledOut (wellFormed (withRegisters newMeter (withArchive (newMeter .registers) (record { periods = replicate periodPlaces noPeriod; count = 13 })))) true
@@ -77,8 +88,11 @@ pub record Sets : Type 0 where
   pub «put_account_set» : RuledOut (stored (replicate 19 0) 0 (lineOf (accountSet account))) (dataSet (serialSet serial .address) account)
       × RuledOut (stored (replicate 19 0) 0 (lineOf (accountSet (replicate 10 32)))) (lineOf (accountSet []) ++ replicate 10 0)
   -- the total's address for T1; Wh shown as kWh
-  pub «put_energy_set» : RuledOut (stored (replicate 24 0) 0 (lineOf (energySet (energyNo (zoneEnergy 1)) 1500))) (lineOf (energySet 0 1500))
-      × RuledOut (stored (replicate 24 0) 0 (lineOf (energySet (energyNo (zoneEnergy 1)) 1500))) (lineOf (energySet 1 1500000))
+  pub «put_energy_set» : RuledOut (stored (replicate 24 0) 0 (lineOf (energySet 0 false (energyNo (zoneEnergy 1)) 1500))) (lineOf (energySet 0 false 0 1500))
+      × RuledOut (stored (replicate 24 0) 0 (lineOf (energySet 0 false (energyNo (zoneEnergy 1)) 1500))) (lineOf (energySet 0 false 1 1500000))
+  -- [10]: what went out under the name of what came in; that under document 01's name
+  pub put-energy-set-eqm : RuledOut (stored (replicate 22 0) 0 (lineOf (energySet 3 true (energyNo (zoneEnergy 1)) 1500))) (lineOf (energySet 3 false 1 1500))
+      × RuledOut (stored (replicate 22 0) 0 (lineOf (energySet 3 false (energyNo (zoneEnergy 1)) 1500))) (dataSet (chars "15.8.1") (energyText 3 1500))
   -- the number of the next table; the row without its last character
   pub «put_table_set» : RuledOut (stored (replicate 36 0) 0 (lineOf (tableSet 7 twos))) (lineOf (tableSet 8 twos))
       × RuledOut (stored (replicate 36 0) 0 (lineOf (tableSet 7 twos))) (lineOf (tableSet 7 (take 23 twos)) ++ (0 ∷ []))
@@ -86,8 +100,11 @@ pub record Sets : Type 0 where
   pub «put_closed_set» : RuledOut (stored (replicate 26 0) 0 (lineOf (closedSet 7 (stampAt 2001 2 3 4 5)))) (lineOf (closedSet 8 (stampAt 2001 2 3 4 5)))
       × RuledOut (stored (replicate 26 0) 0 (lineOf (closedSet 7 (stampAt 2001 2 3 4 5)))) (lineOf (closedSet 7 (stampAt 2001 2 3 5 5)))
   -- zone and period changed about; kWh for Wh
-  pub «put_kept_set» : RuledOut (stored (replicate 27 0) 0 (lineOf (keptSet 2 1 1500))) (lineOf (keptSet 1 2 1500))
-      × RuledOut (stored (replicate 27 0) 0 (lineOf (keptSet 2 1 1500))) (lineOf (keptSet 2 1 1500000))
+  pub «put_kept_set» : RuledOut (stored (replicate 27 0) 0 (lineOf (keptSet 0 false 2 1 1500))) (lineOf (keptSet 0 false 1 2 1500))
+      × RuledOut (stored (replicate 27 0) 0 (lineOf (keptSet 0 false 2 1 1500))) (lineOf (keptSet 0 false 2 1 1500000))
+  -- [10]: the same two of what went out
+  pub put-kept-set-eqm : RuledOut (stored (replicate 25 0) 0 (lineOf (keptSet 3 true 2 1 1500))) (lineOf (keptSet 3 false 2 1 1500))
+      × RuledOut (stored (replicate 25 0) 0 (lineOf (keptSet 3 true 2 1 1500))) (lineOf (keptSet 2 true 2 1 1500))
 
 -- of `replies`
 pub record Replies : Type 0 where
@@ -102,9 +119,17 @@ pub record Replies : Type 0 where
   pub «ask_password» : RuledOut (holding (replicate 12 0) (onWire passwordAsk)) (onWire (frameOf P1 (bracketed (chars "0000"))))
       × RuledOut (holding (replicate 12 0) (onWire passwordAsk)) (holding (replicate 12 0) (onWire (bareFrame P0)))
   -- a total without the fourth counter; the row of the next table
-  pub answer : RuledOut (holding (replicate replyRoom 0) (onWire (blockOf (askedData used (Energy Total))))) (holding (replicate replyRoom 0) (onWire (blockOf (lineOf (energySet 0 7)))))
+  pub answer : RuledOut (holding (replicate replyRoom 0) (onWire (blockOf (askedData used (Energy Total))))) (holding (replicate replyRoom 0) (onWire (blockOf (lineOf (energySet 0 false 0 7)))))
       × RuledOut (holding (replicate replyRoom 0) (onWire (blockOf (askedData used (Table (record { 0 = 7 }))))))
       (holding (replicate replyRoom 0) (onWire (blockOf (lineOf (tableSet 7 twos)))))
+  -- [10]: a total of both directions; what came in for what went out
+  pub answer-directions : RuledOut (holding (replicate replyRoom 0) (onWire (blockOf (askedData usedEqm (Energy Total))))) (holding (replicate replyRoom 0) (onWire (blockOf (lineOf (energySet 3 false 0 255)))))
+      × RuledOut (holding (replicate replyRoom 0) (onWire (blockOf (askedData usedEqm (Export (zoneEnergy 1)))))) (holding (replicate replyRoom 0) (onWire (blockOf (lineOf (energySet 3 true 1 1)))))
+  -- what came in shown again as what went out; the other way about
+  pub data-block-directions : RuledOut (holding (replicate replyRoom 0) (onWire (blockOf (blockData 24 usedEqm))))
+      (holding (replicate replyRoom 0) (onWire (blockOf (blockData 24 (withExported usedEqm (usedEqm .counters))))))
+      × RuledOut (holding (replicate replyRoom 0) (onWire (blockOf (blockData 24 usedEqm))))
+      (holding (replicate replyRoom 0) (onWire (blockOf (blockData 24 (withCounters usedEqm (usedEqm .exported))))))
   -- one table too few; no last line
   pub «data_block» : RuledOut (holding (replicate replyRoom 0) (onWire (blockOf (blockData 24 used)))) (holding (replicate replyRoom 0) (onWire (blockOf (blockData 23 used))))
       × RuledOut (holding (replicate replyRoom 0) (onWire (blockOf (blockData 24 used)))) (holding (replicate replyRoom 0) (onWire (blockOf (linesOf (blockSets 24 used)))))

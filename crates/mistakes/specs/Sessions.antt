@@ -26,7 +26,7 @@ totalRead = char "E" ∷ 0 ∷ []
 
 abbrev pub waiting : ℕ → ℕ → Session
 waiting sent fact =
-    record { serial = replicate 10 0; password = replicate 8 0; named = 0; access = 0; work = 0; count = 1; sent = sent; fact = fact; edition = 1 }
+    record { serial = replicate 10 0; password = replicate 8 0; named = 0; access = 0; work = 0; count = 1; sent = sent; fact = fact; edition = 1; decimals = 0 }
 
 -- the line of a zone's energy, and a block as it comes
 unfoldable pub energyBlock : List ℕ → List ℕ
@@ -43,8 +43,11 @@ pub record Judging : Type 0 where
   -- without its parity; NAK itself as another reply
   pub «is_nak» : RuledOut (refuses (0x15 ∷ [])) true × RuledOut (refuses (0x95 ∷ [])) false
   -- a zone's energy for the total; another line behind the one asked for
-  pub «is_answer» : RuledOut (answers (char "E") 0 (energyBlock (chars "1"))) true
-      × RuledOut (answers (char "K") 0 (onWire (blockOf (chars "0.0.0(Kiln_7 old)\r\nC.1.0(123 4567890)\r\n")))) true
+  pub «is_answer» : RuledOut (answers 0 (char "E") 0 (energyBlock (chars "1"))) true
+      × RuledOut (answers 0 (char "K") 0 (onWire (blockOf (chars "0.0.0(Kiln_7 old)\r\nC.1.0(123 4567890)\r\n")))) true
+  -- [10]: document 01's line from an EQM meter; what came in for what went out
+  pub is-answer-family : RuledOut (answers 3 (char "E") 1 (energyBlock (chars "1"))) true
+      × RuledOut (answers 3 (char "G") 1 (onWire (blockOf (chars "1.8.1(00123.456*kWh)\r\n")))) true
 
 -- of `session`
 pub record Sessions : Type 0 where
@@ -60,10 +63,15 @@ pub record Sessions : Type 0 where
 -- of `session::starting`
 pub record Starting : Type 0 where
   -- 9 for no reads at all; 9 before 30
-  pub start : ((place size : ℕ) (s : Session) (after : List ℕ) → Starts (toldOf 1 0 [] 0 [] 0) [] room (record { number = 9; place = place; length = size; session = s }) after → ⊥)
-      × ((place size : ℕ) (s : Session) (after : List ℕ) → Starts (toldOf 1 1 [] 0 [] 1) (postText one) room (record { number = 9; place = place; length = size; session = s }) after → ⊥)
+  pub start : ((place size : ℕ) (s : Session) (after : List ℕ) → Starts (toldOf 1 0 0 [] 0 [] 0) [] room (record { number = 9; place = place; length = size; session = s }) after → ⊥)
+      × ((place size : ℕ) (s : Session) (after : List ℕ) → Starts (toldOf 1 0 1 [] 0 [] 1) (postText one) room (record { number = 9; place = place; length = size; session = s }) after → ⊥)
   -- the sign-on counted as no message; a refused start that leaves a session
-  pub start-record : ((place size : ℕ) (after : List ℕ) → Starts (toldOf 1 0 [] 0 [] 0) totalRead room (record { number = 1; place = place; length = size; session = waiting 0 0 }) after → ⊥)
-      × ((place size : ℕ) (after : List ℕ) → Starts (toldOf 1 0 [] 0 [] 0) [] room (record { number = 28; place = place; length = size; session = waiting 1 0 }) after → ⊥)
+  pub start-record : ((place size : ℕ) (after : List ℕ) → Starts (toldOf 1 0 0 [] 0 [] 0) totalRead room (record { number = 1; place = place; length = size; session = waiting 0 0 }) after → ⊥)
+      × ((place size : ℕ) (after : List ℕ) → Starts (toldOf 1 0 0 [] 0 [] 0) [] room (record { number = 28; place = place; length = size; session = waiting 1 0 }) after → ⊥)
   -- energy 5; table 0
-  pub «read_good» : RuledOut (goodFields 24 (readOf (char "E") 5)) true × RuledOut (goodFields 24 (readOf (char "Z") 0)) true
+  pub «read_good» : RuledOut (goodFields 24 0 (readOf (char "E") 5)) true × RuledOut (goodFields 24 0 (readOf (char "Z") 0)) true
+  -- [10]: what went out of a meter of document 01's family; energy 5
+  pub read-good-out : RuledOut (goodFields 24 0 (readOf (char "G") 1)) true × RuledOut (goodFields 24 3 (readOf (char "G") 5)) true
+  -- one decimal taken; 9 for it
+  pub start-family : ((place size : ℕ) (s : Session) (after : List ℕ) → Starts (toldOf 1 1 0 [] 0 [] 0) totalRead room (record { number = 1; place = place; length = size; session = s }) after → ⊥)
+      × ((place size : ℕ) (s : Session) (after : List ℕ) → Starts (toldOf 1 1 0 [] 0 [] 0) totalRead room (record { number = 9; place = place; length = size; session = s }) after → ⊥)

@@ -9,10 +9,11 @@ use Rattle.clock.specs.Dates.{leap, daysIn, realDate, realTime}
 use Rattle.clock.specs.Seconds.{realClock, realStamp, stampOf, dateOf, timeOf, nextSecond}
 use Rattle.clock.specs.Weekday.{weekday}
 use Rattle.values.specs.Edition.{isEdition, tablesOf}
+use Rattle.values.specs.Family.{isFamily, isEqm, counterDigits, counterDecimals, counterEnd, exportEnd}
 use Rattle.values.specs.Registers.{goodDigits, isAccountCharacter, goodAccount, goodRow, goodTable, goodZone, energyNo, zoneEnergy}
 use Rattle.values.specs.declared.Energy.the-variants.{Total}
-use Rattle.values.specs.Texts.{serialText, tableText, dateText, timeText, clockText, stampText, counterText}
-use Rattle.values.specs.Reading.{dateRead, timeRead, clockRead, stampRead, counterRead, tableRead}
+use Rattle.values.specs.Texts.{serialText, tableText, dateText, timeText, clockText, stampText, counterText, energyText}
+use Rattle.values.specs.Reading.{dateRead, timeRead, clockRead, stampRead, energyRead, tableRead}
 use Rattle.values.specs.Serials.{serialRead, accountRead, rowRead}
 use Rattle.mistakes.specs.RuledOut.{RuledOut}
 use Rattle.mistakes.specs.Samples.{clockAt, stampAt, serial, account}
@@ -60,6 +61,21 @@ pub record Rules : Type 0 where
   -- a number of its own for the total; the total's for a zone
   pub «energy_no» : RuledOut (energyNo Total) 5 × RuledOut (energyNo (zoneEnergy 2)) 0
 
+-- of `values::family`
+pub record Families : Type 0 where
+  -- a family of one decimal; document 01's as none
+  pub «is_family» : RuledOut (isFamily 1) true × RuledOut (isFamily 0) false
+  -- document 01's family among the EQM ones; two decimals not
+  pub «is_eqm» : RuledOut (isEqm 0) true × RuledOut (isEqm 2) false
+  -- nine digits of an EQM meter; eight in document 01's family
+  pub «counter_digits» : RuledOut (counterDigits 4) 9 × RuledOut (counterDigits 0) 8
+  -- no decimals in document 01's family; three of a meter with two
+  pub «counter_decimals» : RuledOut (counterDecimals 0) 0 × RuledOut (counterDecimals 2) 3
+  -- 1,000,000,000 of an EQM meter; 100,000,000 in document 01's family
+  pub «counter_end» : RuledOut (counterEnd 3) 1000000000 × RuledOut (counterEnd 0) 100000000
+  -- a counter of what goes out in document 01's family; 1,000,000,000 for it
+  pub «export_end» : RuledOut (exportEnd 0) 1000000000 × RuledOut (exportEnd 4) 1000000000
+
 -- of `values::reading`
 pub record Reading : Type 0 where
   -- 01-02-29 as a date; the year 0 for 00-02-29
@@ -75,8 +91,11 @@ pub record Reading : Type 0 where
   pub «read_stamp» : RuledOut (stampRead (stampText (stampAt 2001 2 3 24 0))) (record { ok = true; stamp = stampAt 2001 2 3 24 0 })
       × RuledOut (stampRead (stampText (stampAt 2001 2 3 23 5))) (record { ok = true; stamp = stampAt 2001 2 3 5 23 })
   -- the decimals left out; four decimals
-  pub «read_counter» : RuledOut (counterRead 9 3 (counterText 9 3 1500)) (record { ok = true; wh = 1 })
-      × RuledOut (counterRead 9 3 (counterText 10 4 15000)) (record { ok = true; wh = 15000 })
+  pub «read_counter» : RuledOut (energyRead 0 (energyText 0 1500)) (record { ok = true; number = 1 })
+      × RuledOut (energyRead 0 (counterText 10 4 15000)) (record { ok = true; number = 15000 })
+  -- [10]: of three decimals, the point in the column of two taken; a decimal too many counted
+  pub read-counter-eqm : RuledOut (energyRead 3 (energyText 2 12345678)) (record { ok = true; number = 12345678 })
+      × RuledOut (energyRead 3 (energyText 3 1500)) (record { ok = true; number = 15000 })
   -- 25 of 24 tables; table 00
   pub «read_table» : RuledOut (tableRead 24 (chars "25")) (record { ok = true; table = record { 0 = 25 } })
       × RuledOut (tableRead 24 (chars "00")) (record { ok = true; table = record { 0 = 0 } })
@@ -115,5 +134,8 @@ pub record Writing : Type 0 where
   pub «put_stamp» : RuledOut (stored (replicate 14 0) 0 (stampText (stampAt 2001 2 3 4 5))) (stampText (stampAt 2001 2 3 5 4))
       × RuledOut (stored (replicate 14 0) 0 (stampText (stampAt 2001 2 3 4 5))) (dateText (dateOf 2001 2 3) ++ (59 ∷ (decimal 2 4 ++ (58 ∷ decimal 2 5))))
   -- Wh shown as kWh; two decimals
-  pub «put_counter» : RuledOut (stored (replicate 14 0) 0 (counterText 9 3 1500)) (counterText 9 3 1500000)
-      × RuledOut (stored (replicate 14 0) 0 (counterText 9 3 1500)) (counterText 9 2 150)
+  pub «put_counter» : RuledOut (stored (replicate 14 0) 0 (energyText 0 1500)) (energyText 0 1500000)
+      × RuledOut (stored (replicate 14 0) 0 (energyText 0 1500)) (counterText 9 2 150)
+  -- [10]: of three decimals, the point in the column of two; nine digits
+  pub put-counter-eqm : RuledOut (stored (replicate 13 0) 0 (energyText 3 12345678)) (energyText 2 12345678)
+      × RuledOut (stored (replicate 14 0) 0 (energyText 3 12345678)) (counterText 9 3 12345678)

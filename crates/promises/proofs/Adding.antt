@@ -11,40 +11,51 @@ use lib.ListN.{length, set}
 use lib.Seq.{set-out}
 use Rattle.line.specs.Runs.{every}
 use Rattle.line.proofs.Runs.{and-left}
-use Rattle.state.specs.Sizes.{counterEnd}
+use Rattle.values.specs.Family.{counterEnd, exportEnd}
 use Rattle.state.specs.declared.Counters.{Counters}
 use Rattle.state.specs.declared.Registers.{Registers}
 use Rattle.state.specs.declared.Meter.{Meter}
 use Rattle.state.specs.Link.{linkOf}
-use Rattle.state.specs.WellFormed.{speedGood, sumOf, total, below, zonesGood, receiverGood, tablesIn, tablesGood, archiveGood, factoryGood, registersGood, wellFormed}
-use Rattle.state.specs.Setting.{zonePlace, counterOf, withRegisters, withCounters, withTotal}
+use Rattle.state.specs.WellFormed.{speedGood, sumOf, total, below, zonesBelow, receiverGood, tablesIn, familyIn, familyOf, tablesGood, archiveGood, factoryGood, registersGood, wellFormed}
+use Rattle.state.specs.Setting.{zonePlace, counterOf, withRegisters, withCounters, withExported, withTotal}
 use Rattle.state.proofs.Parts.{formed, formed-registers, total-is-sum}
 use Rattle.tariff.specs.Zones.{grown, counted}
 use Rattle.replies.specs.Shown.{energy}
 use Rattle.replies.specs.Block.{energySets}
 use Rattle.meter.specs.declared.Event.{Event}
 use Rattle.meter.specs.Life.{met, lived}
-use Rattle.promises.specs.Adding.{Bare, bareFormed, bare, summed, addedUp, BareOutcome, bareOutcome, adding, livedAdding, AsRuled, AsBefore, Refuses}
+use Rattle.promises.specs.Adding.{Bare, bareFormed, bare, summed, addedUp, BareOutcome, bareOutcome, adding, livedAdding, AsRuled, TrueTotals, AsBefore, Refuses}
 use Rattle.promises.proofs.Choices as choice
 use Rattle.promises.proofs.Life.{met-stays, lived-stays}
 
--- the one test more, put behind the others
-aside : (a f z t b : Bool) → (a && (f && ((z && t) && b))) ≡ ((a && (f && (z && b))) && t)
-aside false f z t b = refl
-aside true false z t b = refl
-aside true true false t b = refl
-aside true true true true true = refl
-aside true true true true false = refl
-aside true true true false true = refl
-aside true true true false false = refl
+-- the two tests more, put behind the others
+aside : (a f z t y u b : Bool) → (a && (f && (((z && t) && (y && u)) && b))) ≡ ((a && (f && ((z && y) && b))) && (t && u))
+aside false f z t y u b = refl
+aside true false z t y u b = refl
+aside true true false t y u b = refl
+aside true true true true false u b = refl
+aside true true true true true true true = refl
+aside true true true true true true false = refl
+aside true true true true true false true = refl
+aside true true true true true false false = refl
+aside true true true false false u b = refl
+aside true true true false true u true = refl
+aside true true true false true u false = refl
 
-exactly : (m : Meter) → wellFormed m ≡ (bareFormed (bare m) && eqb (m .registers .counters .total) (total (m .registers .counters)))
+exactly : (m : Meter) → wellFormed m
+    ≡ (bareFormed (bare m)
+    && (eqb (m .registers .counters .total) (total (counterEnd (familyOf m)) (m .registers .counters))
+    && eqb (m .registers .exported .total) (total (exportEnd (familyOf m)) (m .registers .exported))))
 unfolding wellFormed registersGood bareFormed
 exactly m =
     let g = m .registers in
     let c = g .counters in
+    let x = g .exported in
+    let came = counterEnd (familyOf m) in
+    let went = exportEnd (familyOf m) in
     aside (((leb (m .mode) 4 && leb (m .attempts) 3) && speedGood (linkOf m) (m .mode) (m .speed)) && receiverGood (m .mode) (m .receiver)) (factoryGood (g .facts) (g .account) (g .clock))
-    (zonesGood (c .zones)) (eqb (c .total) (total c)) (tablesGood (tablesIn g) (g .tables) && archiveGood (g .archive))
+    (zonesBelow came (c .zones)) (eqb (c .total) (total came c)) (zonesBelow went (x .zones)) (eqb (x .total) (total went x))
+    (tablesGood (tablesIn g) (g .tables) && archiveGood (familyIn g) (g .archive))
 
 pub refuses : Refuses
 refuses = record { exactly = exactly }
@@ -53,32 +64,43 @@ refuses = record { exactly = exactly }
 formed-as-ruled : (b : Bare) → wellFormed (addedUp b) ≡ bareFormed b
 unfolding total
 formed-as-ruled b =
-    let sum = sumOf (b .zones) % counterEnd in
-    exactly (addedUp b) ∙ rw (eq-eqb sum sum refl) (and-true (bareFormed b))
+    let came = sumOf (b .zones) % counterEnd (b .facts .decimals) in
+    let went = sumOf (b .exported) % exportEnd (b .facts .decimals) in
+    exactly (addedUp b) ∙ rw (eq-eqb came came refl, eq-eqb went went refl) (and-true (bareFormed b))
 
 -- beyond the four zones there is none to set
-pulse-as-ruled : (zones : List ℕ) (zone wh : ℕ) → zonesGood zones ≡ true
-    → counted (summed zones) zone wh .zones ≡ set zones (zonePlace zone) (grown (counterOf (summed zones) zone) wh)
-unfolding counted zonesGood
-pulse-as-ruled zones zone wh h =
-    let next = set zones (zonePlace zone) (grown (counterOf (summed zones) zone) wh) in
-    let four = eqb-true (length zones) 4 (and-left (eqb (length zones) 4) (every (below counterEnd) zones) h) in
+pulse-as-ruled : (end : ℕ) (zones : List ℕ) (zone units : ℕ) → zonesBelow end zones ≡ true
+    → counted end (summed end zones) zone units .zones ≡ set zones (zonePlace zone) (grown end (counterOf (summed end zones) zone) units)
+unfolding counted zonesBelow
+pulse-as-ruled end zones zone units h =
+    let next = set zones (zonePlace zone) (grown end (counterOf (summed end zones) zone) units) in
+    let four = eqb-true (length zones) 4 (and-left (eqb (length zones) 4) (every (below end) zones) h) in
     choice.told (λ (c : Counters). c .zones ≡ next) (ltb (zonePlace zone) 4) (λ e. refl)
     (λ e.
     let past : length zones ≤ zonePlace zone = omega (arith, four, ltb-false (zonePlace zone) 4 e) in
-    sym (set-out zones (zonePlace zone) (grown (counterOf (summed zones) zone) wh) past))
+    sym (set-out zones (zonePlace zone) (grown end (counterOf (summed end zones) zone) units) past))
 
 pub as-ruled : (b : Bare) → AsRuled b
 unfolding energy energySets
-as-ruled b = record { formed = formed-as-ruled b; shown = refl; block = refl; pulse = pulse-as-ruled (b .zones) }
+as-ruled b = record { formed = formed-as-ruled b; shown = λ end zones. refl; block = λ family out end zones. refl; pulse = pulse-as-ruled }
 
--- a total that is the sum is found again
-own-total : (m : Meter) → wellFormed m ≡ true → m .registers .counters .total ≡ total (m .registers .counters)
-own-total m h = total-is-sum (m .registers .counters) (formed-registers (m .registers) (formed m h .registers) .counters)
+-- totals that are the sums are found again
+own-totals : (m : Meter) → wellFormed m ≡ true → TrueTotals m
+own-totals m h =
+    let g = m .registers in
+    let f = formed-registers g (formed m h .registers) in
+    record {
+      came = total-is-sum (counterEnd (familyOf m)) (g .counters) (f .counters);
+      went = total-is-sum (exportEnd (familyOf m)) (g .exported) (f .exported);
+    }
 
 kept : (m : Meter) → wellFormed m ≡ true → addedUp (bare m) ≡ m
 unfolding total
-kept m h = ap (λ (n : ℕ). withRegisters m (withCounters (m .registers) (withTotal (m .registers .counters) n))) (sym (own-total m h))
+kept m h =
+    let g = m .registers in
+    let own = own-totals m h in
+    ap (λ (n : ℕ). withRegisters m (withExported (withCounters g (withTotal (g .counters) n)) (summed (exportEnd (familyOf m)) (g .exported .zones)))) (sym (own .came))
+    ∙ ap (λ (n : ℕ). withRegisters m (withExported g (withTotal (g .exported) n))) (sym (own .went))
 
 same : (m : Meter) → wellFormed m ≡ true → (room : ℕ) (e : Event) → bareOutcome (met m room e) ≡ adding (bare m) room e
 unfolding adding
@@ -92,4 +114,4 @@ lives m h ((room, e) ∷ es) =
 
 pub as-before : (m : Meter) → wellFormed m ≡ true → AsBefore m
 as-before m h =
-    record { kept = kept m h; same = same m h; lives = lives m h; true-for-life = λ es. own-total (lived m es) (lived-stays m es h) }
+    record { kept = kept m h; same = same m h; lives = lives m h; true-for-life = λ es. own-totals (lived m es) (lived-stays m es h) }

@@ -4,7 +4,7 @@ use Prim.Native.Nat.{ℕ}
 use lib.Dec.{eqb}
 use Rattle.text.specs.Classes.{sameText}
 use Rattle.values.specs.Registers.{goodTable}
-use Rattle.state.specs.WellFormed.{tablesIn}
+use Rattle.state.specs.WellFormed.{familyOf, tablesIn}
 use Rattle.state.specs.declared.Meter.{Meter}
 use Rattle.receiving.specs.Receivers.{heldText}
 use Rattle.deciding.specs.declared.Verdict.{Verdict}
@@ -16,12 +16,12 @@ use Rattle.promises.proofs.Verdicts.{FrameNumber, content-wrong, Told, 
 
 -- a property of each of them is one of any answer to a frame
 pub answered-all : (P : ℕ → Type 0) (m : Meter) (mark : Bool) (sum : ℕ) → ((n : ℕ) → FrameNumber mark n → P n) → P 1 → P 10 → P 11
-    → P (acted m (verdict (tablesIn (m .registers)) (m .mode) (heldText (m .receiver)) mark sum) .number)
+    → P (acted m (verdict (tablesIn (m .registers)) (familyOf m) (m .mode) (heldText (m .receiver)) mark sum) .number)
 unfolding acted tried
 answered-all P m mark sum refused one ten eleven =
     let Q : Outcome → Type 0 = λ (o : Outcome). P (o .number) in
     let nine = refused 9 content-wrong in
-    verdict-all (λ (v : Verdict). P (acted m v .number)) (tablesIn (m .registers)) (m .mode) (heldText (m .receiver)) mark sum
+    verdict-all (λ (v : Verdict). P (acted m v .number)) (tablesIn (m .registers)) (familyOf m) (m .mode) (heldText (m .receiver)) mark sum
     (record {
       refuse = refused;
       leave = one;

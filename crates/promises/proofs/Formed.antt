@@ -5,6 +5,7 @@ use mathlib.Core.Logic.{_⊎_, inl, inr}
 use mathlib.Core.List.{List, [], _∷_, _++_}
 use Prim.Native.Nat.{ℕ, zero, suc, _+_, _-_, _*_, _%_, _<_, _≤_}
 use native.Mathlib.Omega.{arith}
+use native.Mathlib.Nat.{mod-lt}
 use borrow.Author.Tests.{le-leb, lt-ltb, ltb-true, eq-eqb, ne-eqb, eqb-true, eqb-false}
 use lib.Dec.{eqb, leb, ltb}
 use lib.ListN.{length, take, drop, getD, set, length-set}
@@ -21,7 +22,8 @@ use Rattle.clock.proofs.Real.{next-second-real}
 use Rattle.values.specs.declared.TableNo.{TableNo}
 use Rattle.values.specs.Edition.{isEdition}
 use Rattle.values.specs.Registers.{goodAccount, goodRow, goodTable}
-use Rattle.state.specs.Sizes.{replyRoom, counterEnd, heldPlaces}
+use Rattle.values.specs.Family.{counterEnd, exportEnd}
+use Rattle.state.specs.Sizes.{replyRoom, heldPlaces}
 use Rattle.state.specs.declared.Receiver.{Receiver}
 use Rattle.state.specs.declared.Counters.{Counters}
 use Rattle.state.specs.declared.Archive.{Archive}
@@ -29,14 +31,14 @@ use Rattle.state.specs.declared.Registers.{Registers}
 use Rattle.frames.specs.Session.{speedSaid, confirmation}
 use Rattle.state.specs.declared.Meter.{Meter}
 use Rattle.state.specs.Link.{linkOf, isWired, restSpeed}
-use Rattle.state.specs.WellFormed.{limit, firstGood, markGood, heldGood, receiverGood, below, zonesGood, sumOf, total, countersGood, tablesIn, editionOf, archiveGood, registersGood, wellFormed, marked, speedGood, hurtGood}
+use Rattle.state.specs.WellFormed.{familyOf, limit, firstGood, markGood, heldGood, receiverGood, below, zonesBelow, sumOf, total, countersGood, tablesIn, familyIn, editionOf, archiveGood, registersGood, wellFormed, marked, speedGood, hurtGood}
 use Rattle.state.specs.Making.{emptyReceiver}
 use Rattle.state.specs.Closing.{periodOf, closing}
 use Rattle.state.proofs.Rows.{row-good}
 use Rattle.state.proofs.Parts.{Formed, formed, well-formed, FormedRegisters, formed-registers, registers-good, FormedReceiver, formed-receiver, receiver-good, total-is-sum, speed-kept, fast-good}
 use Rattle.state.proofs.Totals.{grows-alike}
-use Rattle.state.specs.Setting.{withReceiver, inMode, withAttempts, withRegisters, withClock, withAccount, withTables, withArchive, withCounters, withZones, withTotal, withRow, rowStart, zonePlace, counterOf, withSpeed}
-use Rattle.tariff.specs.Zones.{zoneIn, grown, counted}
+use Rattle.state.specs.Setting.{withReceiver, inMode, withAttempts, withRegisters, withClock, withAccount, withTables, withArchive, withCounters, withExported, withZones, withTotal, withRow, rowStart, zonePlace, counterOf, withSpeed}
+use Rattle.tariff.specs.Zones.{zoneIn, grown, counted, countedIn, countedOut}
 use Rattle.tariff.specs.Months.{monthStarts, monthClosed, secondLater}
 use Rattle.receiving.specs.declared.Hearing.{Hearing}
 use Rattle.receiving.specs.declared.Hearing.the-variants.{Drop, Hold, Restart, Empty, Line, Confirm, Frame, TooLong}
@@ -50,8 +52,9 @@ use Rattle.meter.specs.Link.{slowToo, afterRefusal}
 use Rattle.meter.specs.SignOn.{signsOnBy, closesBy, confirms, wantsBlock, wantsPeriods, wantsProgram}
 use Rattle.meter.specs.Acting.{passwordGiven, accountGiven, rowGiven, tried, acted}
 use Rattle.meter.specs.Character.{symbol, periodClosed, lineEnded, confirmedSpeed, confirmed, heard, taken, character}
-use Rattle.meter.specs.Events.{afterSilence, silence, tick, pulse, powerUp}
+use Rattle.meter.specs.Events.{afterSilence, pulseRefused, silence, tick, pulse, powerUp}
 use Rattle.promises.proofs.Choices as choice
+use Rattle.promises.proofs.Ends.{counter-end-some, export-end-some}
 use Rattle.promises.proofs.Months.{closed-archive, period-good}
 use Rattle.promises.proofs.Pieces.{account-is, row-is}
 use Rattle.promises.proofs.Verdicts.{Told, Known, verdict-all}
@@ -212,57 +215,63 @@ own m h = formed-registers (m .registers) (formed m h .registers)
 
 clock-good : (g : Registers) (c : Clock) → FormedRegisters g → realClock c ≡ true → registersGood (withClock g c) ≡ true
 clock-good g c f k =
-    registers-good (withClock g c) (record { facts = f .facts; account = f .account; clock = k; counters = f .counters; tables = f .tables; archive = f .archive })
+    registers-good (withClock g c) (record { facts = f .facts; account = f .account; clock = k; counters = f .counters; exported = f .exported; tables = f .tables; archive = f .archive })
 
 account-good : (g : Registers) (a : List ℕ) → FormedRegisters g → goodAccount a ≡ true → registersGood (withAccount g a) ≡ true
 account-good g a f k =
-    registers-good (withAccount g a) (record { facts = f .facts; account = k; clock = f .clock; counters = f .counters; tables = f .tables; archive = f .archive })
+    registers-good (withAccount g a) (record { facts = f .facts; account = k; clock = f .clock; counters = f .counters; exported = f .exported; tables = f .tables; archive = f .archive })
 
 tables-good : (g : Registers) (n : ℕ) (row : List ℕ) → FormedRegisters g → goodTable (tablesIn g) n ≡ true → goodRow row ≡ true
     → registersGood (withTables g (withRow (g .tables) n row)) ≡ true
 tables-good g n row f there k =
     registers-good (withTables g (withRow (g .tables) n row))
-    (record { facts = f .facts; account = f .account; clock = f .clock; counters = f .counters; tables = row-good (tablesIn g) (g .tables) n row (f .tables) there k; archive = f .archive })
+    (record { facts = f .facts; account = f .account; clock = f .clock; counters = f .counters; exported = f .exported; tables = row-good (tablesIn g) (g .tables) n row (f .tables) there k; archive = f .archive })
 
-counters-good : (g : Registers) (c : Counters) → FormedRegisters g → countersGood c ≡ true → registersGood (withCounters g c) ≡ true
+counters-good : (g : Registers) (c : Counters) → FormedRegisters g → countersGood (counterEnd (familyIn g)) c ≡ true → registersGood (withCounters g c) ≡ true
 counters-good g c f k =
-    registers-good (withCounters g c) (record { facts = f .facts; account = f .account; clock = f .clock; counters = k; tables = f .tables; archive = f .archive })
+    registers-good (withCounters g c) (record { facts = f .facts; account = f .account; clock = f .clock; counters = k; exported = f .exported; tables = f .tables; archive = f .archive })
+
+exported-good : (g : Registers) (c : Counters) → FormedRegisters g → countersGood (exportEnd (familyIn g)) c ≡ true → registersGood (withExported g c) ≡ true
+exported-good g c f k =
+    registers-good (withExported g c) (record { facts = f .facts; account = f .account; clock = f .clock; counters = f .counters; exported = k; tables = f .tables; archive = f .archive })
 
 -- [12]: a period closed
-archive-good : (g : Registers) (a : Archive) → FormedRegisters g → archiveGood a ≡ true → registersGood (withArchive g a) ≡ true
+archive-good : (g : Registers) (a : Archive) → FormedRegisters g → archiveGood (familyIn g) a ≡ true → registersGood (withArchive g a) ≡ true
 archive-good g a f k =
-    registers-good (withArchive g a) (record { facts = f .facts; account = f .account; clock = f .clock; counters = f .counters; tables = f .tables; archive = k })
+    registers-good (withArchive g a) (record { facts = f .facts; account = f .account; clock = f .clock; counters = f .counters; exported = f .exported; tables = f .tables; archive = k })
 
 closing-good : (g : Registers) → registersGood g ≡ true → registersGood (closing g) ≡ true
 closing-good g h =
     let f = formed-registers g h in
-    archive-good g _ f (closed-archive (periodOf (g .clock) (g .counters)) (g .archive) (f .archive) (period-good (g .clock) (g .counters) (f .clock) (f .counters)))
+    archive-good g _ f
+    (closed-archive (familyIn g) (periodOf (g .clock) (g .counters) (g .exported)) (g .archive) (f .archive)
+    (period-good (familyIn g) (g .clock) (g .counters) (g .exported) (f .clock) (f .counters) (f .exported)))
 
--- a pulse leaves every counter below 1,000,000,000, and the total their sum
-grown-good : (c : Counters) (zone wh : ℕ) → countersGood c ≡ true → zonePlace zone < 4
-    → countersGood (withTotal (withZones c (set (c .zones) (zonePlace zone) (grown (counterOf c zone) wh))) (grown (c .total) wh)) ≡ true
-unfolding zonesGood total
-grown-good c zone wh h few =
+-- a pulse leaves every counter below its end, and the total their sum
+grown-good : (end : ℕ) (c : Counters) (zone units : ℕ) → 1 ≤ end → countersGood end c ≡ true → zonePlace zone < 4
+    → countersGood end (withTotal (withZones c (set (c .zones) (zonePlace zone) (grown end (counterOf c zone) units))) (grown end (c .total) units)) ≡ true
+unfolding zonesBelow total
+grown-good end c zone units some h few =
     let i = zonePlace zone in
-    let next = set (c .zones) i (grown (counterOf c zone) wh) in
-    let zones = and-left (zonesGood (c .zones)) (eqb (c .total) (total c)) h in
-    let four = and-left (eqb (length (c .zones)) 4) (every (below counterEnd) (c .zones)) zones in
-    let all = and-right (eqb (length (c .zones)) 4) (every (below counterEnd) (c .zones)) zones in
+    let next = set (c .zones) i (grown end (counterOf c zone) units) in
+    let zones = and-left (zonesBelow end (c .zones)) (eqb (c .total) (total end c)) h in
+    let four = and-left (eqb (length (c .zones)) 4) (every (below end) (c .zones)) zones in
+    let all = and-right (eqb (length (c .zones)) 4) (every (below end) (c .zones)) zones in
     let there : i < length (c .zones) = omega (arith, few, eqb-true (length (c .zones)) 4 four) in
-    let kept : grown (c .total) wh ≡ sumOf next % counterEnd = rw (total-is-sum c h) (sym (grows-alike (c .zones) i wh there)) in
-    let good = every-set (below counterEnd) (c .zones) i (grown (counterOf c zone) wh) all (small (counterOf c zone)) in
-    and-both (zonesGood next) (eqb (grown (c .total) wh) (sumOf next % counterEnd))
-    (rw (length-set (c .zones) i (grown (counterOf c zone) wh), four) good)
-    (eq-eqb (grown (c .total) wh) (sumOf next % counterEnd) kept)
+    let kept : grown end (c .total) units ≡ sumOf next % end = rw (total-is-sum end c h) (sym (grows-alike end (c .zones) i units there)) in
+    let good = every-set (below end) (c .zones) i (grown end (counterOf c zone) units) all (small (counterOf c zone)) in
+    and-both (zonesBelow end next) (eqb (grown end (c .total) units) (sumOf next % end))
+    (rw (length-set (c .zones) i (grown end (counterOf c zone) units), four) good)
+    (eq-eqb (grown end (c .total) units) (sumOf next % end) kept)
   where
-    small : (n : ℕ) → below counterEnd (grown n wh) ≡ true
-    small n = unfold below in (lt-ltb (grown n wh) counterEnd (omega arith))
+    small : (n : ℕ) → below end (grown end n units) ≡ true
+    small n = unfold below in (lt-ltb (grown end n units) end (mod-lt _ some))
 
-counted-good : (c : Counters) (zone wh : ℕ) → countersGood c ≡ true → countersGood (counted c zone wh) ≡ true
+counted-good : (end : ℕ) (c : Counters) (zone units : ℕ) → 1 ≤ end → countersGood end c ≡ true → countersGood end (counted end c zone units) ≡ true
 unfolding counted
-counted-good c zone wh h =
-    choice.told (λ (k : Counters). countersGood k ≡ true) (ltb (zonePlace zone) 4)
-    (λ e. grown-good c zone wh h (ltb-true (zonePlace zone) 4 e)) (λ e. h)
+counted-good end c zone units some h =
+    choice.told (λ (k : Counters). countersGood end k ≡ true) (ltb (zonePlace zone) 4)
+    (λ e. grown-good end c zone units some h (ltb-true (zonePlace zone) 4 e)) (λ e. h)
 
 -- ---- a character
 
@@ -288,10 +297,10 @@ module _ (m : Meter) (h : wellFormed m ≡ true) where
   wrote-stays : (g : Registers) → registersGood g ≡ true → g .facts .link ≡ linkOf m → wellFormed (withReceiver (withRegisters m g) emptyReceiver) ≡ true
   wrote-stays g k same = with-receiver (withRegisters m g) emptyReceiver (with-registers m g h k same) (empty-good (m .mode))
 
-  frame-stays : (mark : Bool) (sum : ℕ) → Stays (acted m (verdict (tablesIn (m .registers)) (m .mode) (heldText (m .receiver)) mark sum))
+  frame-stays : (mark : Bool) (sum : ℕ) → Stays (acted m (verdict (tablesIn (m .registers)) (familyOf m) (m .mode) (heldText (m .receiver)) mark sum))
   unfolding acted Stays
   frame-stays mark sum =
-      verdict-all (λ (v : Verdict). Stays (acted m v)) (tablesIn (m .registers)) (m .mode) (heldText (m .receiver)) mark sum
+      verdict-all (λ (v : Verdict). Stays (acted m v)) (tablesIn (m .registers)) (familyOf m) (m .mode) (heldText (m .receiver)) mark sum
       (record {
         refuse = λ n k. falls;
         leave = in-mode m 0 h (omega arith);
@@ -370,13 +379,21 @@ module _ (m : Meter) (h : wellFormed m ≡ true) where
   tick-stays =
       choice.either Stays (isEdition (editionOf m)) (choice.either Stays (wellFormed m) (with-registers m (secondLater (m .registers)) h second-good same-link) h) h
 
-  pub pulse-stays : (wh : ℕ) → wellFormed (pulse m wh .next) ≡ true
+  counted-stays : (out : Bool) (units : ℕ) → wellFormed (withRegisters m (cond out (countedOut (m .registers) units) (countedIn (m .registers) units))) ≡ true
+  counted-stays true units =
+      let g = m .registers in
+      let end = exportEnd (familyIn g) in
+      with-registers m _ h (exported-good g _ (own m h) (counted-good end (g .exported) (zoneIn g) units (export-end-some (familyIn g)) (own m h .exported))) refl
+  counted-stays false units =
+      let g = m .registers in
+      let end = counterEnd (familyIn g) in
+      with-registers m _ h (counters-good g _ (own m h) (counted-good end (g .counters) (zoneIn g) units (counter-end-some (familyIn g)) (own m h .counters))) refl
+
+  pub pulse-stays : (out : Bool) (units : ℕ) → wellFormed (pulse m out units .next) ≡ true
   unfolding pulse Stays
-  pulse-stays wh =
+  pulse-stays out units =
       choice.either Stays (isEdition (editionOf m))
-      (choice.either Stays (ltb 1000000 wh) h
-      (choice.either Stays (wellFormed m)
-      (with-registers m _ h (counters-good (m .registers) _ (own m h) (counted-good (m .registers .counters) (zoneIn (m .registers)) wh (own m h .counters))) refl) h))
+      (choice.either Stays (pulseRefused (familyOf m) out units) h (choice.either Stays (wellFormed m) (counted-stays out units) h))
       h
 
   pub power-up-stays : wellFormed (powerUp m .next) ≡ true

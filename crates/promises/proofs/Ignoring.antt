@@ -14,7 +14,7 @@ use Rattle.state.specs.Sizes.{replyRoom}
 use Rattle.values.specs.Edition.{isEdition}
 use Rattle.state.specs.declared.Meter.{Meter}
 use Rattle.state.specs.Link.{linkOf}
-use Rattle.state.specs.WellFormed.{limit, firstGood, markGood, hurtGood, heldGood, receiverGood, speedGood, registersGood, wellFormed, marked, tablesIn, editionOf}
+use Rattle.state.specs.WellFormed.{familyOf, limit, firstGood, markGood, hurtGood, heldGood, receiverGood, speedGood, registersGood, wellFormed, marked, tablesIn, editionOf}
 use Rattle.state.proofs.Parts.{formed, well-formed, formed-receiver, receiver-good, edition-good}
 use Rattle.receiving.specs.declared.Hearing.{Hearing}
 use Rattle.receiving.specs.declared.Hearing.the-variants.{Drop, Hold, Restart, Empty, Line, Confirm, Frame, TooLong}
@@ -27,9 +27,9 @@ use Rattle.meter.specs.Outcomes.{Outcome, unheard}
 use Rattle.meter.specs.Acting.{tried, acted}
 use Rattle.meter.specs.SignOn.{signsOnBy, closesBy, wantsBlock, wantsPeriods, wantsProgram}
 use Rattle.meter.specs.Character.{symbol, lineEnded, confirmed, heard, taken, character}
-use Rattle.meter.specs.Events.{afterSilence, silence, tick, pulse, powerUp}
+use Rattle.meter.specs.Events.{afterSilence, pulseRefused, silence, tick, pulse, powerUp}
 use Rattle.meter.specs.declared.Event.{Event}
-use Rattle.meter.specs.declared.Event.the-variants.{Character, Silence, Tick, Pulse, PowerUp, Unknown}
+use Rattle.meter.specs.declared.Event.the-variants.{Character, Silence, Tick, Pulse, PowerUp, PulseOut, Unknown}
 use Rattle.meter.specs.Life.{met, lived}
 use Rattle.meter.proofs.Places.{either-nowhere}
 use Rattle.promises.specs.Ignoring.{Unplaced, unplacedFormed, unplaced, placed, UnplacedOutcome, unplacedOutcome, ignoring, livedIgnoring, Unchanged, RefusesPlaces}
@@ -115,7 +115,7 @@ module _ (m : Meter) (p : ℕ) where
   heard-same c d Empty = refl
   heard-same c d Line = refl
   heard-same c d Confirm = refl
-  heard-same c d Frame = ap unplacedOutcome (acted-same (verdict (tablesIn (m .registers)) (m .mode) (heldText (m .receiver)) (marked (m .receiver) || d) c))
+  heard-same c d Frame = ap unplacedOutcome (acted-same (verdict (tablesIn (m .registers)) (familyOf m) (m .mode) (heldText (m .receiver)) (marked (m .receiver) || d) c))
   heard-same c d TooLong = refl
 
   either-same : (b : Bool) (x y x′ y′ : Outcome) → unplacedOutcome x ≡ unplacedOutcome x′ → unplacedOutcome y ≡ unplacedOutcome y′
@@ -131,8 +131,9 @@ module _ (m : Meter) (p : ℕ) where
   met-same h k room Silence =
       rw (edition-good m h, h, k) (either-same (ltb room replyRoom) _ _ _ _ refl refl)
   met-same h k room Tick = rw (edition-good m h, h, k)
-  met-same h k room (Pulse wh) = rw (edition-good m h, h, k) (either-same (ltb 1000000 wh) _ _ _ _ refl refl)
+  met-same h k room (Pulse units) = rw (edition-good m h, h, k) (either-same (pulseRefused (familyOf m) false units) _ _ _ _ refl refl)
   met-same h k room PowerUp = rw (edition-good m h, h, k)
+  met-same h k room (PulseOut units) = rw (edition-good m h, h, k) (either-same (pulseRefused (familyOf m) true units) _ _ _ _ refl refl)
   met-same h k room Unknown = rw (edition-good m h)
 
 same : (m : Meter) → wellFormed m ≡ true → (room : ℕ) (e : Event) → unplacedOutcome (met m room e) ≡ ignoring (unplaced m) room e
@@ -165,7 +166,7 @@ module _ (m : Meter) where
       (either-nowhere (wantsPeriods (linkOf m) (heldText (m .receiver)) c) _ _ refl (either-nowhere (wantsProgram (linkOf m) (heldText (m .receiver)) c) _ _ refl refl)))
   heard-nowhere c d Frame n = go (marked (m .receiver)) d n
     where
-      go : (k d : Bool) → (acted m (verdict (tablesIn (m .registers)) (m .mode) (heldText (m .receiver)) (k || d) c) .number ≡ 3 → ⊥)
+      go : (k d : Bool) → (acted m (verdict (tablesIn (m .registers)) (familyOf m) (m .mode) (heldText (m .receiver)) (k || d) c) .number ≡ 3 → ⊥)
           → cond k (m .receiver .place) (cond d (m .receiver .count) 0) ≡ 0
       go true d n = absurd (n refl)
       go false true n = absurd (n refl)
@@ -193,7 +194,9 @@ module _ (m : Meter) where
       (either-nowhere (wellFormed m) _ _ (either-nowhere (eqb (m .mode) 0) _ _ refl (either-nowhere (eqb (m .mode) 1) _ _ refl refl)) refl))
       refl
   only-three room Tick n = either-nowhere (isEdition (editionOf m)) _ _ (either-nowhere (wellFormed m) _ _ refl refl) refl
-  only-three room (Pulse wh) n =
-      either-nowhere (isEdition (editionOf m)) _ _ (either-nowhere (ltb 1000000 wh) _ _ refl (either-nowhere (wellFormed m) _ _ refl refl)) refl
+  only-three room (Pulse units) n =
+      either-nowhere (isEdition (editionOf m)) _ _ (either-nowhere (pulseRefused (familyOf m) false units) _ _ refl (either-nowhere (wellFormed m) _ _ refl refl)) refl
   only-three room PowerUp n = either-nowhere (isEdition (editionOf m)) _ _ (either-nowhere (wellFormed m) _ _ refl refl) refl
+  only-three room (PulseOut units) n =
+      either-nowhere (isEdition (editionOf m)) _ _ (either-nowhere (pulseRefused (familyOf m) true units) _ _ refl (either-nowhere (wellFormed m) _ _ refl refl)) refl
   only-three room Unknown n = either-nowhere (isEdition (editionOf m)) _ _ refl refl

@@ -18,7 +18,7 @@ use Rattle.state.specs.declared.Registers.{Registers}
 use Rattle.values.specs.Edition.{isEdition}
 use Rattle.state.specs.declared.Meter.{Meter}
 use Rattle.state.specs.Link.{linkOf, isWired}
-use Rattle.state.specs.WellFormed.{wellFormed, marked, tablesIn, editionOf}
+use Rattle.state.specs.WellFormed.{familyOf, wellFormed, marked, tablesIn, editionOf}
 use Rattle.state.specs.Setting.{withAccount, withTables, withRow}
 use Rattle.receiving.specs.declared.Hearing.{Hearing}
 use Rattle.receiving.specs.declared.Hearing.the-variants.{Drop, Hold, Restart, Empty, Line, Confirm, Frame, TooLong}
@@ -54,12 +54,12 @@ module _ (m : Meter) (b : ℕ) where
 
   -- the verdict on the frame that this byte completes
   abbrev decision : Verdict
-  decision = verdict (tablesIn (m .registers)) (m .mode) (heldText (m .receiver)) (marked (m .receiver) || damagedAt b) (symbol b)
+  decision = verdict (tablesIn (m .registers)) (familyOf m) (m .mode) (heldText (m .receiver)) (marked (m .receiver) || damagedAt b) (symbol b)
 
   frame-kept : hearing (m .mode) (m .receiver .count) (lastHeld (m .receiver)) (symbol b) ≡ Frame → Kept m b (acted m decision)
   unfolding acted
   frame-kept f =
-      verdict-all (λ (v : Verdict). decision ≡ v → Kept m b (acted m v)) (tablesIn (m .registers)) (m .mode) (heldText (m .receiver)) (marked (m .receiver) || damagedAt b) (symbol b)
+      verdict-all (λ (v : Verdict). decision ≡ v → Kept m b (acted m v)) (tablesIn (m .registers)) (familyOf m) (m .mode) (heldText (m .receiver)) (marked (m .receiver) || damagedAt b) (symbol b)
       (record {
         refuse = λ n k e. same refl;
         leave = λ e. same refl;

@@ -1,4 +1,5 @@
 pub mod Choices
+pub mod Ends
 pub mod Verdicts
 pub mod Pieces
 pub mod Password

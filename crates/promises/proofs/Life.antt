@@ -1,6 +1,6 @@
 -- A meter that was made is well-formed all its life, and no event of it gives 14. Assumes nothing.
 use mathlib.Core.Path.{_≡_}
-use mathlib.Core.Bool.{true}
+use mathlib.Core.Bool.{true, false}
 use mathlib.Core.List.{List, [], _∷_}
 use Prim.Native.Nat.{ℕ}
 use native.Mathlib.Omega.{arith}
@@ -13,7 +13,7 @@ use Rattle.state.specs.declared.Facts.{Facts}
 use Rattle.state.specs.Making.{madeOf}
 use Rattle.meter.specs.Outcomes.{Outcome}
 use Rattle.meter.specs.declared.Event.{Event}
-use Rattle.meter.specs.declared.Event.the-variants.{Character, Silence, Tick, Pulse, PowerUp, Unknown}
+use Rattle.meter.specs.declared.Event.the-variants.{Character, Silence, Tick, Pulse, PowerUp, PulseOut, Unknown}
 use Rattle.meter.specs.Life.{met, lived}
 use Rattle.promises.proofs.Malformed.{character-never-14, silence-never-14, tick-never-14, pulse-never-14, power-up-never-14}
 use Rattle.promises.proofs.Formed.{character-stays, silence-stays, tick-stays, pulse-stays, power-up-stays}
@@ -25,8 +25,9 @@ unfolding met
 met-stays m room (Character b) h = character-stays m h room b
 met-stays m room Silence h = silence-stays m h room
 met-stays m room Tick h = tick-stays m h
-met-stays m room (Pulse wh) h = pulse-stays m h wh
+met-stays m room (Pulse units) h = pulse-stays m h false units
 met-stays m room PowerUp h = power-up-stays m h
+met-stays m room (PulseOut units) h = pulse-stays m h true units
 met-stays m room Unknown h = choice.either (λ (o : Outcome). wellFormed (o .next) ≡ true) (isEdition (editionOf m)) h h
 
 met-never-14 : (m : Meter) (room : ℕ) (e : Event) → wellFormed m ≡ true → met m room e .number ≡ 14 → ⊥
@@ -34,8 +35,9 @@ unfolding met
 met-never-14 m room (Character b) h = character-never-14 m room b h
 met-never-14 m room Silence h = silence-never-14 m room h
 met-never-14 m room Tick h = tick-never-14 m h
-met-never-14 m room (Pulse wh) h = pulse-never-14 m wh h
+met-never-14 m room (Pulse units) h = pulse-never-14 m false units h
 met-never-14 m room PowerUp h = power-up-never-14 m h
+met-never-14 m room (PulseOut units) h = pulse-never-14 m true units h
 met-never-14 m room Unknown h = choice.either (λ (o : Outcome). o .number ≡ 14 → ⊥) (isEdition (editionOf m)) (λ e. omega (arith, e)) (λ e. omega (arith, e))
 
 pub lived-stays : (m : Meter) (es : List (ℕ × Event)) → wellFormed m ≡ true → wellFormed (lived m es) ≡ true

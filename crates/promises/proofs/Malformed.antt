@@ -1,4 +1,4 @@
--- Which calls are not heard. An edition that there is not gives 16, then a short buffer 12, a pulse over 1,000,000 Wh 13, then a malformed state 14:
+-- Which calls are not heard. An edition that there is not gives 16, then a short buffer 12, a pulse over 1,000,000 or one out that nothing counts 13, then a malformed state 14:
 -- the state stays as it was, nothing is replied, the speed given is 0. A well-formed state never gives 14. Assumes nothing.
 use mathlib.Core.Path.{_≡_, refl}
 use mathlib.Core.Bool.{Bool, true, false, cond, _||_}
@@ -13,7 +13,7 @@ use Rattle.values.specs.Edition.{isEdition}
 use Rattle.state.specs.Sizes.{replyRoom}
 use Rattle.state.specs.declared.Meter.{Meter}
 use Rattle.state.specs.Link.{linkOf}
-use Rattle.state.specs.WellFormed.{tablesIn, editionOf, wellFormed, marked}
+use Rattle.state.specs.WellFormed.{familyOf, tablesIn, editionOf, wellFormed, marked}
 use Rattle.state.proofs.Parts.{edition-good}
 use Rattle.receiving.specs.declared.Hearing.{Hearing}
 use Rattle.receiving.specs.declared.Hearing.the-variants.{Drop, Hold, Restart, Empty, Line, Confirm, Frame, TooLong}
@@ -25,9 +25,9 @@ use Rattle.meter.specs.SignOn.{signsOnBy, closesBy, wantsBlock, wantsPeriods, w
 use Rattle.meter.specs.Acting.{acted}
 use Rattle.meter.specs.Character.{symbol, lineEnded, confirmed, heard, taken, character}
 use Rattle.meter.specs.declared.Event.{Event}
-use Rattle.meter.specs.declared.Event.the-variants.{Character, Silence, Tick, Pulse, PowerUp, Unknown}
+use Rattle.meter.specs.declared.Event.the-variants.{Character, Silence, Tick, Pulse, PowerUp, PulseOut, Unknown}
 use Rattle.meter.specs.Life.{met}
-use Rattle.meter.specs.Events.{afterSilence, silence, tick, pulse, powerUp}
+use Rattle.meter.specs.Events.{afterSilence, pulseRefused, silence, tick, pulse, powerUp}
 use Rattle.promises.proofs.Choices as choice
 use Rattle.promises.proofs.Verdicts.{FrameNumber, parity, checksum, shape, unknown, not-allowed, content-wrong}
 use Rattle.promises.proofs.Answering.{answered-all}
@@ -44,11 +44,12 @@ unfolding met character silence tick pulse powerUp
 no-edition m room (Character b) h = rw h
 no-edition m room Silence h = rw h
 no-edition m room Tick h = rw h
-no-edition m room (Pulse wh) h = rw h
+no-edition m room (Pulse units) h = rw h
 no-edition m room PowerUp h = rw h
+no-edition m room (PulseOut units) h = rw h
 no-edition m room Unknown h = rw h
 
--- ---- a call with a short buffer or too large a pulse is not heard, in any state of an edition
+-- ---- a call with a short buffer or a pulse that the family refuses is not heard, in any state of an edition
 
 pub short-character : (m : Meter) (room b : ℕ) → isEdition (editionOf m) ≡ true → ltb room replyRoom ≡ true → character m room b ≡ unheard 12 m
 unfolding character
@@ -58,9 +59,9 @@ pub short-silence : (m : Meter) (room : ℕ) → isEdition (editionOf m) ≡ tru
 unfolding silence
 short-silence m room k h = rw (k, h)
 
-pub large-pulse : (m : Meter) (wh : ℕ) → isEdition (editionOf m) ≡ true → ltb 1000000 wh ≡ true → pulse m wh ≡ unheard 13 m
+pub refused-pulse : (m : Meter) (out : Bool) (units : ℕ) → isEdition (editionOf m) ≡ true → pulseRefused (familyOf m) out units ≡ true → pulse m out units ≡ unheard 13 m
 unfolding pulse
-large-pulse m wh k h = rw (k, h)
+refused-pulse m out units k h = rw (k, h)
 
 -- ---- nor is any call with a malformed state
 
@@ -80,9 +81,10 @@ pub malformed-tick : (m : Meter) → isEdition (editionOf m) ≡ true → wellFo
 unfolding tick
 malformed-tick m k h = rw (k, h)
 
-pub malformed-pulse : (m : Meter) (wh : ℕ) → isEdition (editionOf m) ≡ true → wellFormed m ≡ false → pulse m wh ≡ unheard (cond (ltb 1000000 wh) 13 14) m
+pub malformed-pulse : (m : Meter) (out : Bool) (units : ℕ) → isEdition (editionOf m) ≡ true → wellFormed m ≡ false
+    → pulse m out units ≡ unheard (cond (pulseRefused (familyOf m) out units) 13 14) m
 unfolding pulse
-malformed-pulse m wh k h = rw (k, h) (unheard-either (ltb 1000000 wh) 13 m)
+malformed-pulse m out units k h = rw (k, h) (unheard-either (pulseRefused (familyOf m) out units) 13 m)
 
 pub malformed-power-up : (m : Meter) → isEdition (editionOf m) ≡ true → wellFormed m ≡ false → powerUp m ≡ unheard 14 m
 unfolding powerUp
@@ -101,7 +103,7 @@ frame-number mark n unknown e = omega arith
 frame-number mark n not-allowed e = omega arith
 frame-number mark n content-wrong e = omega arith
 
-frame-never : (m : Meter) (mark : Bool) (sum : ℕ) → Never (acted m (verdict (tablesIn (m .registers)) (m .mode) (heldText (m .receiver)) mark sum))
+frame-never : (m : Meter) (mark : Bool) (sum : ℕ) → Never (acted m (verdict (tablesIn (m .registers)) (familyOf m) (m .mode) (heldText (m .receiver)) mark sum))
 unfolding Never
 frame-never m mark sum = answered-all (λ (n : ℕ). n ≡ 14 → ⊥) m mark sum (frame-number mark) (λ e. omega arith) (λ e. omega arith) (λ e. omega arith)
 
@@ -139,9 +141,9 @@ pub tick-never-14 : (m : Meter) → wellFormed m ≡ true → tick m .number ≡
 unfolding tick
 tick-never-14 m h = rw (edition-good m h, h) (λ e. omega arith)
 
-pub pulse-never-14 : (m : Meter) (wh : ℕ) → wellFormed m ≡ true → pulse m wh .number ≡ 14 → ⊥
+pub pulse-never-14 : (m : Meter) (out : Bool) (units : ℕ) → wellFormed m ≡ true → pulse m out units .number ≡ 14 → ⊥
 unfolding pulse Never
-pulse-never-14 m wh h = rw (edition-good m h, h) (choice.either Never (ltb 1000000 wh) (λ e. omega arith) (λ e. omega arith))
+pulse-never-14 m out units h = rw (edition-good m h, h) (choice.either Never (pulseRefused (familyOf m) out units) (λ e. omega arith) (λ e. omega arith))
 
 pub power-up-never-14 : (m : Meter) → wellFormed m ≡ true → powerUp m .number ≡ 14 → ⊥
 unfolding powerUp

@@ -13,6 +13,7 @@ use Rattle.line.specs.Runs.{every}
 use Rattle.line.specs.Characters.{damagedAt}
 use Rattle.line.proofs.Runs.{and-left, and-right, and-both}
 use Rattle.text.specs.Classes.{sameText, matching}
+use Rattle.values.specs.Family.{counterEnd, exportEnd}
 use Rattle.values.specs.Registers.{goodTable}
 use Rattle.clock.specs.Seconds.{realClock, realStamp, stampOf, nextSecond}
 use Rattle.clock.specs.declared.Clock.{Clock}
@@ -26,7 +27,7 @@ use Rattle.state.specs.declared.Registers.{Registers}
 use Rattle.state.proofs.Parts.{edition-good}
 use Rattle.state.specs.declared.Meter.{Meter}
 use Rattle.state.specs.Link.{linkOf, isWired}
-use Rattle.state.specs.WellFormed.{below, zonesGood, total, countersGood, noTime, periodGood, unused, everyPeriod, archiveGood, wellFormed, marked, tablesIn}
+use Rattle.state.specs.WellFormed.{familyOf, below, zonesBelow, bothBelow, total, countersGood, noTime, periodGood, unused, everyPeriod, archiveGood, wellFormed, marked, tablesIn}
 use Rattle.state.specs.Making.{noPeriod}
 use Rattle.state.specs.Closing.{archiveOf, periodsOf, closedWith, periodOf, closing}
 use Rattle.state.proofs.Archives.{formed-archive}
@@ -43,9 +44,9 @@ use Rattle.meter.specs.Link.{closes}
 use Rattle.meter.specs.SignOn.{signsOnBy, closesBy, wantsBlock, wantsPeriods, wantsProgram}
 use Rattle.meter.specs.Acting.{passwordGiven, tried, acted}
 use Rattle.meter.specs.Character.{symbol, signedOn, periodClosed, lineEnded, confirmed, heard, taken, character}
-use Rattle.meter.specs.Events.{afterSilence, silence, tick, pulse, powerUp}
+use Rattle.meter.specs.Events.{afterSilence, pulseRefused, silence, tick, pulse, powerUp}
 use Rattle.meter.specs.declared.Event.{Event}
-use Rattle.meter.specs.declared.Event.the-variants.{Character, Silence, Tick, Pulse, PowerUp, Unknown}
+use Rattle.meter.specs.declared.Event.the-variants.{Character, Silence, Tick, Pulse, PowerUp, PulseOut, Unknown}
 use Rattle.meter.specs.Life.{met}
 use Rattle.promises.specs.Months.{closesHere, closesAt, closingTime, archiveAfter}
 use Rattle.promises.proofs.Choices as choice
@@ -61,7 +62,7 @@ first-some p (suc n) [] h = refl
 first-some p (suc n) (x ∷ s) h = and-both (p x) (everyPeriod p (take n s)) (and-left (p x) (everyPeriod p s) h) (first-some p n s (and-right (p x) (everyPeriod p s) h))
 
 none-used : (n : ℕ) → everyPeriod unused (replicate n noPeriod) ≡ true
-unfolding everyPeriod unused noTime every below
+unfolding everyPeriod unused noTime bothBelow zonesBelow every below
 none-used zero = refl
 none-used (suc n) = none-used n
 
@@ -70,24 +71,28 @@ few zero s = omega arith
 few (suc n) [] = omega arith
 few (suc n) (x ∷ s) = omega (arith, few n s)
 
-of-good : (ps : List Period) → length ps ≤ periodPlaces → everyPeriod periodGood ps ≡ true → archiveGood (archiveOf ps) ≡ true
+of-good : (family : ℕ) (ps : List Period) → length ps ≤ periodPlaces → everyPeriod (periodGood family) ps ≡ true → archiveGood family (archiveOf ps) ≡ true
 unfolding archiveGood
-of-good ps n h =
+of-good family ps n h =
     let rest = replicate (periodPlaces - length ps) noPeriod in
     let long : length (ps ++ rest) ≡ periodPlaces = length-append ps rest ∙ omega (arith, length-replicate (periodPlaces - length ps) noPeriod, n) in
     rw (le-leb (length ps) periodPlaces n, eq-eqb (length (ps ++ rest)) periodPlaces long, take-append-seam ps rest, drop-append-seam ps rest, h, none-used (periodPlaces - length ps))
 
-pub closed-archive : (p : Period) (a : Archive) → archiveGood a ≡ true → periodGood p ≡ true → archiveGood (closedWith p a) ≡ true
+pub closed-archive : (family : ℕ) (p : Period) (a : Archive) → archiveGood family a ≡ true → periodGood family p ≡ true → archiveGood family (closedWith p a) ≡ true
 unfolding closedWith periodsOf everyPeriod
-closed-archive p a h k =
+closed-archive family p a h k =
     let kept = take (a .count) (a .periods) in
-    of-good (take periodPlaces (p ∷ kept)) (few periodPlaces (p ∷ kept))
-    (first-some periodGood periodPlaces (p ∷ kept) (and-both (periodGood p) (everyPeriod periodGood kept) k (formed-archive a h .good)))
+    of-good family (take periodPlaces (p ∷ kept)) (few periodPlaces (p ∷ kept))
+    (first-some (periodGood family) periodPlaces (p ∷ kept) (and-both (periodGood family p) (everyPeriod (periodGood family) kept) k (formed-archive family a h .good)))
 
-pub period-good : (clock : Clock) (c : Counters) → realClock clock ≡ true → countersGood c ≡ true → periodGood (periodOf clock c) ≡ true
-unfolding periodGood
-period-good clock c h k =
-    and-both (realStamp (stampOf clock)) (zonesGood (c .zones)) (stamp-real clock h) (and-left (zonesGood (c .zones)) (eqb (c .total) (total c)) k)
+pub period-good : (family : ℕ) (clock : Clock) (c x : Counters) → realClock clock ≡ true → countersGood (counterEnd family) c ≡ true → countersGood (exportEnd family) x ≡ true
+    → periodGood family (periodOf clock c x) ≡ true
+unfolding periodGood bothBelow
+period-good family clock c x h k l =
+    let came = zonesBelow (counterEnd family) (c .zones) in
+    let went = zonesBelow (exportEnd family) (x .zones) in
+    and-both (realStamp (stampOf clock)) (came && went) (stamp-real clock h)
+    (and-both came went (and-left came (eqb (c .total) (total (counterEnd family) c)) k) (and-left went (eqb (x .total) (total (exportEnd family) x)) l))
 
 -- ---- the archive after a character
 
@@ -104,7 +109,7 @@ module _ (m : Meter) where
   now-kept = m .registers .archive
 
   abbrev later : Archive
-  later = closedWith (periodOf (m .registers .clock) (m .registers .counters)) (m .registers .archive)
+  later = closedWith (periodOf (m .registers .clock) (m .registers .counters) (m .registers .exported)) (m .registers .archive)
 
   abbrev kept-in : Outcome → Archive
   kept-in o = o .next .registers .archive
@@ -135,10 +140,10 @@ module _ (m : Meter) where
       choice.either (λ (o : Outcome). kept-in o ≡ now-kept) (eqb (m .attempts) 3) refl
       (choice.either (λ (o : Outcome). kept-in o ≡ now-kept) (sameText (passwordGiven m) (m .registers .facts .password)) refl refl)
 
-  frame-keeps : (mark : Bool) (sum : ℕ) → kept-in (acted m (verdict (tablesIn (m .registers)) (m .mode) (heldText (m .receiver)) mark sum)) ≡ now-kept
+  frame-keeps : (mark : Bool) (sum : ℕ) → kept-in (acted m (verdict (tablesIn (m .registers)) (familyOf m) (m .mode) (heldText (m .receiver)) mark sum)) ≡ now-kept
   unfolding acted
   frame-keeps mark sum =
-      verdict-all (λ (v : Verdict). kept-in (acted m v) ≡ now-kept) (tablesIn (m .registers)) (m .mode) (heldText (m .receiver)) mark sum
+      verdict-all (λ (v : Verdict). kept-in (acted m v) ≡ now-kept) (tablesIn (m .registers)) (familyOf m) (m .mode) (heldText (m .receiver)) mark sum
       (record {
         refuse = λ n k. refl;
         leave = refl;
@@ -213,7 +218,7 @@ module _ (m : Meter) where
   tick-archive h = rw (edition-good m h, h) (go (monthStarts (nextSecond (m .registers .clock))))
     where
       go : (p : Bool) → cond p (closing (withClock (m .registers) (nextSecond (m .registers .clock)))) (withClock (m .registers) (nextSecond (m .registers .clock))) .archive
-          ≡ cond p (closedWith (periodOf (nextSecond (m .registers .clock)) (m .registers .counters)) (m .registers .archive)) (m .registers .archive)
+          ≡ cond p (closedWith (periodOf (nextSecond (m .registers .clock)) (m .registers .counters) (m .registers .exported)) (m .registers .archive)) (m .registers .archive)
       go true = refl
       go false = refl
 
@@ -224,9 +229,11 @@ module _ (m : Meter) where
       (choice.either (λ (o : Outcome). kept-in o ≡ now-kept) (eqb (m .mode) 0) refl
       (choice.either (λ (o : Outcome). kept-in o ≡ now-kept) (eqb (m .mode) 1) refl refl)))
 
-  pulse-archive : wellFormed m ≡ true → (wh : ℕ) → kept-in (pulse m wh) ≡ now-kept
+  pulse-archive : wellFormed m ≡ true → (out : Bool) (units : ℕ) → kept-in (pulse m out units) ≡ now-kept
   unfolding pulse
-  pulse-archive h wh = rw (edition-good m h, h) (choice.either (λ (o : Outcome). kept-in o ≡ now-kept) (ltb 1000000 wh) refl refl)
+  pulse-archive h out units =
+      rw (edition-good m h, h) (choice.either (λ (o : Outcome). kept-in o ≡ now-kept) (pulseRefused (familyOf m) out units) refl
+      (choice.either (λ (g : Registers). g .archive ≡ now-kept) out refl refl))
 
   -- over all events: exactly when the archive changes, and to what
   pub archive-changes : wellFormed m ≡ true → (room : ℕ) (e : Event) → kept-in (met m room e) ≡ archiveAfter m room e
@@ -234,6 +241,7 @@ module _ (m : Meter) where
   archive-changes h room (Character b) = character-archive h room b
   archive-changes h room Silence = silence-archive h room
   archive-changes h room Tick = tick-archive h
-  archive-changes h room (Pulse wh) = pulse-archive h wh
+  archive-changes h room (Pulse units) = pulse-archive h false units
   archive-changes h room PowerUp = rw (edition-good m h, h)
+  archive-changes h room (PulseOut units) = pulse-archive h true units
   archive-changes h room Unknown = rw (edition-good m h)

@@ -5,7 +5,7 @@ use mathlib.Core.List.{[], _∷_}
 use Prim.Native.Nat.{ℕ}
 use native.Mathlib.Omega.{arith}
 use Rattle.values.proofs.Fields.{fits-long}
-use Rattle.state.specs.WellFormed.{tablesIn}
+use Rattle.state.specs.WellFormed.{familyOf, tablesIn}
 use Rattle.state.specs.declared.Meter.{Meter}
 use Rattle.receiving.specs.Receivers.{heldText}
 use Rattle.deciding.specs.declared.Verdict.{Verdict}
@@ -35,12 +35,12 @@ module _ (m : Meter) where
   none : {X : Type 0} → _≡_ {A = Bool} false true → X
   none h = absurd (let z : _≡_ {A = ℕ} 0 1 = cc in omega arith)
 
-  pub password-compared : (mark : Bool) (sum : ℕ) → verdict (tablesIn (m .registers)) (m .mode) (heldText (m .receiver)) mark sum ≡ Password → passwordGiven m ≡ enteredIn m
+  pub password-compared : (mark : Bool) (sum : ℕ) → verdict (tablesIn (m .registers)) (familyOf m) (m .mode) (heldText (m .receiver)) mark sum ≡ Password → passwordGiven m ≡ enteredIn m
   unfolding Compared enters
   password-compared mark sum e =
       let r = m .receiver in
       let all =
-      verdict-all Compared (tablesIn (m .registers)) (m .mode) (heldText r) mark sum
+      verdict-all Compared (tablesIn (m .registers)) (familyOf m) (m .mode) (heldText r) mark sum
       (record {
         refuse = λ n k h. none h;
         leave = λ h. none h;

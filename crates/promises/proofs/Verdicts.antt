@@ -5,7 +5,7 @@ use mathlib.Core.Bool.{Bool, true, _&&_, _||_}
 use mathlib.Core.List.{List, [], _∷_}
 use Prim.Native.Nat.{ℕ, _-_, _≤_}
 use native.Mathlib.Omega.{arith}
-use lib.Dec.{eqb, leb}
+use lib.Dec.{eqb, leb, ltb}
 use lib.ListN.{length, getD, take, drop}
 use borrow.Author.Tests.{eqb-true, leb-true}
 use Rattle.line.proofs.Runs.{and-left, and-right, chosen}
@@ -13,11 +13,12 @@ use Rattle.clock.specs.Seconds.{realClock}
 use Rattle.clock.specs.declared.Clock.{Clock}
 use Rattle.text.specs.Classes.{sameText, isPrintable}
 use Rattle.line.specs.Checksum.{bccOf}
-use Rattle.line.specs.Quoted.{chars}
+use Rattle.line.specs.Quoted.{char, chars}
 use Rattle.line.specs.Runs.{every}
 use Rattle.text.specs.Decimal.{numberAt}
 use Rattle.text.specs.Layout.{fits, pattern}
-use Rattle.frames.specs.Commands.{askClock, askSerial, askAccount, askEnergy}
+use Rattle.frames.specs.Commands.{askClock, askSerial, askAccount}
+use Rattle.values.specs.Family.{isEqm}
 use Rattle.values.specs.Registers.{goodAccount, goodRow, goodTable}
 use Rattle.values.specs.Reading.{clockRead, clockIn, someClock, noClock, tableRead, someTable, noTable}
 use Rattle.values.specs.declared.reading.ClockRead.{ClockRead}
@@ -29,7 +30,7 @@ use Rattle.replies.specs.declared.Ask.{Ask}
 use Rattle.deciding.specs.declared.Verdict.{Verdict}
 use Rattle.deciding.specs.declared.Verdict.the-variants.{Refuse, Leave, Enter, Password, Read, WriteClock, WriteAccount, WriteTable}
 use Rattle.deciding.specs.Shape.{startGood, bareShape, framedShape, content}
-use Rattle.deciding.specs.Asking.{asked, energyAsked, tableAsked}
+use Rattle.deciding.specs.Asking.{asked, energyNamed, energyAsked, tableAsked}
 use Rattle.deciding.specs.Telling.{enclosed, inner, told, clockTold, accountTold, tableTold}
 use Rattle.deciding.specs.Verdict.{entry, bareVerdict, framedVerdict, shapeVerdict, verdict}
 use Rattle.promises.specs.Writes.{writeStart}
@@ -101,20 +102,17 @@ told-all P tables d k =
     (k .wrong))
     (k .wrong)))
 
-pub asked-all : (P : Verdict → Type 0) (tables : ℕ) (d : List ℕ) → ((a : Ask) → answerable tables a ≡ true → P (Read a)) → P (Refuse 9) → P (asked tables d)
+pub asked-all : (P : Verdict → Type 0) (tables family : ℕ) (d : List ℕ) → ((a : Ask) → answerable tables a ≡ true → P (Read a)) → P (Refuse 9) → P (asked tables family d)
 unfolding asked energyAsked tableAsked answerable
-asked-all P tables d read wrong =
+asked-all P tables family d read wrong =
     choice.either P (sameText d askClock) (read _ refl)
     (choice.either P (sameText d askSerial) (read _ refl)
     (choice.either P (sameText d askAccount) (read _ refl)
-    (choice.either P (sameText d (askEnergy 0)) (read _ refl)
-    (choice.either P (sameText d (askEnergy 1)) (read _ refl)
-    (choice.either P (sameText d (askEnergy 2)) (read _ refl)
-    (choice.either P (sameText d (askEnergy 3)) (read _ refl)
-    (choice.either P (sameText d (askEnergy 4)) (read _ refl)
+    (choice.either P (ltb (energyNamed (char "E") d) 5) (read _ refl)
+    (choice.either P (isEqm family && ltb (energyNamed (char "G") d) 5) (read _ refl)
     (choice.either P (fits (90 ∷ 40 ∷ 35 ∷ 35 ∷ 41 ∷ []) d)
     (choice.given P (tableRead tables (take 2 (drop 2 d)) .ok) (λ h. read _ (table-real tables (take 2 (drop 2 d)) h)) wrong)
-    wrong))))))))
+    wrong)))))
 
 -- the numbers with which a frame is refused here; 3 only where it is marked
 pub data FrameNumber (mark : Bool) : ℕ → Type 0 where
@@ -143,9 +141,9 @@ pub record Known (tables mode : ℕ) (h : List ℕ) (mark : Bool) (P : Verdict �
   pub read : (a : Ask) → answerable tables a ≡ true → P (Read a)
   pub write : mode ≡ 4 → take 4 h ≡ writeStart → Told tables (content h) P
 
-pub verdict-all : (P : Verdict → Type 0) (tables mode : ℕ) (h : List ℕ) (mark : Bool) (sum : ℕ) → Known tables mode h mark P → P (verdict tables mode h mark sum)
+pub verdict-all : (P : Verdict → Type 0) (tables family mode : ℕ) (h : List ℕ) (mark : Bool) (sum : ℕ) → Known tables mode h mark P → P (verdict tables family mode h mark sum)
 unfolding verdict shapeVerdict bareVerdict framedVerdict entry
-verdict-all P tables mode h mark sum k =
+verdict-all P tables family mode h mark sum k =
     let a = getD h 1 0 in
     let b = getD h 2 0 in
     let no8 = k .refuse 8 not-allowed in
@@ -160,7 +158,7 @@ verdict-all P tables mode h mark sum k =
     (choice.given P (fits (chars "(########)") (content h)) (k .password (eqb-true mode 2 e)) (k .refuse 9 content-wrong)))
     no8)
     (choice.either P (eqb a 82 && eqb b 49)
-    (choice.either P (eqb mode 3 || eqb mode 4) (asked-all P tables (content h) (k .read) (k .refuse 9 content-wrong)) no8)
+    (choice.either P (eqb mode 3 || eqb mode 4) (asked-all P tables family (content h) (k .read) (k .refuse 9 content-wrong)) no8)
     (choice.given P (eqb a 87 && eqb b 49)
     (λ w. choice.given P (eqb mode 4) (λ e. told-all P tables (content h) (k .write (eqb-true mode 4 e) (write-starts h f w))) no8)
     (k .refuse 7 unknown))))
@@ -178,11 +176,11 @@ sound tables (WriteClock c) = true
 sound tables WriteAccount = true
 sound tables (WriteTable t) = true
 
-pub read-answerable : (tables mode : ℕ) (h : List ℕ) (mark : Bool) (sum : ℕ) (a : Ask) → verdict tables mode h mark sum ≡ Read a → answerable tables a ≡ true
+pub read-answerable : (tables family mode : ℕ) (h : List ℕ) (mark : Bool) (sum : ℕ) (a : Ask) → verdict tables family mode h mark sum ≡ Read a → answerable tables a ≡ true
 unfolding sound
-read-answerable tables mode h mark sum a e =
+read-answerable tables family mode h mark sum a e =
     let all =
-    verdict-all (λ (v : Verdict). sound tables v ≡ true) tables mode h mark sum
+    verdict-all (λ (v : Verdict). sound tables v ≡ true) tables family mode h mark sum
     (record {
       refuse = λ n k. refl;
       leave = refl;

@@ -16,7 +16,7 @@ use Rattle.tariff.specs.Months.{monthStarts}
 use Rattle.meter.specs.SignOn.{closesBy}
 use Rattle.meter.specs.Character.{symbol}
 use Rattle.meter.specs.declared.Event.{Event}
-use Rattle.meter.specs.declared.Event.the-variants.{Character, Silence, Tick, Pulse, PowerUp, Unknown}
+use Rattle.meter.specs.declared.Event.the-variants.{Character, Silence, Tick, Pulse, PowerUp, PulseOut, Unknown}
 
 -- LF in mode 0, after an unmarked `/C!` CR
 unfoldable pub closesHere : Meter → ℕ → Bool
@@ -27,8 +27,9 @@ unfoldable pub closesAt : Meter → ℕ → Event → Bool
 closesAt m room (Character b) = leb replyRoom room && closesHere m (symbol b)
 closesAt m room Silence = false
 closesAt m room Tick = monthStarts (nextSecond (m .registers .clock))
-closesAt m room (Pulse wh) = false
+closesAt m room (Pulse units) = false
 closesAt m room PowerUp = false
+closesAt m room (PulseOut units) = false
 closesAt m room Unknown = false
 
 -- the time of the period: that which the tick reaches, or the clock as it is
@@ -36,10 +37,11 @@ unfoldable pub closingTime : Meter → Event → Clock
 closingTime m Tick = nextSecond (m .registers .clock)
 closingTime m (Character b) = m .registers .clock
 closingTime m Silence = m .registers .clock
-closingTime m (Pulse wh) = m .registers .clock
+closingTime m (Pulse units) = m .registers .clock
 closingTime m PowerUp = m .registers .clock
+closingTime m (PulseOut units) = m .registers .clock
 closingTime m Unknown = m .registers .clock
 
 unfoldable pub archiveAfter : Meter → ℕ → Event → Archive
 archiveAfter m room e =
-    cond (closesAt m room e) (closedWith (periodOf (closingTime m e) (m .registers .counters)) (m .registers .archive)) (m .registers .archive)
+    cond (closesAt m room e) (closedWith (periodOf (closingTime m e) (m .registers .counters) (m .registers .exported)) (m .registers .archive)) (m .registers .archive)

@@ -15,7 +15,7 @@ use Rattle.values.specs.declared.reading.ClockRead.{ClockRead}
 use Rattle.values.specs.declared.reading.TableRead.{TableRead}
 use Rattle.values.specs.Registers.{goodAccount, goodRow, goodTable}
 use Rattle.frames.specs.Session.{closingSignOn}
-use Rattle.state.specs.WellFormed.{tablesIn, marked}
+use Rattle.state.specs.WellFormed.{familyOf, tablesIn, marked}
 use Rattle.state.specs.Closing.{closing}
 use Rattle.state.specs.declared.Registers.{Registers}
 use Rattle.state.specs.declared.Meter.{Meter}
@@ -50,7 +50,7 @@ pub record Written (m : Meter) (b : ℕ) (v : Verdict) : Type 0 where
   pub programming : m .mode ≡ 4
   pub completed : hearing (m .mode) (m .receiver .count) (lastHeld (m .receiver)) (symbol b) ≡ Frame
   pub started : take 4 (heldText (m .receiver)) ≡ writeStart
-  pub decided : verdict (tablesIn (m .registers)) (m .mode) (heldText (m .receiver)) (marked (m .receiver) || damagedAt b) (symbol b) ≡ v
+  pub decided : verdict (tablesIn (m .registers)) (familyOf m) (m .mode) (heldText (m .receiver)) (marked (m .receiver) || damagedAt b) (symbol b) ≡ v
 
 -- [12]: the byte completes an unmarked line `/C!` CR LF, in mode 0
 pub record Called (m : Meter) (b : ℕ) : Type 0 where

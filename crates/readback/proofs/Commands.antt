@@ -9,10 +9,11 @@ use native.Mathlib.Omega.{arith}
 use borrow.Author.Tests.{leb-true, le-leb, eqb-true}
 use lib.ListN.{length, take, drop, length-append}
 use lib.Dec.{leb, eqb}
-use Rattle.frames.specs.Commands.{B0, P1, R1, W1, bracketed, askClock, askSerial, askAccount, askEnergy, askTable, setClock, setAccount, setTable}
+use Rattle.frames.specs.Commands.{B0, P1, R1, W1, bracketed, askClock, askSerial, askAccount, lettered, askEnergy, askExport, askTable, setClock, setAccount, setTable}
 use Rattle.frames.specs.Frames.{bareFrame, closed, frameOf, onWire}
 use Rattle.frames.specs.Session.{signOn, signOnTo, wiredLine, wiredSignOn, confirmation, enterData, passwordData}
-use Rattle.values.specs.Registers.{goodSerial, goodDigits, isAccountCharacter, goodAccount, goodRow, goodTable}
+use Rattle.values.specs.Family.{isEqm}
+use Rattle.values.specs.Registers.{goodSerial, goodDigits, isAccountCharacter, goodAccount, goodRow, goodTable, goodZone}
 use Rattle.values.specs.Texts.{parted, serialText, wiredText, tableForm, clockForm, tableText, clockText}
 use Rattle.datasets.proofs.Characters.{layout-within}
 use Rattle.values.proofs.Rules.{digits-long, account-long, row-long, zone-most, table-text-long, clock-text-long}
@@ -25,7 +26,7 @@ use Rattle.text.specs.Classes.{between, isDigit, isLetter, isPrintable}
 use Rattle.clock.specs.declared.Clock.{Clock}
 use Rattle.blocks.specs.Parts.{isCharacter}
 use Rattle.reading.proofs.Leading.{or-cases}
-use Rattle.commands.specs.Spoken.{Command, enter, password, readClock, readSerial, readAccount, readTotal, readZone, readTable, writeClock, writeAccount, writeTable, goodFields, lettersOf, dataOf, spoken}
+use Rattle.commands.specs.Spoken.{Command, enter, password, readClock, readSerial, readAccount, readTotal, readZone, readTotalOut, readZoneOut, readTable, writeClock, writeAccount, writeTable, goodFields, lettersOf, dataOf, spoken}
 
 printable : (c : ℕ) → 32 ≤ c → c ≤ 126 → isPrintable c ≡ true
 unfolding isPrintable between
@@ -86,9 +87,10 @@ named-printable : (letter : ℕ) (s : List ℕ) → isPrintable letter ≡ true 
 unfolding every
 named-printable letter s l h = rw l (bracketed-printable s h)
 
-energy-printable : (n : ℕ) → n ≤ 4 → every isPrintable (askEnergy n) ≡ true
-unfolding askEnergy bracketed every
-energy-printable n h = and-both (isPrintable 69) _ (printable 69 (omega arith) (omega arith)) (named-printable (48 + n) [] (printable (48 + n) (omega arith) (omega arith)) refl)
+-- a letter and a number before them
+lettered-printable : (letter n : ℕ) → 32 ≤ letter → letter ≤ 126 → n ≤ 4 → every isPrintable (lettered letter n) ≡ true
+unfolding bracketed every
+lettered-printable letter n low high h = and-both (isPrintable letter) _ (printable letter low high) (named-printable (48 + n) [] (printable (48 + n) (omega arith) (omega arith)) refl)
 
 row-data-printable : (n : ℕ) (row : List ℕ) → goodRow row ≡ true → every isPrintable (tableText n ++ (59 ∷ row)) ≡ true
 unfolding every
@@ -96,19 +98,21 @@ row-data-printable n row h =
     every-append isPrintable (tableText n) (59 ∷ row) (table-printable n) (and-both (isPrintable 59) (every isPrintable row) (printable 59 (omega arith) (omega arith)) (row-printable row h))
 
 -- the data of a command are printable
-pub command-printable : (tables : ℕ) (c : Command) → goodFields tables c ≡ true → every isPrintable (dataOf c) ≡ true
-unfolding dataOf goodFields bracketed enterData passwordData askClock askSerial askAccount askTable setClock setAccount setTable
-command-printable tables enter h = bracketed-printable [] (unfold every in refl)
-command-printable tables (password p) h = bracketed-printable p (digits-printable 8 p h)
-command-printable tables readClock h = named-printable 84 [] (printable 84 (omega arith) (omega arith)) (unfold every in refl)
-command-printable tables readSerial h = named-printable 76 [] (printable 76 (omega arith) (omega arith)) (unfold every in refl)
-command-printable tables readAccount h = named-printable 75 [] (printable 75 (omega arith) (omega arith)) (unfold every in refl)
-command-printable tables readTotal h = energy-printable 0 (omega arith)
-command-printable tables (readZone n) h = energy-printable n (zone-most n h)
-command-printable tables (readTable n) h = named-printable 90 (tableText n) (printable 90 (omega arith) (omega arith)) (table-printable n)
-command-printable tables (writeClock c) h = named-printable 84 (clockText c) (printable 84 (omega arith) (omega arith)) (clock-printable c)
-command-printable tables (writeAccount a) h = named-printable 75 a (printable 75 (omega arith) (omega arith)) (name-printable a h)
-command-printable tables (writeTable n row) h =
+pub command-printable : (tables family : ℕ) (c : Command) → goodFields tables family c ≡ true → every isPrintable (dataOf c) ≡ true
+unfolding dataOf goodFields bracketed enterData passwordData askClock askSerial askAccount askEnergy askExport askTable setClock setAccount setTable
+command-printable tables family enter h = bracketed-printable [] (unfold every in refl)
+command-printable tables family (password p) h = bracketed-printable p (digits-printable 8 p h)
+command-printable tables family readClock h = named-printable 84 [] (printable 84 (omega arith) (omega arith)) (unfold every in refl)
+command-printable tables family readSerial h = named-printable 76 [] (printable 76 (omega arith) (omega arith)) (unfold every in refl)
+command-printable tables family readAccount h = named-printable 75 [] (printable 75 (omega arith) (omega arith)) (unfold every in refl)
+command-printable tables family readTotal h = lettered-printable 69 0 (omega arith) (omega arith) (omega arith)
+command-printable tables family (readZone n) h = lettered-printable 69 n (omega arith) (omega arith) (zone-most n h)
+command-printable tables family readTotalOut h = lettered-printable 71 0 (omega arith) (omega arith) (omega arith)
+command-printable tables family (readZoneOut n) h = lettered-printable 71 n (omega arith) (omega arith) (zone-most n (and-right (isEqm family) (goodZone n) h))
+command-printable tables family (readTable n) h = named-printable 90 (tableText n) (printable 90 (omega arith) (omega arith)) (table-printable n)
+command-printable tables family (writeClock c) h = named-printable 84 (clockText c) (printable 84 (omega arith) (omega arith)) (clock-printable c)
+command-printable tables family (writeAccount a) h = named-printable 75 a (printable 75 (omega arith) (omega arith)) (name-printable a h)
+command-printable tables family (writeTable n row) h =
     named-printable 90 (tableText n ++ (59 ∷ row)) (printable 90 (omega arith) (omega arith)) (row-data-printable n row (and-right (goodTable tables n) (goodRow row) h))
 
 character-of : (c : ℕ) → isPrintable c ≡ true → isCharacter c ≡ true
@@ -125,6 +129,8 @@ of-letters P p r w readSerial = r
 of-letters P p r w readAccount = r
 of-letters P p r w readTotal = r
 of-letters P p r w (readZone n) = r
+of-letters P p r w readTotalOut = r
+of-letters P p r w (readZoneOut n) = r
 of-letters P p r w (readTable n) = r
 of-letters P p r w (writeClock c) = w
 of-letters P p r w (writeAccount a) = w
@@ -137,17 +143,17 @@ pub letters-printable : (c : Command) → every isPrintable (lettersOf c) ≡ tr
 unfolding every isPrintable between
 letters-printable = of-letters (λ (l : List ℕ). every isPrintable l ≡ true) refl refl refl
 
-pub command-characters : (tables : ℕ) (c : Command) → goodFields tables c ≡ true → every isCharacter (spoken c) ≡ true
+pub command-characters : (tables family : ℕ) (c : Command) → goodFields tables family c ≡ true → every isCharacter (spoken c) ≡ true
 unfolding spoken
-command-characters tables c h =
-    frame-characters (lettersOf c) (dataOf c) (every-weaker isPrintable isCharacter character-of (lettersOf c) (letters-printable c)) (every-weaker isPrintable isCharacter character-of (dataOf c) (command-printable tables c h))
+command-characters tables family c h =
+    frame-characters (lettersOf c) (dataOf c) (every-weaker isPrintable isCharacter character-of (lettersOf c) (letters-printable c)) (every-weaker isPrintable isCharacter character-of (dataOf c) (command-printable tables family c h))
 
 -- on the wire no byte of it is damaged, and its seven bits are its characters again
 pub command-undamaged : (c : Command) → undamagedAll (onWire (spoken c)) ≡ true
 command-undamaged c = sent-undamaged-all (spoken c)
 
-pub command-comes-back : (tables : ℕ) (c : Command) → goodFields tables c ≡ true → map seven (onWire (spoken c)) ≡ spoken c
-command-comes-back tables c h = sent-comes-back-all (spoken c) (command-characters tables c h)
+pub command-comes-back : (tables family : ℕ) (c : Command) → goodFields tables family c ≡ true → map seven (onWire (spoken c)) ≡ spoken c
+command-comes-back tables family c h = sent-comes-back-all (spoken c) (command-characters tables family c h)
 
 -- its BCC fits: from the second character on it sums to nothing
 pub command-bcc : (c : Command) → bccOf (drop 1 (spoken c)) ≡ 0
@@ -161,35 +167,37 @@ pub record Shaped (s letters content : List ℕ) : Type 0 where
   pub named : every isPrintable letters ≡ true
   pub plain : every isPrintable content ≡ true
 
-pub command-shape : (tables : ℕ) (c : Command) → goodFields tables c ≡ true → Shaped (spoken c) (lettersOf c) (dataOf c)
+pub command-shape : (tables family : ℕ) (c : Command) → goodFields tables family c ≡ true → Shaped (spoken c) (lettersOf c) (dataOf c)
 unfolding spoken frameOf closed
-command-shape tables c h = record { whole = refl; two = letters-two c; named = letters-printable c; plain = command-printable tables c h }
+command-shape tables family c h = record { whole = refl; two = letters-two c; named = letters-printable c; plain = command-printable tables family c h }
 
 bracketed-long : (s : List ℕ) → length (bracketed s) ≡ length s + 2
 unfolding bracketed
 bracketed-long s = omega (arith, length-append s (41 ∷ []))
 
-pub data-short : (tables : ℕ) (c : Command) → goodFields tables c ≡ true → length (dataOf c) ≤ 30
-unfolding dataOf goodFields enterData passwordData askClock askSerial askAccount askEnergy askTable setClock setAccount setTable
-data-short tables enter h = omega (arith, bracketed-long [])
-data-short tables (password p) h = omega (arith, bracketed-long p, digits-long 8 p h)
-data-short tables readClock h = omega (arith, bracketed-long [])
-data-short tables readSerial h = omega (arith, bracketed-long [])
-data-short tables readAccount h = omega (arith, bracketed-long [])
-data-short tables readTotal h = omega (arith, bracketed-long [])
-data-short tables (readZone n) h = omega (arith, bracketed-long [])
-data-short tables (readTable n) h = omega (arith, bracketed-long (tableText n), table-text-long n)
-data-short tables (writeClock c) h = omega (arith, bracketed-long (clockText c), clock-text-long c)
-data-short tables (writeAccount a) h = omega (arith, bracketed-long a, account-long a h)
-data-short tables (writeTable n row) h =
+pub data-short : (tables family : ℕ) (c : Command) → goodFields tables family c ≡ true → length (dataOf c) ≤ 30
+unfolding dataOf goodFields enterData passwordData askClock askSerial askAccount askEnergy askExport askTable setClock setAccount setTable
+data-short tables family enter h = omega (arith, bracketed-long [])
+data-short tables family (password p) h = omega (arith, bracketed-long p, digits-long 8 p h)
+data-short tables family readClock h = omega (arith, bracketed-long [])
+data-short tables family readSerial h = omega (arith, bracketed-long [])
+data-short tables family readAccount h = omega (arith, bracketed-long [])
+data-short tables family readTotal h = omega (arith, bracketed-long [])
+data-short tables family (readZone n) h = omega (arith, bracketed-long [])
+data-short tables family readTotalOut h = omega (arith, bracketed-long [])
+data-short tables family (readZoneOut n) h = omega (arith, bracketed-long [])
+data-short tables family (readTable n) h = omega (arith, bracketed-long (tableText n), table-text-long n)
+data-short tables family (writeClock c) h = omega (arith, bracketed-long (clockText c), clock-text-long c)
+data-short tables family (writeAccount a) h = omega (arith, bracketed-long a, account-long a h)
+data-short tables family (writeTable n row) h =
     omega (arith, bracketed-long (tableText n ++ (59 ∷ row)), length-append (tableText n) (59 ∷ row), table-text-long n, row-long row (and-right (goodTable tables n) (goodRow row) h))
 
 -- no command is longer than 36 characters; a frame may have 64
-pub command-short : (tables : ℕ) (c : Command) → goodFields tables c ≡ true → length (spoken c) ≤ 36
+pub command-short : (tables family : ℕ) (c : Command) → goodFields tables family c ≡ true → length (spoken c) ≤ 36
 unfolding spoken frameOf closed
-command-short tables c h =
+command-short tables family c h =
     let body = lettersOf c ++ (2 ∷ dataOf c) in
-    omega (arith, data-short tables c h, letters-two c, length-append (lettersOf c) (2 ∷ dataOf c), length-append body (3 ∷ []), length-append (body ++ (3 ∷ [])) (bccOf (body ++ (3 ∷ [])) ∷ []))
+    omega (arith, data-short tables family c h, letters-two c, length-append (lettersOf c) (2 ∷ dataOf c), length-append body (3 ∷ []), length-append (body ++ (3 ∷ [])) (bccOf (body ++ (3 ∷ [])) ∷ []))
 
 -- B0 comes back too, and so do the sign-on and the confirmation
 pub sign-off-comes-back : map seven (onWire (bareFrame B0)) ≡ bareFrame B0

@@ -32,5 +32,7 @@ module _ (m : Meter) (f : wellFormed m ≡ true) where
         own-account = learns _ ask.Account refl refl;
         whole = learns _ (ask.Energy Total) refl refl;
         zone = λ n h. learns _ (ask.Energy (zoneEnergy n)) refl refl;
+        whole-out = λ e. learns _ (ask.Export Total) refl refl;
+        zone-out = λ e n h. learns _ (ask.Export (zoneEnergy n)) refl refl;
         table = λ n h. learns _ (ask.Table (record { 0 = n })) h refl;
       }

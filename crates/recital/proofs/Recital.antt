@@ -1,8 +1,9 @@
 -- Every block of a well-formed meter, its data block and its answers to R1, reads back to the meter's own registers. Assumes nothing.
 use mathlib.Core.Path.{_≡_, refl, sym, ap, subst, _∙_}
-use mathlib.Core.Bool.{Bool, true}
+use mathlib.Core.Bool.{Bool, true, false, cond}
 use mathlib.Core.List.{List, [], _∷_, _++_, map, map-append}
 use Prim.Native.Nat.{ℕ, zero, suc, _+_, _*_, _≤_}
+use native.Mathlib.Nat.{suc-mul}
 use native.Mathlib.Omega.{arith}
 use borrow.Author.Tests.{leb-true, le-leb}
 use lib.Dec.{leb, lit≤}
@@ -10,13 +11,13 @@ use lib.ListN.{length, take, length-append, length-map}
 use Rattle.line.specs.Runs.{every}
 use Rattle.line.proofs.Runs.{and-left, and-right, every-append, every-weaker}
 use Rattle.text.specs.Classes.{between}
-use Rattle.values.specs.declared.Energy.the-variants.{Total}
-use Rattle.values.specs.Registers.{goodTable, energyNo, zoneEnergy}
+use Rattle.values.specs.Family.{isEqm, counterEnd, exportEnd}
+use Rattle.values.specs.Registers.{goodTable}
 use Rattle.frames.specs.Frames.{blockOf}
 use Rattle.state.specs.declared.Period.{Period}
 use Rattle.state.specs.declared.Registers.{Registers}
 use Rattle.state.specs.declared.Meter.{Meter}
-use Rattle.state.specs.WellFormed.{periodGood, everyPeriod, registersGood, wellFormed, tablesIn}
+use Rattle.state.specs.WellFormed.{periodGood, everyPeriod, registersGood, wellFormed, tablesIn, familyIn, familyOf}
 use Rattle.state.specs.Closing.{periodsOf}
 use Rattle.state.proofs.Parts.{formed, formed-registers}
 use Rattle.state.proofs.Archives.{formed-archive}
@@ -25,9 +26,8 @@ use Rattle.datasets.proofs.Characters.{Within, within}
 use Rattle.replies.specs.declared.Ask.{Ask}
 use Rattle.replies.specs.declared.Ask.the-variants as ask
 use Rattle.replies.specs.Shown.{rowOf}
-use Rattle.replies.specs.Shown as shown
 use Rattle.replies.specs.Answers.{askedSets, askedData, answerable}
-use Rattle.replies.specs.Block.{factSets, energySets, tableSets, blockSets, blockData}
+use Rattle.replies.specs.Block.{factSets, directionSets, tableSets, blockSets, blockData}
 use Rattle.replies.specs.Periods.{periodSets, archiveSets, longSets, longData}
 use Rattle.replies.proofs.Good.{asked-good, block-good, long-good, asked-shown, block-shown, long-shown, register-ground}
 use Rattle.replies.proofs.Periods.{kept-many}
@@ -39,8 +39,8 @@ use Rattle.deciding.specs.declared.Verdict.the-variants.{Read}
 use Rattle.deciding.specs.Verdict.{verdict}
 use Rattle.meter.specs.Acting.{acted}
 use Rattle.promises.proofs.Verdicts.{read-answerable}
-use Rattle.recital.specs.Recital.{Register, row, Recites, tableNumbers, rows, blockSays, periodSays, periodsSay, longSays, answerSays, ReadsBack, counts}
-use Rattle.recital.proofs.Registers.{and-then, and-none, period-reads, own-energy-reads, serial-reads, account-reads, date-reads, time-reads, row-reads}
+use Rattle.recital.specs.Recital.{Register, row, Recites, tableNumbers, rows, blockSays, periodSays, periodsSay, longSays, answerSays, ReadsBack, energiesSay, inAndOut, directionsSay, closed, keptSay, setsBefore, setsKept}
+use Rattle.recital.proofs.Registers.{and-then, and-none, and-all, period-reads, import-reads, export-reads, directions-read, serial-reads, account-reads, date-reads, time-reads, row-reads}
 
 -- what a meter shows may stand in a block
 content : Within (between 10 126) isContent
@@ -86,47 +86,37 @@ numbers-good tables (suc n) h =
     (unfold goodTable between in (rw (le-leb 1 (suc n) (omega arith), le-leb (suc n) tables h)))
 
 block-recites : (g : Registers) → registersGood g ≡ true → Recites (blockSets (tablesIn g) g) (blockSays g)
-unfolding blockSets factSets energySets blockSays shown.energy counts energyNo
+unfolding blockSets factSets blockSays
 block-recites g good =
     let all = rw (← tables-are (g .tables) (tablesIn g)) at (rows-read g good (tableNumbers (tablesIn g)) (numbers-good (tablesIn g) (tablesIn g) (omega arith))) in
     and-then _ _ _ _ (serial-reads g good)
     (and-then _ _ _ _ (date-reads g good)
     (and-then _ _ _ _ (time-reads g good)
     (and-then _ _ _ _ (account-reads g good)
-    (and-then _ _ _ _ (own-energy-reads g good (zoneEnergy 1))
-    (and-then _ _ _ _ (own-energy-reads g good (zoneEnergy 2))
-    (and-then _ _ _ _ (own-energy-reads g good (zoneEnergy 3))
-    (and-then _ _ _ _ (own-energy-reads g good (zoneEnergy 4))
-    (and-then _ _ _ _ (own-energy-reads g good Total) all))))))))
-
--- sets after sets
-and-all : (ds es : List DataSet) (xs ys : List Register) → Recites ds xs → Recites es ys → Recites (ds ++ es) (xs ++ ys)
-unfolding Recites
-and-all [] es [] ys h k = k
-and-all [] es (x ∷ xs) ys h k = absurd h
-and-all (d ∷ ds) es [] ys h k = absurd h
-and-all (d ∷ ds) es (x ∷ xs) ys h k = (h .0, and-all ds es xs ys (h .1) k)
+    (and-all (directionSets (familyIn g) (g .counters) (g .exported)) (tableSets (g .tables) (tablesIn g)) (directionsSay g) (rows (g .tables) (tableNumbers (tablesIn g)))
+    (directions-read g good) all))))
 
 -- [12]: the closed periods
-periods-recite : (k : ℕ) (ps : List Period) → everyPeriod periodGood ps ≡ true → Recites (archiveSets k ps) (periodsSay k ps)
+periods-recite : (family k : ℕ) (ps : List Period) → everyPeriod (periodGood family) ps ≡ true → Recites (archiveSets family k ps) (periodsSay family k ps)
 unfolding everyPeriod archiveSets periodsSay
-periods-recite k [] h = and-none
-periods-recite k (p ∷ ps) h =
-    and-all (periodSets k p) (archiveSets (k + 1) ps) (periodSays k p) (periodsSay (k + 1) ps)
-    (period-reads k p (and-left (periodGood p) (everyPeriod periodGood ps) h)) (periods-recite (k + 1) ps (and-right (periodGood p) (everyPeriod periodGood ps) h))
+periods-recite family k [] h = and-none
+periods-recite family k (p ∷ ps) h =
+    and-all (periodSets family k p) (archiveSets family (k + 1) ps) (periodSays family k p) (periodsSay family (k + 1) ps)
+    (period-reads family k p (and-left (periodGood family p) (everyPeriod (periodGood family) ps) h)) (periods-recite family (k + 1) ps (and-right (periodGood family p) (everyPeriod (periodGood family) ps) h))
 
 long-recites : (g : Registers) → registersGood g ≡ true → Recites (longSets (tablesIn g) g) (longSays g)
 unfolding longSets longSays periodsOf
 long-recites g good =
-    and-all (blockSets (tablesIn g) g) (archiveSets 1 (periodsOf (g .archive))) (blockSays g) (periodsSay 1 (periodsOf (g .archive)))
-    (block-recites g good) (periods-recite 1 (periodsOf (g .archive)) (formed-archive (g .archive) (formed-registers g good .archive) .good))
+    and-all (blockSets (tablesIn g) g) (archiveSets (familyIn g) 1 (periodsOf (g .archive))) (blockSays g) (periodsSay (familyIn g) 1 (periodsOf (g .archive)))
+    (block-recites g good) (periods-recite (familyIn g) 1 (periodsOf (g .archive)) (formed-archive (familyIn g) (g .archive) (formed-registers g good .archive) .good))
 
 answer-recites : (g : Registers) → registersGood g ≡ true → (a : Ask) → answerable (tablesIn g) a ≡ true → Recites (askedSets g a) (answerSays g a)
 unfolding askedSets answerSays answerable
 answer-recites g good ask.Clock h = and-then _ _ _ _ (time-reads g good) (and-then _ _ _ _ (date-reads g good) and-none)
 answer-recites g good ask.Serial h = and-then _ _ _ _ (serial-reads g good) and-none
 answer-recites g good ask.Account h = and-then _ _ _ _ (account-reads g good) and-none
-answer-recites g good (ask.Energy e) h = and-then _ _ _ _ (own-energy-reads g good e) and-none
+answer-recites g good (ask.Energy e) h = and-then _ _ _ _ (import-reads g good e) and-none
+answer-recites g good (ask.Export e) h = and-then _ _ _ _ (export-reads g good e) and-none
 answer-recites g good (ask.Table t) h = and-then _ _ _ _ (row-reads g good (t .0) h) and-none
 
 -- the data block reads to its end as its own sets
@@ -165,29 +155,58 @@ module _ (m : Meter) (f : wellFormed m ≡ true) where
       (answer-recites g good a h)
 
   -- so whatever frame a meter answers with data, the block that it sends reads back
-  pub every-answer-reads-back : (h : List ℕ) (mark : Bool) (sum : ℕ) (a : Ask) → verdict (tablesIn (m .registers)) (m .mode) h mark sum ≡ Read a
-      → (acted m (verdict (tablesIn (m .registers)) (m .mode) h mark sum) .reply ≡ blockOf (askedData (m .registers) a)) × ReadsBack (askedData (m .registers) a) (answerSays (m .registers) a)
+  pub every-answer-reads-back : (h : List ℕ) (mark : Bool) (sum : ℕ) (a : Ask) → verdict (tablesIn (m .registers)) (familyOf m) (m .mode) h mark sum ≡ Read a
+      → (acted m (verdict (tablesIn (m .registers)) (familyOf m) (m .mode) h mark sum) .reply ≡ blockOf (askedData (m .registers) a)) × ReadsBack (askedData (m .registers) a) (answerSays (m .registers) a)
   unfolding acted
-  every-answer-reads-back h mark sum a e = (rw e, answer-block-reads-back a (read-answerable (tablesIn (m .registers)) (m .mode) h mark sum a e))
+  every-answer-reads-back h mark sum a e = (rw e, answer-block-reads-back a (read-answerable (tablesIn (m .registers)) (familyOf m) (m .mode) h mark sum a e))
 
 numbers-many : (n : ℕ) → length (tableNumbers n) ≡ n
 unfolding tableNumbers
 numbers-many zero = refl
 numbers-many (suc n) = length-append (tableNumbers n) (suc n ∷ []) ∙ omega (arith, numbers-many n)
 
--- 33 of them, or 34
-pub nine-and-tables : (g : Registers) → length (blockSays g) ≡ 9 + tablesIn g
-unfolding blockSays rows
-nine-and-tables g = omega (arith, length-map (tableNumbers (tablesIn g)) (λ n. row n (rowOf (g .tables) n)), numbers-many (tablesIn g))
+-- 33 of them, or 34; five more where what went out is counted
+both-many : (b : Bool) (xs ys : List Register) → length (xs ++ cond b ys []) ≡ length xs + cond b (length ys) 0
+both-many true xs ys = length-append xs ys
+both-many false xs ys = length-append xs []
 
--- and five for each closed period
-five-each : (k : ℕ) (ps : List Period) → length (periodsSay k ps) ≡ length ps * 5
-unfolding periodsSay periodSays
-five-each k [] = refl
-five-each k (p ∷ ps) = length-append (periodSays k p) (periodsSay (k + 1) ps) ∙ omega (arith, five-each (k + 1) ps)
+pub sets-and-tables : (g : Registers) → length (blockSays g) ≡ setsBefore (familyIn g) + tablesIn g
+unfolding blockSays rows inAndOut energiesSay setsBefore
+sets-and-tables g =
+    let came = energiesSay (familyIn g) false (counterEnd (familyIn g)) (g .counters) in
+    let went = energiesSay (familyIn g) true (exportEnd (familyIn g)) (g .exported) in
+    omega (
+      arith,
+      length-append (directionsSay g) (rows (g .tables) (tableNumbers (tablesIn g))),
+      both-many (isEqm (familyIn g)) came went,
+      fourteen (isEqm (familyIn g)),
+      length-map (tableNumbers (tablesIn g)) (λ n. row n (rowOf (g .tables) n)),
+      numbers-many (tablesIn g),
+    )
+  where
+    fourteen : (b : Bool) → 9 + cond b 5 0 ≡ cond b 14 9
+    fourteen true = refl
+    fourteen false = refl
 
-pub nine-and-tables-and-five : (g : Registers) → registersGood g ≡ true → length (longSays g) ≡ 9 + tablesIn g + g .archive .count * 5
+-- and for each closed period its time with four counters, or with eight
+period-many : (family k : ℕ) (p : Period) → length (periodSays family k p) ≡ setsKept family
+unfolding periodSays inAndOut keptSay setsKept
+period-many family k p = by (isEqm family)
+  where
+    by : (b : Bool) → length (closed k (p .closed) ∷ (keptSay family false k (p .zones) ++ cond b (keptSay family true k (p .exported)) [])) ≡ cond b 9 5
+    by true = refl
+    by false = refl
+
+periods-many : (family k : ℕ) (ps : List Period) → length (periodsSay family k ps) ≡ length ps * setsKept family
+unfolding periodsSay
+periods-many family k [] = omega arith
+periods-many family k (p ∷ ps) =
+    length-append (periodSays family k p) (periodsSay family (k + 1) ps)
+    ∙ (rw (period-many family k p, periods-many family (k + 1) ps, suc-mul (length ps) (setsKept family)) (omega arith))
+
+pub sets-and-tables-and-periods : (g : Registers) → registersGood g ≡ true
+    → length (longSays g) ≡ setsBefore (familyIn g) + tablesIn g + g .archive .count * setsKept (familyIn g)
 unfolding longSays
-nine-and-tables-and-five g good =
-    length-append (blockSays g) (periodsSay 1 (periodsOf (g .archive)))
-    ∙ omega (arith, nine-and-tables g, five-each 1 (periodsOf (g .archive)), kept-many (tablesIn g) g (register-ground g good .lengths))
+sets-and-tables-and-periods g good =
+    length-append (blockSays g) (periodsSay (familyIn g) 1 (periodsOf (g .archive)))
+    ∙ (rw (sets-and-tables g, periods-many (familyIn g) 1 (periodsOf (g .archive)), kept-many (tablesIn g) g (register-ground g good .lengths)))

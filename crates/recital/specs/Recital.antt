@@ -1,6 +1,6 @@
 -- Demand 2: what a block of a meter says to the head. Every data set in order, and each value read back to what the meter holds.
 use mathlib.Core.Path.{_≡_}
-use mathlib.Core.Bool.{Bool, true}
+use mathlib.Core.Bool.{Bool, true, false, cond}
 use mathlib.Core.List.{List, [], _∷_, _++_, map}
 use Prim.Native.Nat.{ℕ, zero, suc, _+_, _≤_}
 use lib.ListN.{length, take, drop}
@@ -10,22 +10,22 @@ use Rattle.text.specs.Writing.{holding}
 use Rattle.clock.specs.declared.Date.{Date}
 use Rattle.clock.specs.declared.Time.{Time}
 use Rattle.clock.specs.declared.Stamp.{Stamp}
-use Rattle.values.specs.Edition.{counterDigits, counterDecimals}
+use Rattle.values.specs.Family.{isEqm, counterEnd, exportEnd}
 use Rattle.values.specs.declared.Energy.{Energy}
 use Rattle.values.specs.declared.Energy.the-variants.{Total, Zone}
 use Rattle.values.specs.Registers.{energyNo}
 use Rattle.values.specs.Texts.{tableText}
-use Rattle.values.specs.Reading.{dateRead, timeRead, stampRead, counterRead}
+use Rattle.values.specs.Reading.{dateRead, timeRead, stampRead, energyRead}
 use Rattle.values.specs.Serials.{serialRead, accountRead, rowRead}
 use Rattle.frames.specs.Frames.{blockOf, onWire}
 use Rattle.state.specs.declared.Counters.{Counters}
 use Rattle.state.specs.declared.Period.{Period}
 use Rattle.state.specs.declared.Registers.{Registers}
-use Rattle.state.specs.WellFormed.{total, tablesIn}
+use Rattle.state.specs.WellFormed.{total, tablesIn, familyIn}
 use Rattle.state.specs.Setting.{counterOf}
 use Rattle.state.specs.Closing.{periodsOf}
 use Rattle.replies.specs.Periods.{keptIn}
-use Rattle.datasets.specs.Sets.{DataSet}
+use Rattle.datasets.specs.Sets.{DataSet, energyName}
 use Rattle.replies.specs.declared.Ask.{Ask}
 use Rattle.replies.specs.declared.Ask.the-variants as ask
 use Rattle.replies.specs.Shown.{rowOf}
@@ -33,16 +33,17 @@ use Rattle.blocks.specs.Stripping.{strippedOf, strippedInto}
 use Rattle.blocks.specs.Parts.{partOf}
 use Rattle.reading.specs.Whole.{readAll}
 
--- what one data set says: a register with its value; energy 0 is the total, 1 to 4 are the zones; of a period its number and time, and its number, a zone and the counter
+-- what one data set says: a register with its value; of an energy, as a family shows it, whether it went out, its number (0 is the total, 1 to 4 are the zones) and the counter;
+-- of a period its number and time, and the same with its number
 pub data Register : Type 0 where
   serial : List ℕ → Register
   date : Date → Register
   time : Time → Register
   account : List ℕ → Register
-  energy : ℕ → ℕ → Register
+  energy : ℕ → Bool → ℕ → ℕ → Register
   row : ℕ → List ℕ → Register
   closed : ℕ → Stamp → Register
-  kept : ℕ → ℕ → ℕ → Register
+  kept : ℕ → Bool → ℕ → ℕ → ℕ → Register
 
 -- it stands at that register's address, and its value is read back to the register's own
 unfoldable pub ReadsAs : Register → DataSet → Type 0
@@ -50,11 +51,11 @@ ReadsAs (serial s) d = (d .address ≡ chars "C.1.0") × (serialRead (d .value) 
 ReadsAs (date t) d = (d .address ≡ chars "0.9.2") × (dateRead (d .value) ≡ record { ok = true; date = t })
 ReadsAs (time t) d = (d .address ≡ chars "0.9.1") × (timeRead (d .value) ≡ record { ok = true; time = t })
 ReadsAs (account s) d = (d .address ≡ chars "0.0.0") × (accountRead (d .value) ≡ record { ok = true; account = s })
-ReadsAs (energy n wh) d = (d .address ≡ chars "15.8." ++ decimal 1 n) × (counterRead counterDigits counterDecimals (d .value) ≡ record { ok = true; wh = wh })
+ReadsAs (energy family out n count) d = (d .address ≡ energyName family out ++ decimal 1 n) × (energyRead family (d .value) ≡ record { ok = true; number = count })
 ReadsAs (row n s) d = (d .address ≡ chars "131.0." ++ tableText n) × (rowRead (d .value) ≡ record { ok = true; row = s })
 ReadsAs (closed k t) d = (d .address ≡ chars "0.1.2*" ++ decimal 2 k) × (stampRead (d .value) ≡ record { ok = true; stamp = t })
-ReadsAs (kept k n wh) d =
-    (d .address ≡ chars "15.8." ++ (decimal 1 n ++ (chars "*" ++ decimal 2 k))) × (counterRead counterDigits counterDecimals (d .value) ≡ record { ok = true; wh = wh })
+ReadsAs (kept family out k n count) d =
+    (d .address ≡ energyName family out ++ (decimal 1 n ++ (chars "*" ++ decimal 2 k))) × (energyRead family (d .value) ≡ record { ok = true; number = count })
 
 -- these data sets say these registers, one for one, in order
 unfoldable pub Recites : List DataSet → List Register → Type 0
@@ -71,37 +72,63 @@ tableNumbers (suc n) = tableNumbers n ++ (suc n ∷ [])
 unfoldable pub rows : List ℕ → List ℕ → List Register
 rows tables ns = map (λ n. row n (rowOf tables n)) ns
 
--- the data block: serial, date, time, account, T1 to T4, total, the tables
+-- T1 to T4, and their sum, which rolls over where they do
+unfoldable pub energiesSay : ℕ → Bool → ℕ → Counters → List Register
+energiesSay family out end c =
+    energy family out 1 (counterOf c 1) ∷ energy family out 2 (counterOf c 2) ∷ energy family out 3 (counterOf c 3)
+    ∷ energy family out 4 (counterOf c 4) ∷ energy family out 0 (total end c) ∷ []
+
+-- [10]: what came in, and behind it what went out of an EQM meter
+unfoldable pub inAndOut : ℕ → List Register → List Register → List Register
+inAndOut family came went = came ++ cond (isEqm family) went []
+
+abbrev pub directionsSay : Registers → List Register
+directionsSay g =
+    let family = familyIn g in
+    inAndOut family (energiesSay family false (counterEnd family) (g .counters)) (energiesSay family true (exportEnd family) (g .exported))
+
+-- the data block: serial, date, time, account, these, the tables
 unfoldable pub blockSays : Registers → List Register
 blockSays g =
     serial (g .facts .serial) ∷ date (g .clock .date) ∷ time (g .clock .time) ∷ account (g .account)
-    ∷ energy 1 (counterOf (g .counters) 1) ∷ energy 2 (counterOf (g .counters) 2)
-    ∷ energy 3 (counterOf (g .counters) 3) ∷ energy 4 (counterOf (g .counters) 4)
-    ∷ energy 0 (total (g .counters)) ∷ rows (g .tables) (tableNumbers (tablesIn g))
+    ∷ (directionsSay g ++ rows (g .tables) (tableNumbers (tablesIn g)))
 
--- [12]: the closed periods, numbered from k on: each one's time and its four counters
-unfoldable pub periodSays : ℕ → Period → List Register
-periodSays k p = closed k (p .closed) ∷ kept k 1 (keptIn p 1) ∷ kept k 2 (keptIn p 2) ∷ kept k 3 (keptIn p 3) ∷ kept k 4 (keptIn p 4) ∷ []
+-- [12]: the closed periods, numbered from k on: each one's time and its four counters, [10]: in each direction
+unfoldable pub keptSay : ℕ → Bool → ℕ → List ℕ → List Register
+keptSay family out k zones =
+    kept family out k 1 (keptIn zones 1) ∷ kept family out k 2 (keptIn zones 2) ∷ kept family out k 3 (keptIn zones 3)
+    ∷ kept family out k 4 (keptIn zones 4) ∷ []
 
-unfoldable pub periodsSay : ℕ → List Period → List Register
-periodsSay k [] = []
-periodsSay k (p ∷ ps) = periodSays k p ++ periodsSay (k + 1) ps
+unfoldable pub periodSays : ℕ → ℕ → Period → List Register
+periodSays family k p = closed k (p .closed) ∷ inAndOut family (keptSay family false k (p .zones)) (keptSay family true k (p .exported))
+
+unfoldable pub periodsSay : ℕ → ℕ → List Period → List Register
+periodsSay family k [] = []
+periodsSay family k (p ∷ ps) = periodSays family k p ++ periodsSay family (k + 1) ps
 
 -- the block with them: from 01 on, the newest first
 unfoldable pub longSays : Registers → List Register
-longSays g = blockSays g ++ periodsSay 1 (periodsOf (g .archive))
+longSays g = blockSays g ++ periodsSay (familyIn g) 1 (periodsOf (g .archive))
+
+-- how many a block says before its tables, and of each closed period
+unfoldable pub setsBefore : ℕ → ℕ
+setsBefore family = cond (isEqm family) 14 9
+
+unfoldable pub setsKept : ℕ → ℕ
+setsKept family = cond (isEqm family) 9 5
 
 -- the sum of the four counters, or one of them; a total that a meter keeps is no register of its own
-unfoldable pub counts : Counters → Energy → ℕ
-counts c Total = total c
-counts c (Zone z) = counterOf c (z .0)
+unfoldable pub counts : ℕ → Counters → Energy → ℕ
+counts end c Total = total end c
+counts end c (Zone z) = counterOf c (z .0)
 
 -- the answers to R1
 unfoldable pub answerSays : Registers → Ask → List Register
 answerSays g ask.Clock = time (g .clock .time) ∷ date (g .clock .date) ∷ []
 answerSays g ask.Serial = serial (g .facts .serial) ∷ []
 answerSays g ask.Account = account (g .account) ∷ []
-answerSays g (ask.Energy e) = energy (energyNo e) (counts (g .counters) e) ∷ []
+answerSays g (ask.Energy e) = energy (familyIn g) false (energyNo e) (counts (counterEnd (familyIn g)) (g .counters) e) ∷ []
+answerSays g (ask.Export e) = energy (familyIn g) true (energyNo e) (counts (exportEnd (familyIn g)) (g .exported) e) ∷ []
 answerSays g (ask.Table t) = row (t .0) (rowOf (g .tables) (t .0)) ∷ []
 
 -- a block with this content, as a meter sends it: it strips, its part is the content, and that reads to its end as these registers

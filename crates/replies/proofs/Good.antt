@@ -19,16 +19,18 @@ use Rattle.line.proofs.Runs.{and-left, and-right, and-both, every-append, every
 use Rattle.line.proofs.Xor.{bcc-lt}
 use Rattle.text.specs.Classes.{between, isDigit}
 use Rattle.values.specs.Registers.{goodDigits, goodAccount, goodTable, isAccountCharacter, energyNo}
+use Rattle.values.specs.Family.{isEqm}
 use Rattle.values.proofs.Editions.{tables-most}
 use Rattle.frames.specs.Frames.{closed, frameOf, blockOf}
 use Rattle.frames.specs.Commands.{bracketed}
 use Rattle.state.specs.Sizes.{rowLength}
 use Rattle.state.specs.Setting.{rowStart, counterOf}
-use Rattle.state.specs.WellFormed.{tablesIn, registersGood, wellFormed}
+use Rattle.state.specs.WellFormed.{tablesIn, familyIn, registersGood, wellFormed}
 use Rattle.state.proofs.Parts.{formed, formed-registers, formed-facts, rows-long, rows-held}
 use Rattle.state.proofs.Archives.{formed-archive}
 use Rattle.state.specs.declared.Meter.{Meter}
 use Rattle.state.specs.declared.Period.{Period}
+use Rattle.state.specs.declared.Counters.{Counters}
 use Rattle.state.specs.declared.Registers.{Registers}
 use Rattle.state.specs.Closing.{periodsOf}
 use Rattle.datasets.specs.Sets.{DataSet, linesOf}
@@ -39,8 +41,8 @@ use Rattle.replies.specs.declared.Ask.{Ask}
 use Rattle.replies.specs.declared.Ask.the-variants as ask
 use Rattle.replies.specs.Shown.{Lengths, rowOf, energy}
 use Rattle.replies.specs.Answers.{askedSets, askedData, answerable}
-use Rattle.replies.specs.Block.{factSets, energySets, tableSets, blockSets, blockData}
-use Rattle.replies.specs.Periods.{keptIn, periodSets, archiveSets, longSets, longData}
+use Rattle.replies.specs.Block.{factSets, energySets, inAndOut, tableSets, blockSets, blockData}
+use Rattle.replies.specs.Periods.{keptIn, keptSets, periodSets, archiveSets, longSets, longData}
 use Rattle.replies.specs.Fixed.{identification, passwordAsk, accepted, refused}
 use Rattle.replies.proofs.Sizes.{row-short}
 
@@ -65,8 +67,8 @@ register-ground g h =
         account = eqb-true (length (g .account)) 10 (and-left account (every isAccountCharacter (g .account)) (f .account));
         rows = rows-long (tablesIn g) (g .tables) (f .tables);
         few = tables-most (g .facts .edition);
-        places = formed-archive (g .archive) (f .archive) .long;
-        kept = formed-archive (g .archive) (f .archive) .count;
+        places = formed-archive (familyIn g) (g .archive) (f .archive) .long;
+        kept = formed-archive (familyIn g) (g .archive) (f .archive) .count;
       };
       serial = and-right serial (every isDigit s) hs;
       account = and-right account (every isAccountCharacter (g .account)) (f .account);
@@ -107,7 +109,8 @@ unfolding askedSets goodSets answerable
 asked-good g ask.Clock h k = rw (time-good (g .clock .time), date-good (g .clock .date))
 asked-good g ask.Serial h k = let f = register-ground g h in rw (serial-good (g .facts .serial) (f .lengths .serial) (f .serial))
 asked-good g ask.Account h k = let f = register-ground g h in rw (account-good (g .account) (f .lengths .account) (f .account))
-asked-good g (ask.Energy e) h k = rw (energy-good (energyNo e) (energy (g .counters) e))
+asked-good g (ask.Energy e) h k = rw (energy-good (familyIn g) false (energyNo e) (energy (g .counters) e))
+asked-good g (ask.Export e) h k = rw (energy-good (familyIn g) true (energyNo e) (energy (g .exported) e))
 asked-good g (ask.Table t) h k =
     let f = register-ground g h in
     let short = row-short (g .tables) (t .0) in
@@ -132,46 +135,58 @@ facts-good g f =
       account-good (g .account) (f .lengths .account) (f .account),
     )
 
-energies-good : (g : Registers) → goodSets (energySets (g .counters)) ≡ true
+energies-good : (family : ℕ) (out : Bool) (c : Counters) → goodSets (energySets family out c) ≡ true
 unfolding energySets goodSets
-energies-good g =
-    let c = g .counters in
+energies-good family out c =
     rw (
-      energy-good 1 (counterOf c 1),
-      energy-good 2 (counterOf c 2),
-      energy-good 3 (counterOf c 3),
-      energy-good 4 (counterOf c 4),
-      energy-good 0 (c .total),
+      energy-good family out 1 (counterOf c 1),
+      energy-good family out 2 (counterOf c 2),
+      energy-good family out 3 (counterOf c 3),
+      energy-good family out 4 (counterOf c 4),
+      energy-good family out 0 (c .total),
     )
+
+both-good : (family : ℕ) (came went : List DataSet) → goodSets came ≡ true → goodSets went ≡ true → goodSets (inAndOut family came went) ≡ true
+unfolding inAndOut
+both-good family came went h k = good-append came (cond (isEqm family) went []) h (by (isEqm family))
+  where
+    by : (b : Bool) → goodSets (cond b went []) ≡ true
+    by true = k
+    by false = unfold goodSets in refl
 
 pub block-good : (g : Registers) → registersGood g ≡ true → goodSets (blockSets (tablesIn g) g) ≡ true
 unfolding blockSets
 block-good g h =
     let f = register-ground g h in
-    good-append _ _ (facts-good g f) (good-append _ _ (energies-good g) (tables-good g f (tablesIn g) (omega arith)))
+    good-append _ _ (facts-good g f) (good-append _ _ (both-good (familyIn g) _ _ (energies-good (familyIn g) false (g .counters)) (energies-good (familyIn g) true (g .exported))) (tables-good g f (tablesIn g) (omega arith)))
 
 -- [12]: and so are the closed periods
-period-sets-good : (k : ℕ) (p : Period) → goodSets (periodSets k p) ≡ true
-unfolding periodSets goodSets
-period-sets-good k p =
+kept-sets-good : (family : ℕ) (out : Bool) (k : ℕ) (zones : List ℕ) → goodSets (keptSets family out k zones) ≡ true
+unfolding keptSets goodSets
+kept-sets-good family out k zones =
     rw (
-      closed-good k (p .closed),
-      kept-good k 1 (keptIn p 1),
-      kept-good k 2 (keptIn p 2),
-      kept-good k 3 (keptIn p 3),
-      kept-good k 4 (keptIn p 4),
+      kept-good family out k 1 (keptIn zones 1),
+      kept-good family out k 2 (keptIn zones 2),
+      kept-good family out k 3 (keptIn zones 3),
+      kept-good family out k 4 (keptIn zones 4),
     )
 
-archive-sets-good : (k : ℕ) (ps : List Period) → goodSets (archiveSets k ps) ≡ true
+period-sets-good : (family k : ℕ) (p : Period) → goodSets (periodSets family k p) ≡ true
+unfolding periodSets goodSets
+period-sets-good family k p =
+    rw (closed-good k (p .closed), both-good family _ _ (kept-sets-good family false k (p .zones)) (kept-sets-good family true k (p .exported)))
+
+archive-sets-good : (family k : ℕ) (ps : List Period) → goodSets (archiveSets family k ps) ≡ true
 unfolding archiveSets goodSets
-archive-sets-good k [] = refl
-archive-sets-good k (p ∷ ps) = good-append (periodSets k p) (archiveSets (k + 1) ps) (period-sets-good k p) (archive-sets-good (k + 1) ps)
+archive-sets-good family k [] = refl
+archive-sets-good family k (p ∷ ps) =
+    good-append (periodSets family k p) (archiveSets family (k + 1) ps) (period-sets-good family k p) (archive-sets-good family (k + 1) ps)
 
 pub long-good : (g : Registers) → registersGood g ≡ true → goodSets (longSets (tablesIn g) g) ≡ true
 unfolding longSets
-long-good g h = good-append (blockSets (tablesIn g) g) (archiveSets 1 (periodsOf (g .archive))) (block-good g h) (archive-sets-good 1 (periodsOf (g .archive)))
+long-good g h = good-append (blockSets (tablesIn g) g) (archiveSets (familyIn g) 1 (periodsOf (g .archive))) (block-good g h) (archive-sets-good (familyIn g) 1 (periodsOf (g .archive)))
 
--- the block is the lines of its data sets and `!` CR LF; nine data sets, and one a table
+-- the block is the lines of its data sets and `!` CR LF; nine data sets, or fourteen of an EQM meter, and one a table
 pub block-is-lines : (tables : ℕ) (g : Registers) → blockData tables g ≡ linesOf (blockSets tables g) ++ (33 ∷ 13 ∷ 10 ∷ [])
 unfolding blockData
 block-is-lines tables g = refl
@@ -181,9 +196,13 @@ unfolding tableSets
 table-sets rows zero = refl
 table-sets rows (suc n) = length-append (tableSets rows n) _ ∙ omega (arith, table-sets rows n)
 
-pub block-sets : (tables : ℕ) (g : Registers) → length (blockSets tables g) ≡ 9 + tables
-unfolding blockSets factSets energySets
-block-sets tables g = omega (arith, table-sets (g .tables) tables)
+pub block-sets : (tables : ℕ) (g : Registers) → length (blockSets tables g) ≡ cond (isEqm (familyIn g)) 14 9 + tables
+unfolding blockSets factSets energySets inAndOut
+block-sets tables g = by (isEqm (familyIn g))
+  where
+    by : (b : Bool) → length (factSets (g .facts .serial) (g .clock) (g .account) ++ ((energySets (familyIn g) false (g .counters) ++ cond b (energySets (familyIn g) true (g .exported)) []) ++ tableSets (g .tables) tables)) ≡ cond b 14 9 + tables
+    by true = omega (arith, table-sets (g .tables) tables)
+    by false = omega (arith, table-sets (g .tables) tables)
 
 -- printable characters, CR and LF alone
 pub asked-shown : (g : Registers) (a : Ask) → registersGood g ≡ true → answerable (tablesIn g) a ≡ true → every (between 10 126) (askedData g a) ≡ true

@@ -74,7 +74,19 @@ pub fn put_asked(buf: &mut [u8], at: usize, g: Registers, a: Ask) -> usize
             return datasets::put_account_set(buf, at, &s);
         }
         Ask::Energy(e) => {
-            return datasets::put_energy_set(buf, at, e, energy_of(g.counters, e));
+            let f = g.facts;
+            return datasets::put_energy_set(
+                buf,
+                at,
+                e,
+                energy_of(g.counters, e),
+                false,
+                f.decimals,
+            );
+        }
+        Ask::Export(e) => {
+            let f = g.facts;
+            return datasets::put_energy_set(buf, at, e, energy_of(g.exported, e), true, f.decimals);
         }
         Ask::Table(t) => {
             let s = g.tables;

@@ -6,8 +6,8 @@ ghost use Rattle.text.specs.Writing.{stored};
 ghost use Rattle.state.specs.Sizes.{tablePlaces, rowLength, periodPlaces};
 ghost use Rattle.datasets.specs.Sets.{linesOf};
 ghost use Rattle.replies.specs.Shown.{Lengths};
-ghost use Rattle.replies.specs.Block.{factSets, energySets, tableSets, blockSets, blockData};
-ghost use Rattle.replies.specs.Periods.{periodSets, archiveSets, longData};
+ghost use Rattle.replies.specs.Block.{factSets, energySets, directionSets, tableSets, blockSets, blockData};
+ghost use Rattle.replies.specs.Periods.{keptSets, periodSets, archiveSets, longData};
 use clock::Clock;
 use state::Counters;
 use state::PERIODS;
@@ -17,6 +17,7 @@ use values::Energy;
 use values::ROW_LENGTH;
 use values::TableNo;
 use values::ZoneNo;
+use values::family::is_eqm;
 
 // Serial, date, time and account.
 fn put_facts(buf: &mut [u8], at: usize, serial: &[u8], clock: Clock, account: &[u8]) -> usize
@@ -30,18 +31,37 @@ fn put_facts(buf: &mut [u8], at: usize, serial: &[u8], clock: Clock, account: &[
     datasets::put_account_set(buf, c, account)
 }
 
-// T1 to T4, then the total.
-fn put_energies(buf: &mut [u8], at: usize, c: Counters) -> usize
+// T1 to T4, then the total, of one direction.
+fn put_energies(buf: &mut [u8], at: usize, c: Counters, out: bool, family: u8) -> usize
     requires { ⌜ at + 120 ≤ length (now buf) ⌝ }
-    ensures next { λ r. ⌜ r ≡ at + 120 ⌝ }
-    ensures held { λ _. ⌜ now (buf .exit) ≡ stored (now (buf .entry)) at (linesOf (energySets c)) ⌝ }
+    ensures next { λ r. ⌜ r ≡ at + length (linesOf (energySets family out c)) ⌝ }
+    ensures held { λ _. ⌜ now (buf .exit) ≡ stored (now (buf .entry)) at (linesOf (energySets family out c)) ⌝ }
 {
     let zones = c.zones;
-    let p = datasets::put_energy_set(buf, at, Energy::Zone(ZoneNo(1)), zones[0]);
-    let q = datasets::put_energy_set(buf, p, Energy::Zone(ZoneNo(2)), zones[1]);
-    let r = datasets::put_energy_set(buf, q, Energy::Zone(ZoneNo(3)), zones[2]);
-    let s = datasets::put_energy_set(buf, r, Energy::Zone(ZoneNo(4)), zones[3]);
-    datasets::put_energy_set(buf, s, Energy::Total, c.total)
+    let p = datasets::put_energy_set(buf, at, Energy::Zone(ZoneNo(1)), zones[0], out, family);
+    let q = datasets::put_energy_set(buf, p, Energy::Zone(ZoneNo(2)), zones[1], out, family);
+    let r = datasets::put_energy_set(buf, q, Energy::Zone(ZoneNo(3)), zones[2], out, family);
+    let s = datasets::put_energy_set(buf, r, Energy::Zone(ZoneNo(4)), zones[3], out, family);
+    datasets::put_energy_set(buf, s, Energy::Total, c.total, out, family)
+}
+
+// What came in, and behind it what went out of an EQM meter.
+fn put_directions(
+    buf: &mut [u8],
+    at: usize,
+    counters: Counters,
+    exported: Counters,
+    family: u8,
+) -> usize
+    requires { ⌜ at + 240 ≤ length (now buf) ⌝ }
+    ensures next { λ r. ⌜ r ≡ at + length (linesOf (directionSets family counters exported)) ⌝ }
+    ensures held { λ _. ⌜ now (buf .exit) ≡ stored (now (buf .entry)) at (linesOf (directionSets family counters exported)) ⌝ }
+{
+    let a = put_energies(buf, at, counters, false, family);
+    if is_eqm(family) {
+        return put_energies(buf, a, exported, true, family);
+    }
+    a
 }
 
 // So many tables, from 01 on.
@@ -63,8 +83,8 @@ fn put_tables(buf: &mut [u8], at: usize, rows: &[u8], tables: u8) -> usize
 
 // All of these.
 fn put_sets(buf: &mut [u8], at: usize, g: Registers, tables: u8) -> usize
-    requires { ⌜ Lengths tables g × (at + 193 + tables * 36 ≤ length (now buf)) ⌝ }
-    ensures next { λ r. ⌜ r ≡ at + 193 + tables * 36 ⌝ }
+    requires { ⌜ Lengths tables g × (at + 313 + tables * 36 ≤ length (now buf)) ⌝ }
+    ensures next { λ r. ⌜ r ≡ at + length (linesOf (blockSets tables g)) ⌝ }
     ensures held { λ _. ⌜ now (buf .exit) ≡ stored (now (buf .entry)) at (linesOf (blockSets tables g)) ⌝ }
 {
     let f = g.facts;
@@ -72,45 +92,65 @@ fn put_sets(buf: &mut [u8], at: usize, g: Registers, tables: u8) -> usize
     let account = g.account;
     let rows = g.tables;
     let a = put_facts(buf, at, &serial, g.clock, &account);
-    let b = put_energies(buf, a, g.counters);
+    let b = put_directions(buf, a, g.counters, g.exported, f.decimals);
     put_tables(buf, b, &rows, tables)
 }
 
 // And the line that ends them.
 pub fn put_block(buf: &mut [u8], at: usize, g: Registers, tables: u8) -> usize
-    requires { ⌜ Lengths tables g × (at + 196 + tables * 36 ≤ length (now buf)) ⌝ }
-    ensures next { λ r. ⌜ r ≡ at + 196 + tables * 36 ⌝ }
+    requires { ⌜ Lengths tables g × (at + 316 + tables * 36 ≤ length (now buf)) ⌝ }
+    ensures next { λ r. ⌜ r ≡ at + length (blockData tables g) ⌝ }
     ensures held { λ _. ⌜ now (buf .exit) ≡ stored (now (buf .entry)) at (blockData tables g) ⌝ }
 {
     let a = put_sets(buf, at, g, tables);
     text::put(buf, a, b"!\r\n")
 }
 
-// The period numbered k: its time, T1 to T4.
-fn put_period(buf: &mut [u8], at: usize, k: u8, p: Period) -> usize
-    requires { ⌜ at + 134 ≤ length (now buf) ⌝ }
-    ensures next { λ r. ⌜ r ≡ at + 134 ⌝ }
-    ensures held { λ _. ⌜ now (buf .exit) ≡ stored (now (buf .entry)) at (linesOf (periodSets k p)) ⌝ }
+// T1 to T4 of the period numbered k, of one direction.
+fn put_kept(buf: &mut [u8], at: usize, k: u8, zones: [u32; 4], out: bool, family: u8) -> usize
+    requires { ⌜ at + 108 ≤ length (now buf) ⌝ }
+    ensures next { λ r. ⌜ r ≡ at + length (linesOf (keptSets family out k zones)) ⌝ }
+    ensures held { λ _. ⌜ now (buf .exit) ≡ stored (now (buf .entry)) at (linesOf (keptSets family out k zones)) ⌝ }
+{
+    let q = datasets::put_kept_set(buf, at, k, ZoneNo(1), zones[0], out, family);
+    let r = datasets::put_kept_set(buf, q, k, ZoneNo(2), zones[1], out, family);
+    let s = datasets::put_kept_set(buf, r, k, ZoneNo(3), zones[2], out, family);
+    datasets::put_kept_set(buf, s, k, ZoneNo(4), zones[3], out, family)
+}
+
+// Its time, and these; of an EQM meter both directions'.
+fn put_period(buf: &mut [u8], at: usize, k: u8, p: Period, family: u8) -> usize
+    requires { ⌜ at + 242 ≤ length (now buf) ⌝ }
+    ensures next { λ r. ⌜ r ≡ at + length (linesOf (periodSets family k p)) ⌝ }
+    ensures held { λ _. ⌜ now (buf .exit) ≡ stored (now (buf .entry)) at (linesOf (periodSets family k p)) ⌝ }
 {
     let zones = p.zones;
-    let o = datasets::put_closed_set(buf, at, k, p.closed);
-    let q = datasets::put_kept_set(buf, o, k, ZoneNo(1), zones[0]);
-    let r = datasets::put_kept_set(buf, q, k, ZoneNo(2), zones[1]);
-    let s = datasets::put_kept_set(buf, r, k, ZoneNo(3), zones[2]);
-    datasets::put_kept_set(buf, s, k, ZoneNo(4), zones[3])
+    let exported = p.exported;
+    let a = datasets::put_closed_set(buf, at, k, p.closed);
+    let b = put_kept(buf, a, k, zones, false, family);
+    if is_eqm(family) {
+        return put_kept(buf, b, k, exported, true, family);
+    }
+    b
 }
 
 // So many periods, numbered from 01 on.
-fn put_periods(buf: &mut [u8], at: usize, periods: [Period; PERIODS], count: usize) -> usize
-    requires { ⌜ (count ≤ periodPlaces) × (at + count * 134 ≤ length (now buf)) ⌝ }
-    ensures next { λ r. ⌜ r ≡ at + count * 134 ⌝ }
-    ensures held { λ _. ⌜ now (buf .exit) ≡ stored (now (buf .entry)) at (linesOf (archiveSets 1 (take count periods))) ⌝ }
+fn put_periods(
+    buf: &mut [u8],
+    at: usize,
+    periods: [Period; PERIODS],
+    count: usize,
+    family: u8,
+) -> usize
+    requires { ⌜ (count ≤ periodPlaces) × (at + count * 226 + 16 ≤ length (now buf)) ⌝ }
+    ensures next { λ r. ⌜ r ≡ at + length (linesOf (archiveSets family 1 (take count periods))) ⌝ }
+    ensures held { λ _. ⌜ now (buf .exit) ≡ stored (now (buf .entry)) at (linesOf (archiveSets family 1 (take count periods))) ⌝ }
 {
     let mut i = 0;
     let mut place = at;
     while i < count {
         let p = periods[i];
-        place = put_period(buf, place, (i + 1) as u8, p);
+        place = put_period(buf, place, (i + 1) as u8, p, family);
         i += 1;
     }
     place
@@ -118,13 +158,14 @@ fn put_periods(buf: &mut [u8], at: usize, periods: [Period; PERIODS], count: usi
 
 // The block with the closed periods after its tables.
 pub fn put_long_block(buf: &mut [u8], at: usize, g: Registers, tables: u8) -> usize
-    requires { ⌜ Lengths tables g × (at + 196 + tables * 36 + g .archive .count * 134 ≤ length (now buf)) ⌝ }
-    ensures next { λ r. ⌜ r ≡ at + 196 + tables * 36 + g .archive .count * 134 ⌝ }
+    requires { ⌜ Lengths tables g × (at + 332 + tables * 36 + g .archive .count * 226 ≤ length (now buf)) ⌝ }
+    ensures next { λ r. ⌜ r ≡ at + length (longData tables g) ⌝ }
     ensures held { λ _. ⌜ now (buf .exit) ≡ stored (now (buf .entry)) at (longData tables g) ⌝ }
 {
+    let f = g.facts;
     let archive = g.archive;
     let periods = archive.periods;
     let a = put_sets(buf, at, g, tables);
-    let b = put_periods(buf, a, periods, archive.count as usize);
+    let b = put_periods(buf, a, periods, archive.count as usize, f.decimals);
     text::put(buf, b, b"!\r\n")
 }

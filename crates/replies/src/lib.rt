@@ -1,7 +1,7 @@
 // What the meter answers: the fixed sequences, the data that R1 asks for, and the data block.
 // Each is put into the reply buffer from its front on, with parity, and its length given.
 ghost use mathlib.Core.Path.{_≡_};
-ghost use Prim.Native.Nat.{_+_, _*_, _≤_};
+ghost use Prim.Native.Nat.{_≤_};
 ghost use lib.ListN.{length};
 ghost use Rattle.text.specs.Writing.{holding};
 ghost use Rattle.frames.specs.Frames.{blockOf, onWire};
@@ -20,12 +20,13 @@ use values::TableNo;
 mod answers;
 mod block;
 
-// What R1 asks for.
+// What R1 asks for: an energy is that of what came in, an export that of what went out.
 pub enum Ask {
     Clock,
     Serial,
     Account,
     Energy(Energy),
+    Export(Energy),
     Table(TableNo),
 }
 
@@ -104,7 +105,7 @@ pub fn answer(buf: &mut [u8], g: Registers, a: Ask) -> usize
 // The data block, with so many tables.
 pub fn data_block(buf: &mut [u8], g: Registers, tables: u8) -> usize
     requires { ⌜ Lengths tables g × (replyRoom ≤ length (now buf)) ⌝ }
-    ensures whole { λ r. ⌜ r ≡ 199 + tables * 36 ⌝ }
+    ensures whole { λ r. ⌜ r ≡ length (blockOf (blockData tables g)) ⌝ }
     ensures held { λ _. ⌜ now (buf .exit) ≡ holding (now (buf .entry)) (onWire (blockOf (blockData tables g))) ⌝ }
 {
     let start = text::put(buf, 0, b"\x02");
@@ -115,7 +116,7 @@ pub fn data_block(buf: &mut [u8], g: Registers, tables: u8) -> usize
 // The data block with the closed periods.
 pub fn long_block(buf: &mut [u8], g: Registers, tables: u8) -> usize
     requires { ⌜ Lengths tables g × (replyRoom ≤ length (now buf)) ⌝ }
-    ensures whole { λ r. ⌜ r ≡ 199 + tables * 36 + g .archive .count * 134 ⌝ }
+    ensures whole { λ r. ⌜ r ≡ length (blockOf (longData tables g)) ⌝ }
     ensures held { λ _. ⌜ now (buf .exit) ≡ holding (now (buf .entry)) (onWire (blockOf (longData tables g))) ⌝ }
 {
     let start = text::put(buf, 0, b"\x02");

@@ -11,14 +11,16 @@ use Rattle.line.proofs.Runs.{and-left, and-right}
 use Rattle.text.specs.Writing.{holding}
 use Rattle.text.specs.Classes.{between}
 use Rattle.values.specs.Edition.{tablesOf}
+use Rattle.values.specs.Family.{isEqm}
 use Rattle.values.specs.Registers.{goodSerial, goodPassword, goodZone}
-use Rattle.commands.specs.Spoken.{Command, readTotal, readZone, goodFields}
+use Rattle.commands.specs.Spoken.{Command, readTotal, readZone, readTotalOut, readZoneOut, goodFields}
 use Rattle.values.proofs.Rules.{digits-long}
 use Rattle.commands.specs.Messages.{call, callTo, goodMessage}
 use Rattle.commands.specs.Building.{builtIn, keptOr, Builds}
 use Rattle.commands.specs.declared.Built.{Built}
+use Rattle.session.proofs.Pairs.{and-all}
 use Rattle.session.specs.declared.Session.{Session}
-use Rattle.session.specs.Messages.{calling}
+use Rattle.session.specs.Messages.{calling, readOf}
 use Rattle.session.specs.Starting.{Told, sessionOf}
 use Rattle.session.specs.Standing.{toldGood, workGood, placeGood, factGood, sessionTold, sessionGood}
 
@@ -82,10 +84,31 @@ module _ (buf command after : List ℕ) (good : Bool) (r : Built) (b : Builds bu
       (e, rw e at held-is)
 
 -- an energy is the total or a zone
-pub energy-good : (tables n : ℕ) (b : Bool) → (b || goodZone n) ≡ goodFields tables (cond b readTotal (readZone n))
+pub energy-good : (tables family n : ℕ) (b : Bool) → (b || goodZone n) ≡ goodFields tables family (cond b readTotal (readZone n))
 unfolding goodFields
-energy-good tables n true = refl
-energy-good tables n false = refl
+energy-good tables family n true = refl
+energy-good tables family n false = refl
+
+-- what went out too, of an EQM meter
+pub export-good : (tables family n : ℕ) (b : Bool) → (isEqm family && (b || goodZone n)) ≡ goodFields tables family (cond b readTotalOut (readZoneOut n))
+unfolding goodFields
+export-good tables family n true = and-all (isEqm family)
+export-good tables family n false = refl
+
+out-by : (n : ℕ) (tables : ℕ) (b : Bool) → goodFields tables 0 (cond b readTotalOut (readZoneOut n)) ≡ false
+unfolding goodFields isEqm
+out-by n tables true = refl
+out-by n tables false = refl
+
+-- and never of one of document 01's family
+pub unsuited : (tables family n : ℕ) → family ≡ 0 → goodFields tables family (readOf 71 n) ≡ false
+unfolding readOf
+unsuited tables family n e = rw e (out-by n tables (eqb n 0))
+
+-- what is not built is the same whatever it would have been
+pub unbuilt : (buf one other after : List ℕ) (r : Built) → Builds buf false one r after → Builds buf false other r after
+unfolding builtIn keptOr
+unbuilt buf one other after r b = record { answer = b .answer; held = b .held }
 
 -- a builder with room and good fields
 module _ (buf command after : List ℕ) (good : Bool) (r : Built) (b : Builds buf good command r after) (room : 64 ≤ length buf) (e : good ≡ true) where
@@ -108,13 +131,13 @@ serial-long flag s h e = digits-long 10 s (told-is flag (goodSerial s) h e)
 pub password-long : (flag : ℕ) (s : List ℕ) → toldGood flag (goodPassword s) ≡ true → flag ≡ 1 → length s ≡ 8
 password-long flag s h e = digits-long 8 s (told-is flag (goodPassword s) h e)
 
-call-by : (tables : ℕ) (k : Bool) (flag : ℕ) (serial other : List ℕ) → eqb flag 1 ≡ k → toldGood flag (goodSerial serial) ≡ true
-    → goodMessage tables (cond k (callTo (cond k serial other)) call) ≡ true
+call-by : (tables family : ℕ) (k : Bool) (flag : ℕ) (serial other : List ℕ) → eqb flag 1 ≡ k → toldGood flag (goodSerial serial) ≡ true
+    → goodMessage tables family (cond k (callTo (cond k serial other)) call) ≡ true
 unfolding goodMessage
-call-by tables true flag serial other e h = told-is flag (goodSerial serial) h (eqb-true flag 1 e)
-call-by tables false flag serial other e h = refl
+call-by tables family true flag serial other e h = told-is flag (goodSerial serial) h (eqb-true flag 1 e)
+call-by tables family false flag serial other e h = refl
 
 -- so the sign-on can be built
-pub call-good : (t : Told) (count : ℕ) → toldGood (t .named) (goodSerial (t .serial)) ≡ true → goodMessage (tablesOf (t .edition)) (calling (sessionOf t count)) ≡ true
+pub call-good : (t : Told) (count : ℕ) → toldGood (t .named) (goodSerial (t .serial)) ≡ true → goodMessage (tablesOf (t .edition)) (t .decimals) (calling (sessionOf t count)) ≡ true
 unfolding calling sessionOf
-call-good t count h = call-by (tablesOf (t .edition)) (eqb (t .named) 1) (t .named) (t .serial) (replicate 10 0) refl h
+call-good t count h = call-by (tablesOf (t .edition)) (t .decimals) (eqb (t .named) 1) (t .named) (t .serial) (replicate 10 0) refl h

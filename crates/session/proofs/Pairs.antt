@@ -26,22 +26,22 @@ and-nothing : (a : Bool) → (a && false) ≡ false
 and-nothing true = refl
 and-nothing false = refl
 
-and-all : (a : Bool) → (a && true) ≡ a
+pub and-all : (a : Bool) → (a && true) ≡ a
 and-all true = refl
 and-all false = refl
 
-module _ (tables : ℕ) (work : List ℕ) (i : ℕ) (good whole : Bool) (so : (good && readsGood tables (drop i work)) ≡ whole) where
+module _ (tables family : ℕ) (work : List ℕ) (i : ℕ) (good whole : Bool) (so : (good && readsGood tables family (drop i work)) ≡ whole) where
   pub reads-turn : i + 2 ≤ length work
-      → ((good && goodFields tables (readOf (getD work i 0) (getD work (i + 1) 0))) && readsGood tables (drop (i + 2) work)) ≡ whole
+      → ((good && goodFields tables family (readOf (getD work i 0) (getD work (i + 1) 0))) && readsGood tables family (drop (i + 2) work)) ≡ whole
   unfolding readsGood
   reads-turn h =
-      and-assoc good (goodFields tables (readOf (getD work i 0) (getD work (i + 1) 0))) (readsGood tables (drop (i + 2) work))
-      ∙ ap (λ (l : List ℕ). good && readsGood tables l) (sym (two-more work i h)) ∙ so
+      and-assoc good (goodFields tables family (readOf (getD work i 0) (getD work (i + 1) 0))) (readsGood tables family (drop (i + 2) work))
+      ∙ ap (λ (l : List ℕ). good && readsGood tables family l) (sym (two-more work i h)) ∙ so
 
   pub reads-odd : i < length work → length work < i + 2 → false ≡ whole
   unfolding readsGood
-  reads-odd h k = sym (and-nothing good) ∙ ap (λ (l : List ℕ). good && readsGood tables l) (sym (one-more work i h k)) ∙ so
+  reads-odd h k = sym (and-nothing good) ∙ ap (λ (l : List ℕ). good && readsGood tables family l) (sym (one-more work i h k)) ∙ so
 
   pub reads-end : length work ≤ i → good ≡ whole
   unfolding readsGood
-  reads-end h = sym (and-all good) ∙ ap (λ (l : List ℕ). good && readsGood tables l) (sym (drop-of-length-le work h)) ∙ so
+  reads-end h = sym (and-all good) ∙ ap (λ (l : List ℕ). good && readsGood tables family l) (sym (drop-of-length-le work h)) ∙ so

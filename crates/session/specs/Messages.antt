@@ -8,7 +8,7 @@ use Rattle.line.specs.Quoted.{char, chars}
 use Rattle.text.specs.Classes.{sameText}
 use Rattle.values.specs.Edition.{tablesOf, rowLength}
 use Rattle.values.specs.Reading.{tableRead}
-use Rattle.commands.specs.Spoken.{Command, enter, password, readClock, readSerial, readAccount, readTotal, readZone, readTable, writeTable, goodFields}
+use Rattle.commands.specs.Spoken.{Command, enter, password, readClock, readSerial, readAccount, readTotal, readZone, readTotalOut, readZoneOut, readTable, writeTable, goodFields}
 use Rattle.commands.specs.Messages.{Message, call, callTo, confirm, command, leave}
 use Rattle.session.specs.declared.Session.{Session}
 
@@ -27,17 +27,18 @@ readOf letter n =
     (cond (eqb letter (char "L")) readSerial
     (cond (eqb letter (char "K")) readAccount
     (cond (eqb letter (char "E")) (cond (eqb n 0) readTotal (readZone n))
-    (cond (eqb letter (char "Z")) (readTable n) (readTable 0)))))
+    (cond (eqb letter (char "G")) (cond (eqb n 0) readTotalOut (readZoneOut n))
+    (cond (eqb letter (char "Z")) (readTable n) (readTable 0))))))
 
 -- a list of reads: letter and number, one read after the other
 unfoldable pub readAt : List ℕ → ℕ → Command
 readAt work i = readOf (getD work (i * 2) 0) (getD work (i * 2 + 1) 0)
 
--- the reads are such as the head can build, of a meter with so many tables
-unfoldable pub readsGood : ℕ → List ℕ → Bool
-readsGood tables [] = true
-readsGood tables (letter ∷ []) = false
-readsGood tables (letter ∷ n ∷ more) = goodFields tables (readOf letter n) && readsGood tables more
+-- the reads are such as the head can build, of a meter with so many tables and of a family
+unfoldable pub readsGood : ℕ → ℕ → List ℕ → Bool
+readsGood tables family [] = true
+readsGood tables family (letter ∷ []) = false
+readsGood tables family (letter ∷ n ∷ more) = goodFields tables family (readOf letter n) && readsGood tables family more
 
 -- what stands in a post's line beside its number and its row
 unfoldable pub wholeLine : List ℕ → Bool

@@ -6,6 +6,7 @@ use lib.Dec.{eqb, leb}
 use Rattle.line.specs.Runs.{every}
 use Rattle.text.specs.Classes.{between}
 use Rattle.values.specs.Edition.{isEdition, tablesOf}
+use Rattle.values.specs.Family.{isFamily}
 use Rattle.values.specs.Registers.{goodSerial, goodPassword}
 use Rattle.session.specs.declared.Session.{Session}
 
@@ -29,10 +30,10 @@ placeGood count sent = (leb 1 count && leb count 32) && (leb 1 sent && leb sent 
 unfoldable pub factGood : ℕ → ℕ → ℕ → Bool
 factGood count sent fact = leb fact 4 && (not (eqb fact 1) || eqb sent (count + 4))
 
--- the edition, and the serial and the password where they were told
+-- the edition and the decimals, and the serial and the password where they were told
 unfoldable pub sessionTold : Session → Bool
 sessionTold s =
-    isEdition (s .edition)
+    (isEdition (s .edition) && isFamily (s .decimals))
     && ((toldGood (s .named) (goodSerial (s .serial)) && keptGood (s .named) (s .serial))
     && (toldGood (s .access) (goodPassword (s .password)) && keptGood (s .access) (s .password)))
 

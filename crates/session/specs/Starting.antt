@@ -1,4 +1,4 @@
--- Request [7]: what a session is told, and how it starts. 16, 28, 29, 20, 30 and 9 in this order, before anything is sent.
+-- Request [7]: what a session is told, and how it starts. 16, 18, 28, 29, 20, 30 and 9 in this order, before anything is sent.
 use mathlib.Core.Path.{_≡_}
 use mathlib.Core.Bool.{Bool, true, false, cond, _&&_}
 use mathlib.Core.List.{List, []}
@@ -7,6 +7,7 @@ use lib.Dec.{eqb, ltb}
 use lib.ListN.{length, replicate}
 use Rattle.text.specs.Writing.{holding}
 use Rattle.values.specs.Edition.{isEdition, tablesOf}
+use Rattle.values.specs.Family.{isFamily}
 use Rattle.values.specs.Registers.{goodSerial, goodPassword}
 use Rattle.frames.specs.Frames.{onWire}
 use Rattle.commands.specs.Messages.{textOf}
@@ -17,18 +18,19 @@ use Rattle.session.specs.declared.Started.{Started}
 use Rattle.session.specs.Messages.{calling, readsGood}
 use Rattle.session.specs.Standing.{toldGood}
 
--- the edition; whom to call (0 any meter, 1 the one of a serial), how to enter (0 `()`, 1 a password), what to do (0 reads, 1 a post)
+-- the edition and, as its decimals, the family; whom to call (0 any meter, 1 the one of a serial), how to enter (0 `()`, 1 a password), what to do (0 reads, 1 a post)
 pub record Told : Type 0 where
   pub edition : ℕ
+  pub decimals : ℕ
   pub named : ℕ
   pub serial : List ℕ
   pub access : ℕ
   pub password : List ℕ
   pub kind : ℕ
 
-abbrev pub toldOf : ℕ → ℕ → List ℕ → ℕ → List ℕ → ℕ → Told
-toldOf edition named serial access password kind =
-    record { edition = edition; named = named; serial = serial; access = access; password = password; kind = kind }
+abbrev pub toldOf : ℕ → ℕ → ℕ → List ℕ → ℕ → List ℕ → ℕ → Told
+toldOf edition decimals named serial access password kind =
+    record { edition = edition; decimals = decimals; named = named; serial = serial; access = access; password = password; kind = kind }
 
 -- the number, a place, the session, and the characters that are sent first
 pub record Opening : Type 0 where
@@ -43,7 +45,7 @@ startedOf o = record { number = o .number; place = o .place; length = length (o 
 
 -- no session
 abbrev pub noSession : Session
-noSession = record { serial = replicate 10 0; password = replicate 8 0; named = 0; access = 0; work = 0; count = 0; sent = 0; fact = 0; edition = 0 }
+noSession = record { serial = replicate 10 0; password = replicate 8 0; named = 0; access = 0; work = 0; count = 0; sent = 0; fact = 0; edition = 0; decimals = 0 }
 
 abbrev pub unopened : ℕ → ℕ → Opening
 unopened number place = record { number = number; place = place; session = noSession; text = [] }
@@ -61,6 +63,7 @@ sessionOf t count =
       sent = 1;
       fact = 0;
       edition = t .edition;
+      decimals = t .decimals;
     }
 
 -- 9 covers the serial, the password and the work, in one
@@ -73,7 +76,7 @@ opened t count good =
 -- reads, two characters each: none gives 28, more than 32 give 29
 unfoldable pub openedReads : Told → List ℕ → Opening
 openedReads t work =
-    cond (eqb (length work) 0) (unopened 28 0) (cond (ltb 64 (length work)) (unopened 29 0) (opened t (length work / 2) (readsGood (tablesOf (t .edition)) work)))
+    cond (eqb (length work) 0) (unopened 28 0) (cond (ltb 64 (length work)) (unopened 29 0) (opened t (length work / 2) (readsGood (tablesOf (t .edition)) (t .decimals) work)))
 
 -- a post of so many lines: `()` gives 30
 unfoldable pub openedPost : Told → ℕ → Opening
@@ -90,14 +93,19 @@ pub record Unposted (t : Told) (work : List ℕ) (o : Opening) : Type 0 where
   pub longest : Longest (IsPost (tablesOf (t .edition))) work (o .place)
   pub refused : o ≡ unopened 20 (o .place)
 
--- what a start comes to: an edition that there is not gives 16; a buffer under 64 gives 19; then a kind of work that is none 9; then reads; then a post
+-- there is such an edition and such a family
+abbrev pub Known : Told → Type 0
+Known t = (isEdition (t .edition) ≡ true) × (isFamily (t .decimals) ≡ true)
+
+-- what a start comes to: an edition that there is not gives 16, decimals that no meter has 18; a buffer under 64 gives 19; then a kind of work that is none 9; then reads; then a post
 pub data Opens (t : Told) (work : List ℕ) (room : ℕ) (o : Opening) : Type 0 where
   unknown : isEdition (t .edition) ≡ false → o ≡ unopened 16 0 → Opens t work room o
-  small : isEdition (t .edition) ≡ true → room < 64 → o ≡ unopened 19 0 → Opens t work room o
-  nothing : isEdition (t .edition) ≡ true → 64 ≤ room → (t .kind ≡ 0 → ⊥) → (t .kind ≡ 1 → ⊥) → o ≡ unopened 9 0 → Opens t work room o
-  reads : isEdition (t .edition) ≡ true → 64 ≤ room → t .kind ≡ 0 → o ≡ openedReads t work → Opens t work room o
-  posts : isEdition (t .edition) ≡ true → 64 ≤ room → t .kind ≡ 1 → Posting t work o → Opens t work room o
-  others : isEdition (t .edition) ≡ true → 64 ≤ room → t .kind ≡ 1 → Unposted t work o → Opens t work room o
+  strange : isEdition (t .edition) ≡ true → isFamily (t .decimals) ≡ false → o ≡ unopened 18 0 → Opens t work room o
+  small : Known t → room < 64 → o ≡ unopened 19 0 → Opens t work room o
+  nothing : Known t → 64 ≤ room → (t .kind ≡ 0 → ⊥) → (t .kind ≡ 1 → ⊥) → o ≡ unopened 9 0 → Opens t work room o
+  reads : Known t → 64 ≤ room → t .kind ≡ 0 → o ≡ openedReads t work → Opens t work room o
+  posts : Known t → 64 ≤ room → t .kind ≡ 1 → Posting t work o → Opens t work room o
+  others : Known t → 64 ≤ room → t .kind ≡ 1 → Unposted t work o → Opens t work room o
 
 -- a start's whole promise: the answer, and the buffer that begins with the sign-on just where the session starts
 pub record Starts (t : Told) (work buf : List ℕ) (r : Started) (after : List ℕ) : Type 0 where

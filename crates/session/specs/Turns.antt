@@ -28,7 +28,7 @@ stepOf t = record { number = t .number; fact = t .fact; message = t .message; le
 -- the session with another message sent, or with a fact that ends it
 abbrev pub standing : Session → ℕ → ℕ → Session
 standing s sent fact =
-    record { serial = s .serial; password = s .password; named = s .named; access = s .access; work = s .work; count = s .count; sent = sent; fact = fact; edition = s .edition }
+    record { serial = s .serial; password = s .password; named = s .named; access = s .access; work = s .work; count = s .count; sent = sent; fact = fact; edition = s .edition; decimals = s .decimals }
 
 -- 19, 31: nothing changed
 abbrev pub unturned : ℕ → Session → Turn
@@ -44,12 +44,12 @@ goesOn s work =
     record { number = 1; fact = 0; message = s .sent + 1; text = textOf (messageAt s work (s .sent + 1)); next = standing s (s .sent + 1) 0 }
 
 -- a block with what a read asked for; a read that the head can't build has no right reply
-unfoldable pub rightRead : ℕ → ℕ → ℕ → List ℕ → Bool
-rightRead tables letter n reply = goodFields tables (readOf letter n) && answers letter n reply
+unfoldable pub rightRead : ℕ → ℕ → ℕ → ℕ → List ℕ → Bool
+rightRead tables family letter n reply = goodFields tables family (readOf letter n) && answers family letter n reply
 
 -- ACK for a table write; for a read a block with what was asked
 unfoldable pub rightWork : Session → List ℕ → ℕ → List ℕ → Bool
-rightWork s work i reply = cond (eqb (s .work) 1) (accepts reply) (rightRead (tablesOf (s .edition)) (getD work (i * 2) 0) (getD work (i * 2 + 1) 0) reply)
+rightWork s work i reply = cond (eqb (s .work) 1) (accepts reply) (rightRead (tablesOf (s .edition)) (s .decimals) (getD work (i * 2) 0) (getD work (i * 2 + 1) 0) reply)
 
 -- the right reply to the message of a number
 unfoldable pub rightAt : Session → List ℕ → ℕ → List ℕ → Bool
@@ -62,7 +62,7 @@ rightAt s work n reply =
 -- after the right reply to the last message it is done; work from which the next message can't be built is not this session's
 unfoldable pub answeredRight : Session → List ℕ → Turn
 answeredRight s work =
-    cond (leb (messages s) (s .sent)) (ends s 1) (cond (goodMessage (tablesOf (s .edition)) (messageAt s work (s .sent + 1))) (goesOn s work) (unturned 31 s))
+    cond (leb (messages s) (s .sent)) (ends s 1) (cond (goodMessage (tablesOf (s .edition)) (s .decimals) (messageAt s work (s .sent + 1))) (goesOn s work) (unturned 31 s))
 
 unfoldable pub answered : Session → List ℕ → List ℕ → Turn
 answered s work reply =

@@ -13,7 +13,7 @@ mod turning;
 
 // What a session was told, and where it stands: `named` 1 calls the meter of the serial, 0 any; `access` 1 enters with the password, 0 with `()`;
 // `work` 1 is a post, 0 reads; `count` messages of work; `sent` is the number of the message sent last; `fact` is 0 while it goes on;
-// `edition` is the meter's.
+// `edition` is the meter's, and `decimals` its family.
 #[repr(C)]
 pub struct Session {
     pub serial: [u8; 10],
@@ -25,6 +25,7 @@ pub struct Session {
     pub sent: u8,
     pub fact: u8,
     pub edition: u8,
+    pub decimals: u8,
 }
 
 // What a reply, or silence, comes to: the fact is 0 (the next message, of that number and length), 1 done, 2 NAK, 3 a wrong reply, 4 silence,

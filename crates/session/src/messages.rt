@@ -26,7 +26,7 @@ const CLOSING: usize = 33;
 
 // The sign-on.
 pub fn call(s: Session, buf: &mut [u8]) -> Built
-    ensures { λ r. ⌜ Builds (now (buf .entry)) (goodMessage (tablesOf (s .edition)) (calling s)) (onWire (textOf (calling s))) r (now (buf .exit)) ⌝ }
+    ensures { λ r. ⌜ Builds (now (buf .entry)) (goodMessage (tablesOf (s .edition)) (s .decimals) (calling s)) (onWire (textOf (calling s))) r (now (buf .exit)) ⌝ }
 {
     if s.named == 1 {
         let serial = s.serial;
@@ -37,7 +37,7 @@ pub fn call(s: Session, buf: &mut [u8]) -> Built
 
 // The password or `()`.
 fn enter(s: Session, buf: &mut [u8]) -> Built
-    ensures { λ r. ⌜ Builds (now (buf .entry)) (goodMessage (tablesOf (s .edition)) (entering s)) (onWire (textOf (entering s))) r (now (buf .exit)) ⌝ }
+    ensures { λ r. ⌜ Builds (now (buf .entry)) (goodMessage (tablesOf (s .edition)) (s .decimals) (entering s)) (onWire (textOf (entering s))) r (now (buf .exit)) ⌝ }
 {
     if s.access == 1 {
         let password = s.password;
@@ -47,8 +47,8 @@ fn enter(s: Session, buf: &mut [u8]) -> Built
 }
 
 // R1 of an energy; 0 is the total.
-fn read_energy(tables: u8, n: u8, buf: &mut [u8]) -> Built
-    ensures { λ r. ⌜ Builds (now (buf .entry)) (goodFields tables (readOf 69 n)) (onWire (spoken (readOf 69 n))) r (now (buf .exit)) ⌝ }
+fn read_energy(tables: u8, family: u8, n: u8, buf: &mut [u8]) -> Built
+    ensures { λ r. ⌜ Builds (now (buf .entry)) (goodFields tables family (readOf 69 n)) (onWire (spoken (readOf 69 n))) r (now (buf .exit)) ⌝ }
 {
     if n == 0 {
         return commands::read_total(buf);
@@ -56,9 +56,22 @@ fn read_energy(tables: u8, n: u8, buf: &mut [u8]) -> Built
     commands::read_zone(buf, ZoneNo(n))
 }
 
+// R1 of what went out, which a meter of document 01's family does not tell.
+fn read_export(tables: u8, family: u8, n: u8, buf: &mut [u8]) -> Built
+    ensures { λ r. ⌜ Builds (now (buf .entry)) (goodFields tables family (readOf 71 n)) (onWire (spoken (readOf 71 n))) r (now (buf .exit)) ⌝ }
+{
+    if family == 0 {
+        return commands::read_zone_out(buf, ZoneNo(0));
+    }
+    if n == 0 {
+        return commands::read_total_out(buf);
+    }
+    commands::read_zone_out(buf, ZoneNo(n))
+}
+
 // A read of a letter and its number.
-fn read(tables: u8, letter: u8, n: u8, buf: &mut [u8]) -> Built
-    ensures { λ r. ⌜ Builds (now (buf .entry)) (goodFields tables (readOf letter n)) (onWire (spoken (readOf letter n))) r (now (buf .exit)) ⌝ }
+fn read(tables: u8, family: u8, letter: u8, n: u8, buf: &mut [u8]) -> Built
+    ensures { λ r. ⌜ Builds (now (buf .entry)) (goodFields tables family (readOf letter n)) (onWire (spoken (readOf letter n))) r (now (buf .exit)) ⌝ }
 {
     if letter == b'T' {
         return commands::read_clock(buf);
@@ -70,7 +83,10 @@ fn read(tables: u8, letter: u8, n: u8, buf: &mut [u8]) -> Built
         return commands::read_account(buf);
     }
     if letter == b'E' {
-        return read_energy(tables, n, buf);
+        return read_energy(tables, family, n, buf);
+    }
+    if letter == b'G' {
+        return read_export(tables, family, n, buf);
     }
     if letter == b'Z' {
         return commands::read_table_of(buf, tables, TableNo(n));
@@ -87,8 +103,8 @@ fn is_whole(s: &[u8]) -> bool
 }
 
 // The write of a post's line.
-fn write_row(tables: u8, s: &[u8], buf: &mut [u8]) -> Built
-    ensures { λ r. ⌜ Builds (now (buf .entry)) (goodFields tables (rowIn tables (now (s .entry)))) (onWire (spoken (rowIn tables (now (s .entry))))) r (now (buf .exit)) ⌝ }
+fn write_row(tables: u8, family: u8, s: &[u8], buf: &mut [u8]) -> Built
+    ensures { λ r. ⌜ Builds (now (buf .entry)) (goodFields tables family (rowIn tables (now (s .entry)))) (onWire (spoken (rowIn tables (now (s .entry))))) r (now (buf .exit)) ⌝ }
 {
     if !is_whole(s) {
         return commands::write_table_of(buf, tables, TableNo(0), b"");
@@ -105,24 +121,31 @@ fn write_row(tables: u8, s: &[u8], buf: &mut [u8]) -> Built
 
 // One message of the work.
 fn work_at(s: Session, work: &[u8], i: u8, buf: &mut [u8]) -> Built
-    ensures { λ r. ⌜ Builds (now (buf .entry)) (goodFields (tablesOf (s .edition)) (workAt s (now (work .entry)) i)) (onWire (spoken (workAt s (now (work .entry)) i))) r (now (buf .exit)) ⌝ }
+    ensures { λ r. ⌜ Builds (now (buf .entry)) (goodFields (tablesOf (s .edition)) (s .decimals) (workAt s (now (work .entry)) i)) (onWire (spoken (workAt s (now (work .entry)) i))) r (now (buf .exit)) ⌝ }
 {
     let tables = values::tables_of(s.edition);
     if s.work == 1 {
         return write_row(
             tables,
+            s.decimals,
             text::first(text::rest(work, i as usize * LINE), LINE),
             buf,
         );
     }
     let at = i as usize * 2;
-    read(tables, text::at(work, at), text::at(work, at + 1), buf)
+    read(
+        tables,
+        s.decimals,
+        text::at(work, at),
+        text::at(work, at + 1),
+        buf,
+    )
 }
 
 // The message of a number, the sign-on being 1.
 pub fn build(s: Session, work: &[u8], n: u8, buf: &mut [u8]) -> Built
     requires { ⌜ s .count ≤ 32 ⌝ }
-    ensures { λ r. ⌜ Builds (now (buf .entry)) (goodMessage (tablesOf (s .edition)) (messageAt s (now (work .entry)) n)) (onWire (textOf (messageAt s (now (work .entry)) n))) r (now (buf .exit)) ⌝ }
+    ensures { λ r. ⌜ Builds (now (buf .entry)) (goodMessage (tablesOf (s .edition)) (s .decimals) (messageAt s (now (work .entry)) n)) (onWire (textOf (messageAt s (now (work .entry)) n))) r (now (buf .exit)) ⌝ }
 {
     if n == 1 {
         return call(s, buf);

@@ -38,7 +38,7 @@ fn fact_good(count: u8, sent: u8, fact: u8) -> bool
     (fact <= 4) & (!(fact == 1) | (sent as u16 == count as u16 + 4))
 }
 
-// The edition, and the serial and the password where they were told.
+// The edition and the decimals, and the serial and the password where they were told.
 fn is_told(s: Session) -> bool
     ensures { λ r. ⌜ r ≡ sessionTold s ⌝ }
 {
@@ -47,7 +47,8 @@ fn is_told(s: Session) -> bool
     let named = told_good(s.named, values::is_digits(&serial, 10)) & kept_good(s.named, &serial);
     let access = told_good(s.access, values::is_digits(&password, 8))
         & kept_good(s.access, &password);
-    values::is_edition(s.edition) & (named & access)
+    let meter = values::is_edition(s.edition) & values::family::is_family(s.decimals);
+    meter & (named & access)
 }
 
 // Whether a session may stand so.

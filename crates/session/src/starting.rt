@@ -20,6 +20,9 @@ use values::ZoneNo;
 // Two characters of a read, and at most so many of all.
 const READS: usize = 64;
 
+// Decimals that no meter has.
+pub const NO_FAMILY: u8 = 18;
+
 // No session, with the number of a refusal.
 fn refuse(number: u8, place: usize) -> Started
     ensures { λ r. ⌜ r ≡ startedOf (unopened number place) ⌝ }
@@ -38,13 +41,14 @@ fn refuse(number: u8, place: usize) -> Started
             sent: 0,
             fact: 0,
             edition: 0,
+            decimals: 0,
         },
     }
 }
 
-// Whether the head can build a read, of a meter with so many tables.
-pub fn read_good(tables: u8, letter: u8, n: u8) -> bool
-    ensures { λ r. ⌜ r ≡ goodFields tables (readOf letter n) ⌝ }
+// Whether the head can build a read, of a meter with so many tables and of a family.
+pub fn read_good(tables: u8, family: u8, letter: u8, n: u8) -> bool
+    ensures { λ r. ⌜ r ≡ goodFields tables family (readOf letter n) ⌝ }
 {
     if letter == b'T' {
         return true;
@@ -58,6 +62,9 @@ pub fn read_good(tables: u8, letter: u8, n: u8) -> bool
     if letter == b'E' {
         return (n == 0) | values::is_zone(ZoneNo(n));
     }
+    if letter == b'G' {
+        return values::family::is_eqm(family) & ((n == 0) | values::is_zone(ZoneNo(n)));
+    }
     if letter == b'Z' {
         return values::is_table(TableNo(n), tables);
     }
@@ -65,8 +72,8 @@ pub fn read_good(tables: u8, letter: u8, n: u8) -> bool
 }
 
 // Whether it can build all of them.
-fn reads_good(tables: u8, work: &[u8]) -> bool
-    ensures { λ r. ⌜ r ≡ readsGood tables (now (work .entry)) ⌝ }
+fn reads_good(tables: u8, family: u8, work: &[u8]) -> bool
+    ensures { λ r. ⌜ r ≡ readsGood tables family (now (work .entry)) ⌝ }
 {
     let mut good = true;
     let mut i = 0;
@@ -74,7 +81,7 @@ fn reads_good(tables: u8, work: &[u8]) -> bool
         if work.len() - i < 2 {
             return false;
         }
-        good = good & read_good(tables, work[i], work[i + 1]);
+        good = good & read_good(tables, family, work[i], work[i + 1]);
         i += 2;
     }
     good
@@ -109,6 +116,7 @@ fn password_kept(access: u8, password: &[u8]) -> [u8; 8]
 // 9, or the session and its sign-on.
 fn begin(
     edition: u8,
+    decimals: u8,
     named: u8,
     serial: &[u8],
     access: u8,
@@ -119,8 +127,8 @@ fn begin(
     buf: &mut [u8],
 ) -> Started
     requires { ⌜ 64 ≤ length (now buf) ⌝ }
-    ensures result { λ r. ⌜ r ≡ startedOf (opened (toldOf edition named (now (serial .entry)) access (now (password .entry)) kind) count good) ⌝ }
-    ensures held { λ _. ⌜ now (buf .exit) ≡ holding (now (buf .entry)) (onWire (opened (toldOf edition named (now (serial .entry)) access (now (password .entry)) kind) count good .text)) ⌝ }
+    ensures result { λ r. ⌜ r ≡ startedOf (opened (toldOf edition decimals named (now (serial .entry)) access (now (password .entry)) kind) count good) ⌝ }
+    ensures held { λ _. ⌜ now (buf .exit) ≡ holding (now (buf .entry)) (onWire (opened (toldOf edition decimals named (now (serial .entry)) access (now (password .entry)) kind) count good .text)) ⌝ }
 {
     let called = told_good(named, values::is_digits(serial, 10));
     let entered = told_good(access, values::is_digits(password, 8));
@@ -137,6 +145,7 @@ fn begin(
         sent: 1,
         fact: 0,
         edition,
+        decimals,
     };
     let built = messages::call(s, buf);
     Started {
@@ -150,6 +159,7 @@ fn begin(
 // Reads: none gives 28, more than 32 give 29.
 fn open_reads(
     edition: u8,
+    decimals: u8,
     named: u8,
     serial: &[u8],
     access: u8,
@@ -159,8 +169,8 @@ fn open_reads(
     buf: &mut [u8],
 ) -> Started
     requires { ⌜ 64 ≤ length (now buf) ⌝ }
-    ensures result { λ r. ⌜ r ≡ startedOf (openedReads (toldOf edition named (now (serial .entry)) access (now (password .entry)) kind) (now (work .entry))) ⌝ }
-    ensures held { λ _. ⌜ now (buf .exit) ≡ holding (now (buf .entry)) (onWire (openedReads (toldOf edition named (now (serial .entry)) access (now (password .entry)) kind) (now (work .entry)) .text)) ⌝ }
+    ensures result { λ r. ⌜ r ≡ startedOf (openedReads (toldOf edition decimals named (now (serial .entry)) access (now (password .entry)) kind) (now (work .entry))) ⌝ }
+    ensures held { λ _. ⌜ now (buf .exit) ≡ holding (now (buf .entry)) (onWire (openedReads (toldOf edition decimals named (now (serial .entry)) access (now (password .entry)) kind) (now (work .entry)) .text)) ⌝ }
 {
     let n = work.len();
     if n == 0 {
@@ -169,9 +179,10 @@ fn open_reads(
     if READS < n {
         return refuse(29, 0);
     }
-    let good = reads_good(values::tables_of(edition), work);
+    let good = reads_good(values::tables_of(edition), decimals, work);
     begin(
         edition,
+        decimals,
         named,
         serial,
         access,
@@ -186,6 +197,7 @@ fn open_reads(
 // A post of so many lines: `()` gives 30.
 fn open_post(
     edition: u8,
+    decimals: u8,
     named: u8,
     serial: &[u8],
     access: u8,
@@ -195,14 +207,15 @@ fn open_post(
     buf: &mut [u8],
 ) -> Started
     requires { ⌜ 64 ≤ length (now buf) ⌝ }
-    ensures result { λ r. ⌜ r ≡ startedOf (openedPost (toldOf edition named (now (serial .entry)) access (now (password .entry)) kind) lines) ⌝ }
-    ensures held { λ _. ⌜ now (buf .exit) ≡ holding (now (buf .entry)) (onWire (openedPost (toldOf edition named (now (serial .entry)) access (now (password .entry)) kind) lines .text)) ⌝ }
+    ensures result { λ r. ⌜ r ≡ startedOf (openedPost (toldOf edition decimals named (now (serial .entry)) access (now (password .entry)) kind) lines) ⌝ }
+    ensures held { λ _. ⌜ now (buf .exit) ≡ holding (now (buf .entry)) (onWire (openedPost (toldOf edition decimals named (now (serial .entry)) access (now (password .entry)) kind) lines .text)) ⌝ }
 {
     if access == 0 {
         return refuse(30, 0);
     }
     begin(
         edition,
+        decimals,
         named,
         serial,
         access,
@@ -214,9 +227,10 @@ fn open_post(
     )
 }
 
-// Starts a session: the meter's edition, whom to call, how to enter, what to do. Nothing is sent where it is refused, and there is no session.
+// Starts a session: the meter's edition and its decimals, whom to call, how to enter, what to do. Nothing is sent where it is refused, and there is no session.
 pub fn start(
     edition: u8,
+    decimals: u8,
     named: u8,
     serial: &[u8],
     access: u8,
@@ -225,16 +239,29 @@ pub fn start(
     work: &[u8],
     buf: &mut [u8],
 ) -> Started
-    ensures { λ r. ⌜ Starts (toldOf edition named (now (serial .entry)) access (now (password .entry)) kind) (now (work .entry)) (now (buf .entry)) r (now (buf .exit)) ⌝ }
+    ensures { λ r. ⌜ Starts (toldOf edition decimals named (now (serial .entry)) access (now (password .entry)) kind) (now (work .entry)) (now (buf .entry)) r (now (buf .exit)) ⌝ }
 {
     if !values::is_edition(edition) {
         return refuse(commands::NO_EDITION, 0);
+    }
+    if !values::family::is_family(decimals) {
+        return refuse(NO_FAMILY, 0);
     }
     if buf.len() < commands::ROOM {
         return refuse(commands::SHORT, 0);
     }
     if kind == 0 {
-        return open_reads(edition, named, serial, access, password, kind, work, buf);
+        return open_reads(
+            edition,
+            decimals,
+            named,
+            serial,
+            access,
+            password,
+            kind,
+            work,
+            buf,
+        );
     }
     if kind != 1 {
         return refuse(commands::FIELD, 0);
@@ -246,6 +273,7 @@ pub fn start(
     }
     open_post(
         edition,
+        decimals,
         named,
         serial,
         access,

@@ -49,10 +49,10 @@ pub fn end(s: Session, fact: u8) -> Step
 }
 
 // Whether a reply is right for a read.
-fn is_right_read(tables: u8, letter: u8, n: u8, reply: &[u8]) -> bool
-    ensures { λ r. ⌜ r ≡ rightRead tables letter n (now (reply .entry)) ⌝ }
+fn is_right_read(tables: u8, family: u8, letter: u8, n: u8, reply: &[u8]) -> bool
+    ensures { λ r. ⌜ r ≡ rightRead tables family letter n (now (reply .entry)) ⌝ }
 {
-    starting::read_good(tables, letter, n) & judging::is_answer(letter, n, reply)
+    starting::read_good(tables, family, letter, n) & judging::is_answer(family, letter, n, reply)
 }
 
 // Whether a reply is right for a message of the work.
@@ -64,7 +64,13 @@ fn is_right_work(s: Session, work: &[u8], i: u8, reply: &[u8]) -> bool
     }
     let at = i as usize * 2;
     let tables = values::tables_of(s.edition);
-    is_right_read(tables, text::at(work, at), text::at(work, at + 1), reply)
+    is_right_read(
+        tables,
+        s.decimals,
+        text::at(work, at),
+        text::at(work, at + 1),
+        reply,
+    )
 }
 
 // Whether a reply is right for the message of a number.

@@ -28,6 +28,7 @@ fn number_of(a: Left) -> u8
 
 fn start(
     edition: u8,
+    decimals: u8,
     named: u8,
     serial: &[u8],
     access: u8,
@@ -38,9 +39,19 @@ fn start(
     size: &mut usize,
     place: &mut usize,
 ) -> Left
-    ensures { λ r. ⌜ Starts (toldOf edition named (now (serial .entry)) access (now (password .entry)) kind) (now (work .entry)) (now (out .entry)) (record { number = r .number; place = now (place .exit); length = now (size .exit); session = r .next }) (now (out .exit)) ⌝ }
+    ensures { λ r. ⌜ Starts (toldOf edition decimals named (now (serial .entry)) access (now (password .entry)) kind) (now (work .entry)) (now (out .entry)) (record { number = r .number; place = now (place .exit); length = now (size .exit); session = r .next }) (now (out .exit)) ⌝ }
 {
-    let a = session::starting::start(edition, named, serial, access, password, kind, work, out);
+    let a = session::starting::start(
+        edition,
+        decimals,
+        named,
+        serial,
+        access,
+        password,
+        kind,
+        work,
+        out,
+    );
     *size = a.length;
     *place = a.place;
     let next = a.session;
@@ -91,6 +102,7 @@ fn hear_nothing(s: Session, fact: &mut u8, message: &mut u8) -> Left
 pub extern "C" fn dirgemist_session_start(
     session: &mut Session,
     edition: u8,
+    decimals: u8,
     named: u8,
     serial: &[u8],
     access: u8,
@@ -101,10 +113,11 @@ pub extern "C" fn dirgemist_session_start(
     size: &mut usize,
     place: &mut usize,
 ) -> u8
-    ensures { λ r. ⌜ Starts (toldOf edition named (now (serial .entry)) access (now (password .entry)) kind) (now (work .entry)) (now (out .entry)) (record { number = r; place = now (place .exit); length = now (size .exit); session = now (session .exit) }) (now (out .exit)) ⌝ }
+    ensures { λ r. ⌜ Starts (toldOf edition decimals named (now (serial .entry)) access (now (password .entry)) kind) (now (work .entry)) (now (out .entry)) (record { number = r; place = now (place .exit); length = now (size .exit); session = now (session .exit) }) (now (out .exit)) ⌝ }
 {
     let a = start(
         edition,
+        decimals,
         named,
         serial,
         access,

@@ -8,7 +8,7 @@ use borrow.Author.Tests.{eqb-true}
 use Rattle.line.specs.Characters.{damagedAt}
 use Rattle.values.specs.Edition.{isEdition}
 use Rattle.state.specs.declared.Meter.{Meter}
-use Rattle.state.specs.WellFormed.{editionOf, wellFormed}
+use Rattle.state.specs.WellFormed.{editionOf, familyOf, wellFormed}
 use Rattle.receiving.specs.declared.Hearing.{Hearing}
 use Rattle.receiving.specs.declared.Hearing.the-variants.{Drop, Hold, Restart, Empty, Line, Confirm, Frame, TooLong}
 use Rattle.receiving.specs.Hearing.{hearing}
@@ -16,7 +16,7 @@ use Rattle.receiving.specs.Receivers.{lastHeld}
 use Rattle.meter.specs.Outcomes.{Outcome, unheard}
 use Rattle.meter.specs.Character.{symbol, heard, taken}
 use Rattle.meter.specs.declared.Event.{Event}
-use Rattle.meter.specs.declared.Event.the-variants.{Character, Silence, Tick, Pulse, PowerUp, Unknown}
+use Rattle.meter.specs.declared.Event.the-variants.{Character, Silence, Tick, Pulse, PowerUp, PulseOut, Unknown}
 use Rattle.meter.specs.Life.{met, refusal, happened}
 use Rattle.meter.proofs.Tests.{met-in-order}
 use Rattle.settling.specs.declared.Heard.{Heard}
@@ -38,13 +38,14 @@ unfolding heardOf heardBy happened taken
 event-settled m (Character b) s = heard-settled m (symbol b) (damagedAt b) (hearing (m .mode) (m .receiver .count) (lastHeld (m .receiver)) (symbol b)) s
 event-settled m Silence s = absurd (let z : _≡_ {A = ℕ} 0 1 = cc in omega arith)
 event-settled m Tick s = absurd (let z : _≡_ {A = ℕ} 0 1 = cc in omega arith)
-event-settled m (Pulse wh) s = absurd (let z : _≡_ {A = ℕ} 0 1 = cc in omega arith)
+event-settled m (Pulse units) s = absurd (let z : _≡_ {A = ℕ} 0 1 = cc in omega arith)
+event-settled m (PulseOut units) s = absurd (let z : _≡_ {A = ℕ} 0 1 = cc in omega arith)
 event-settled m PowerUp s = absurd (let z : _≡_ {A = ℕ} 0 1 = cc in omega arith)
 event-settled m Unknown s = absurd (let z : _≡_ {A = ℕ} 0 1 = cc in omega arith)
 
 pub settled-is : (m : Meter) (room : ℕ) (e : Event) → settles m room e .settled ≡ true → met m room e ≡ settledOutcome m (settles m room e)
 unfolding settles
-settled-is m room e s = met-in-order m room e ∙ go (isEdition (editionOf m)) (refusal room e) (eqb (refusal room e) 0) (wellFormed m) (happened m e) (heardOf m e) (event-settled m e) s
+settled-is m room e s = met-in-order m room e ∙ go (isEdition (editionOf m)) (refusal (familyOf m) room e) (eqb (refusal (familyOf m) room e) 0) (wellFormed m) (happened m e) (heardOf m e) (event-settled m e) s
   where
     go : (k : Bool) (n : ℕ) (p q : Bool) (o : Outcome) (h : Heard) → (h .settled ≡ true → o ≡ settledOutcome m h)
         → cond k (cond p (cond q h (refuses 14 (m .receiver))) (refuses n (m .receiver))) (refuses 16 (m .receiver)) .settled ≡ true
@@ -58,17 +59,17 @@ settled-is m room e s = met-in-order m room e ∙ go (isEdition (editionOf m)) (
 -- what the meter has to act on
 pub record Left (m : Meter) (room : ℕ) (e : Event) : Type 0 where
   pub formed : wellFormed m ≡ true
-  pub unrefused : refusal room e ≡ 0
+  pub unrefused : refusal (familyOf m) room e ≡ 0
   pub all : met m room e ≡ happened m e
 
 pub left-is : (m : Meter) (room : ℕ) (e : Event) → settles m room e .settled ≡ false → Left m room e
 unfolding settles
-left-is m room e = go (isEdition (editionOf m)) refl (eqb (refusal room e) 0) refl (wellFormed m) refl (heardOf m e)
+left-is m room e = go (isEdition (editionOf m)) refl (eqb (refusal (familyOf m) room e) 0) refl (wellFormed m) refl (heardOf m e)
   where
-    go : (k : Bool) → isEdition (editionOf m) ≡ k → (p : Bool) → eqb (refusal room e) 0 ≡ p → (q : Bool) → wellFormed m ≡ q → (h : Heard)
-        → cond k (cond p (cond q h (refuses 14 (m .receiver))) (refuses (refusal room e) (m .receiver))) (refuses 16 (m .receiver)) .settled ≡ false
+    go : (k : Bool) → isEdition (editionOf m) ≡ k → (p : Bool) → eqb (refusal (familyOf m) room e) 0 ≡ p → (q : Bool) → wellFormed m ≡ q → (h : Heard)
+        → cond k (cond p (cond q h (refuses 14 (m .receiver))) (refuses (refusal (familyOf m) room e) (m .receiver))) (refuses 16 (m .receiver)) .settled ≡ false
         → Left m room e
     go false o p a q w h s = absurd (let z : _≡_ {A = ℕ} 0 1 = cc in omega arith)
-    go true o true a true w h s = record { formed = w; unrefused = eqb-true (refusal room e) 0 a; all = met-in-order m room e ∙ rw (o, a, w) }
+    go true o true a true w h s = record { formed = w; unrefused = eqb-true (refusal (familyOf m) room e) 0 a; all = met-in-order m room e ∙ rw (o, a, w) }
     go true o true a false w h s = absurd (let z : _≡_ {A = ℕ} 0 1 = cc in omega arith)
     go true o false a q w h s = absurd (let z : _≡_ {A = ℕ} 0 1 = cc in omega arith)

@@ -7,7 +7,7 @@ use Rattle.line.specs.Characters.{damagedAt}
 use Rattle.values.specs.Edition.{isEdition}
 use Rattle.state.specs.declared.Receiver.{Receiver}
 use Rattle.state.specs.declared.Meter.{Meter}
-use Rattle.state.specs.WellFormed.{editionOf, wellFormed}
+use Rattle.state.specs.WellFormed.{editionOf, familyOf, wellFormed}
 use Rattle.state.specs.Making.{emptyReceiver}
 use Rattle.receiving.specs.declared.Hearing.{Hearing}
 use Rattle.receiving.specs.declared.Hearing.the-variants.{Drop, Hold, Restart, Empty, Line, Confirm, Frame, TooLong}
@@ -17,7 +17,7 @@ use Rattle.state.specs.Setting.{withReceiver}
 use Rattle.meter.specs.Outcomes.{Outcome, speedOf}
 use Rattle.meter.specs.Character.{symbol}
 use Rattle.meter.specs.declared.Event.{Event}
-use Rattle.meter.specs.declared.Event.the-variants.{Character, Silence, Tick, Pulse, PowerUp, Unknown}
+use Rattle.meter.specs.declared.Event.the-variants.{Character, Silence, Tick, Pulse, PowerUp, PulseOut, Unknown}
 use Rattle.meter.specs.Life.{refusal}
 use Rattle.settling.specs.declared.Heard.{Heard}
 
@@ -51,16 +51,17 @@ unfoldable pub heardOf : Meter → Event → Heard
 heardOf m (Character b) = heardBy m b
 heardOf m Silence = ends (m .receiver)
 heardOf m Tick = ends (m .receiver)
-heardOf m (Pulse wh) = ends (m .receiver)
+heardOf m (Pulse units) = ends (m .receiver)
 heardOf m PowerUp = ends (m .receiver)
+heardOf m (PulseOut units) = ends (m .receiver)
 heardOf m Unknown = ends (m .receiver)
 
--- an edition that there is not: 16; what refuses the event whatever the state; then a malformed state: 14
+-- an edition that there is not: 16; what refuses the event whatever the rest of the state; then a malformed state: 14
 unfoldable pub settles : Meter → ℕ → Event → Heard
 settles m room e =
     cond (isEdition (editionOf m))
-    (cond (eqb (refusal room e) 0) (cond (wellFormed m) (heardOf m e) (refuses 14 (m .receiver)))
-    (refuses (refusal room e) (m .receiver)))
+    (cond (eqb (refusal (familyOf m) room e) 0) (cond (wellFormed m) (heardOf m e) (refuses 14 (m .receiver)))
+    (refuses (refusal (familyOf m) room e) (m .receiver)))
     (refuses 16 (m .receiver))
 
 -- all that comes of a settled event

@@ -5,6 +5,7 @@ ghost use Rattle.meter.specs.Life.{eventOf};
 ghost use Rattle.settling.specs.Settling.{goesOn, ends, refuses, heardBy, heardOf, settles};
 use meter::Event;
 use meter::events;
+use meter::passing;
 use receiving::Hearing;
 use state::Meter;
 use state::Receiver;
@@ -82,8 +83,9 @@ fn hear_or_leave(m: Meter, e: Event) -> Heard
         Event::Character(b) => hear(m, b),
         Event::Silence => end(r),
         Event::Tick => end(r),
-        Event::Pulse(wh) => end(r),
+        Event::Pulse(units) => end(r),
         Event::PowerUp => end(r),
+        Event::PulseOut(units) => end(r),
         Event::Unknown => end(r),
     }
 }
@@ -97,7 +99,7 @@ pub fn settle(m: Meter, kind: u8, value: u32, room: usize) -> Heard
         return refuse(16, r);
     }
     let e = events::event_of(kind, value);
-    let number = events::refusal_of(e, room);
+    let number = events::refusal_of(e, passing::family_of(m), room);
     if number != 0 {
         return refuse(number, r);
     }

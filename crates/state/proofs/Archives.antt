@@ -16,7 +16,7 @@ use Rattle.clock.specs.Seconds.{dateOf}
 use Rattle.state.specs.declared.Period.{Period}
 use Rattle.state.specs.declared.Archive.{Archive}
 use Rattle.state.specs.Sizes.{periodPlaces}
-use Rattle.state.specs.WellFormed.{below, zonesBelow, noTime, periodGood, unused, everyPeriod, placeGood, placesGood, archiveGood}
+use Rattle.state.specs.WellFormed.{below, zonesBelow, bothBelow, noTime, periodGood, unused, everyPeriod, placeGood, placesGood, archiveGood}
 use Rattle.state.specs.Making.{noPeriod}
 use Rattle.state.specs.Closing.{periodsOf, closedWith, oneMore}
 
@@ -25,31 +25,31 @@ pub period-next : (i : ℕ) (s : List Period) (d : Period) → i < length s → 
 period-next i s d h = rw add-one (drop-cons s i d h)
 
 -- places behind places
-pub places-append : (i count : ℕ) (ps qs : List Period) → placesGood i count (ps ++ qs) ≡ (placesGood i count ps && placesGood (i + length ps) count qs)
+pub places-append : (family i count : ℕ) (ps qs : List Period) → placesGood family i count (ps ++ qs) ≡ (placesGood family i count ps && placesGood family (i + length ps) count qs)
 unfolding placesGood
-places-append i count [] qs = ap (λ (k : ℕ). placesGood k count qs) (sym (add-zero i))
-places-append i count (p ∷ ps) qs =
-    ap (λ (b : Bool). placeGood (ltb i count) p && b)
-    (places-append (i + 1) count ps qs ∙ ap (λ (k : ℕ). placesGood (i + 1) count ps && placesGood k count qs) (along i (length ps)))
-    ∙ sym (and-assoc (placeGood (ltb i count) p) (placesGood (i + 1) count ps) (placesGood (i + length (p ∷ ps)) count qs))
+places-append family i count [] qs = ap (λ (k : ℕ). placesGood family k count qs) (sym (add-zero i))
+places-append family i count (p ∷ ps) qs =
+    ap (λ (b : Bool). placeGood family (ltb i count) p && b)
+    (places-append family (i + 1) count ps qs ∙ ap (λ (k : ℕ). placesGood family (i + 1) count ps && placesGood family k count qs) (along i (length ps)))
+    ∙ sym (and-assoc (placeGood family (ltb i count) p) (placesGood family (i + 1) count ps) (placesGood family (i + length (p ∷ ps)) count qs))
   where
     along : (j n : ℕ) → j + 1 + n ≡ j + suc n
     along j n = omega arith
 
 -- so many kept, and then unused ones
-all-unused : (i count : ℕ) (ps : List Period) → count ≤ i → placesGood i count ps ≡ everyPeriod unused ps
+all-unused : (family i count : ℕ) (ps : List Period) → count ≤ i → placesGood family i count ps ≡ everyPeriod unused ps
 unfolding placesGood everyPeriod placeGood
-all-unused i count [] h = refl
-all-unused i count (p ∷ ps) h = rw (le-ltb i count h, all-unused (i + 1) count ps (omega (arith, h)))
+all-unused family i count [] h = refl
+all-unused family i count (p ∷ ps) h = rw (le-ltb i count h, all-unused family (i + 1) count ps (omega (arith, h)))
 
-pub places-all : (n i count : ℕ) (ps : List Period) → count ≡ i + n
-    → placesGood i count ps ≡ (everyPeriod periodGood (take n ps) && everyPeriod unused (drop n ps))
+pub places-all : (family n i count : ℕ) (ps : List Period) → count ≡ i + n
+    → placesGood family i count ps ≡ (everyPeriod (periodGood family) (take n ps) && everyPeriod unused (drop n ps))
 unfolding placesGood everyPeriod placeGood
-places-all zero i count ps e = all-unused i count ps (omega (arith, e))
-places-all (suc n) i count [] e = refl
-places-all (suc n) i count (p ∷ ps) e =
-    rw (lt-ltb i count (omega (arith, e)), places-all n (i + 1) count ps (omega (arith, e)))
-    (sym (and-assoc (periodGood p) (everyPeriod periodGood (take n ps)) (everyPeriod unused (drop n ps))))
+places-all family zero i count ps e = all-unused family i count ps (omega (arith, e))
+places-all family (suc n) i count [] e = refl
+places-all family (suc n) i count (p ∷ ps) e =
+    rw (lt-ltb i count (omega (arith, e)), places-all family n (i + 1) count ps (omega (arith, e)))
+    (sym (and-assoc (periodGood family p) (everyPeriod (periodGood family) (take n ps)) (everyPeriod unused (drop n ps))))
 
 one-by-one : (q : List Period) (d : Period) → length q ≡ periodPlaces
     → getD q 0 d ∷ getD q 1 d ∷ getD q 2 d ∷ getD q 3 d ∷ getD q 4 d ∷ getD q 5 d ∷ getD q 6 d ∷ getD q 7 d ∷ getD q 8 d ∷ getD q 9 d ∷ getD q 10 d ∷ getD q 11 d ∷ []
@@ -73,33 +73,33 @@ one-by-one q d n =
     )
 
 -- all twelve, told in fours
-pub twelve-good : (q : List Period) (d : Period) (count : ℕ) → length q ≡ periodPlaces
-    → (placesGood 0 count (getD q 0 d ∷ getD q 1 d ∷ getD q 2 d ∷ getD q 3 d ∷ [])
-    && (placesGood 4 count (getD q 4 d ∷ getD q 5 d ∷ getD q 6 d ∷ getD q 7 d ∷ [])
-    && placesGood 8 count (getD q 8 d ∷ getD q 9 d ∷ getD q 10 d ∷ getD q 11 d ∷ [])))
-    ≡ (everyPeriod periodGood (take count q) && everyPeriod unused (drop count q))
-twelve-good q d count n =
+pub twelve-good : (family : ℕ) (q : List Period) (d : Period) (count : ℕ) → length q ≡ periodPlaces
+    → (placesGood family 0 count (getD q 0 d ∷ getD q 1 d ∷ getD q 2 d ∷ getD q 3 d ∷ [])
+    && (placesGood family 4 count (getD q 4 d ∷ getD q 5 d ∷ getD q 6 d ∷ getD q 7 d ∷ [])
+    && placesGood family 8 count (getD q 8 d ∷ getD q 9 d ∷ getD q 10 d ∷ getD q 11 d ∷ [])))
+    ≡ (everyPeriod (periodGood family) (take count q) && everyPeriod unused (drop count q))
+twelve-good family q d count n =
     let first = getD q 0 d ∷ getD q 1 d ∷ getD q 2 d ∷ getD q 3 d ∷ [] in
     let second = getD q 4 d ∷ getD q 5 d ∷ getD q 6 d ∷ getD q 7 d ∷ [] in
     let third = getD q 8 d ∷ getD q 9 d ∷ getD q 10 d ∷ getD q 11 d ∷ [] in
-    ap (λ (b : Bool). placesGood 0 count first && b) (sym (places-append 4 count second third))
-    ∙ sym (places-append 0 count first (second ++ third))
-    ∙ ap (placesGood 0 count) (one-by-one q d n)
-    ∙ places-all count 0 count q (sym (zero-add count))
+    ap (λ (b : Bool). placesGood family 0 count first && b) (sym (places-append family 4 count second third))
+    ∙ sym (places-append family 0 count first (second ++ third))
+    ∙ ap (placesGood family 0 count) (one-by-one q d n)
+    ∙ places-all family count 0 count q (sym (zero-add count))
 
 -- an archive taken apart
-pub record FormedArchive (a : Archive) : Type 0 where
+pub record FormedArchive (family : ℕ) (a : Archive) : Type 0 where
   pub count : a .count ≤ periodPlaces
   pub long : length (a .periods) ≡ periodPlaces
-  pub good : everyPeriod periodGood (take (a .count) (a .periods)) ≡ true
+  pub good : everyPeriod (periodGood family) (take (a .count) (a .periods)) ≡ true
   pub rest : everyPeriod unused (drop (a .count) (a .periods)) ≡ true
 
-pub formed-archive : (a : Archive) → archiveGood a ≡ true → FormedArchive a
+pub formed-archive : (family : ℕ) (a : Archive) → archiveGood family a ≡ true → FormedArchive family a
 unfolding archiveGood
-formed-archive a h =
+formed-archive family a h =
     let c = leb (a .count) periodPlaces in
     let l = eqb (length (a .periods)) periodPlaces in
-    let g = everyPeriod periodGood (take (a .count) (a .periods)) in
+    let g = everyPeriod (periodGood family) (take (a .count) (a .periods)) in
     let u = everyPeriod unused (drop (a .count) (a .periods)) in
     let front = and-left (c && l) (g && u) h in
     let back = and-right (c && l) (g && u) h in
@@ -118,31 +118,38 @@ zeros (x ∷ z) h =
     let first : x ≡ 0 = omega (arith, ltb-true x 1 (and-left (ltb x 1) (every (below 1) z) h)) in
     ap (λ (n : ℕ). n ∷ z) first ∙ ap (λ (l : List ℕ). 0 ∷ l) (zeros z (and-right (ltb x 1) (every (below 1) z) h))
 
-all-zero : (y m d h n : ℕ) (z : List ℕ) → y ≡ 0 → m ≡ 0 → d ≡ 0 → h ≡ 0 → n ≡ 0 → z ≡ replicate 4 0
-    → _≡_ {A = Period} (record { closed = record { date = dateOf y m d; hour = h; minute = n }; zones = z }) noPeriod
-all-zero y m d h n z ey em ed eh en ez = rw (ey, em, ed, eh, en, ez)
+all-zero : (y m d h n : ℕ) (z o : List ℕ) → y ≡ 0 → m ≡ 0 → d ≡ 0 → h ≡ 0 → n ≡ 0 → z ≡ replicate 4 0 → o ≡ replicate 4 0
+    → _≡_ {A = Period} (record { closed = record { date = dateOf y m d; hour = h; minute = n }; zones = z; exported = o }) noPeriod
+all-zero y m d h n z o ey em ed eh en ez eo = rw (ey, em, ed, eh, en, ez, eo)
+
+four-zeros : (z : List ℕ) → zonesBelow 1 z ≡ true → z ≡ replicate 4 0
+unfolding zonesBelow
+four-zeros z h =
+    let four = eqb-true (length z) 4 (and-left (eqb (length z) 4) (every (below 1) z) h) in
+    zeros z (and-right (eqb (length z) 4) (every (below 1) z) h) ∙ ap (λ (k : ℕ). replicate k 0) four
 
 pub unused-is : (p : Period) → unused p ≡ true → p ≡ noPeriod
-unfolding unused noTime
+unfolding unused noTime bothBelow
 unused-is p e =
     let y = eqb (p .closed .date .year) 0 in
     let m = eqb (p .closed .date .month) 0 in
     let d = eqb (p .closed .date .day) 0 in
     let h = eqb (p .closed .hour) 0 in
     let n = eqb (p .closed .minute) 0 in
-    let z = p .zones in
-    let time = and-left ((y && (m && d)) && (h && n)) (zonesBelow 1 z) e in
-    let zones = and-right ((y && (m && d)) && (h && n)) (zonesBelow 1 z) e in
+    let z = zonesBelow 1 (p .zones) in
+    let o = zonesBelow 1 (p .exported) in
+    let time = and-left ((y && (m && d)) && (h && n)) (z && o) e in
+    let both = and-right ((y && (m && d)) && (h && n)) (z && o) e in
     let date = and-left (y && (m && d)) (h && n) time in
     let hours = and-right (y && (m && d)) (h && n) time in
-    let four = eqb-true (length z) 4 (and-left (eqb (length z) 4) (every (below 1) z) zones) in
-    all-zero _ _ _ _ _ _
+    all-zero _ _ _ _ _ _ _
     (eqb-true (p .closed .date .year) 0 (and-left y (m && d) date))
     (eqb-true (p .closed .date .month) 0 (and-left m d (and-right y (m && d) date)))
     (eqb-true (p .closed .date .day) 0 (and-right m d (and-right y (m && d) date)))
     (eqb-true (p .closed .hour) 0 (and-left h n hours))
     (eqb-true (p .closed .minute) 0 (and-right h n hours))
-    (zeros z (and-right (eqb (length z) 4) (every (below 1) z) zones) ∙ ap (λ (k : ℕ). replicate k 0) four)
+    (four-zeros (p .zones) (and-left z o both))
+    (four-zeros (p .exported) (and-right z o both))
 
 unused-all : (n : ℕ) (ps : List Period) → n ≤ length ps → everyPeriod unused ps ≡ true → replicate n noPeriod ≡ take n ps
 unfolding everyPeriod
@@ -190,13 +197,12 @@ abbrev archiveFrom : List Period → ℕ → Archive
 archiveFrom ps count = record { periods = ps; count = count }
 
 -- one more period: it comes first, and what stood at the first eleven places behind it
-pub one-more-is : (p : Period) (a : Archive) → archiveGood a ≡ true
+pub one-more-is : (p : Period) (a : Archive) → a .count ≤ periodPlaces → length (a .periods) ≡ periodPlaces → everyPeriod unused (drop (a .count) (a .periods)) ≡ true
     → archiveFrom (p ∷ take 11 (a .periods)) (oneMore (a .count)) ≡ closedWith p a
 unfolding closedWith periodsOf
-one-more-is p a h =
-    let f = formed-archive a h in
+one-more-is p a few long rest =
     let ps = a .periods in
-    rw (more (a .count) ps (f .long) (f .count), ← padded 11 (a .count) ps (omega (arith, f .long)) (f .rest))
+    rw (more (a .count) ps long few, ← padded 11 (a .count) ps (omega (arith, long)) rest)
     (let kept = take 11 (take (a .count) ps) in
     ap (λ (k : ℕ). archiveFrom (p ∷ (kept ++ replicate k noPeriod)) (suc (length kept))) (one-off (length kept)))
   where

@@ -4,6 +4,7 @@ use mathlib.Core.Bool.{Bool, true, false, cond, not, _&&_, _||_}
 use mathlib.Core.List.{List, [], _∷_}
 use Prim.Native.Nat.{ℕ, zero, suc, _*_, _≤_, _<_}
 use native.Mathlib.Omega.{arith}
+use native.Mathlib.Nat.{mod-lt}
 use borrow.Author.Tests.{leb-true, le-leb, lt-leb, eqb-true, eq-eqb, ltb-true}
 use lib.Dec.{eqb, leb, ltb}
 use lib.ListN.{length, take, drop, getD}
@@ -13,6 +14,7 @@ use Rattle.text.specs.Classes.{between}
 use Rattle.clock.specs.Seconds.{realClock}
 use Rattle.clock.specs.declared.Clock.{Clock}
 use Rattle.values.specs.Edition.{isEdition}
+use Rattle.values.specs.Family.{isFamily, counterEnd, exportEnd}
 use Rattle.values.specs.Registers.{goodDigits, goodSerial, goodAccount, goodPassword}
 use Rattle.state.specs.declared.Receiver.{Receiver}
 use Rattle.state.specs.declared.Facts.{Facts}
@@ -20,8 +22,8 @@ use Rattle.state.specs.declared.Counters.{Counters}
 use Rattle.state.specs.declared.Archive.{Archive}
 use Rattle.state.specs.declared.Registers.{Registers}
 use Rattle.state.specs.declared.Meter.{Meter}
-use Rattle.state.specs.Sizes.{heldPlaces, rowLength, tablePlaces, counterEnd}
-use Rattle.state.specs.WellFormed.{limit, firstGood, markGood, heldGood, receiverGood, below, zonesGood, total, countersGood, tablesGood, archiveGood, tablesIn, linkGood, decimalsGood, factsGood, factoryGood, registersGood, wellFormed, speedGood, hurtGood}
+use Rattle.state.specs.Sizes.{heldPlaces, rowLength, tablePlaces}
+use Rattle.state.specs.WellFormed.{limit, firstGood, markGood, heldGood, receiverGood, below, zonesBelow, total, countersGood, tablesGood, archiveGood, tablesIn, familyIn, linkGood, factsGood, factoryGood, registersGood, wellFormed, speedGood, hurtGood}
 use Rattle.state.specs.Link.{linkOf, isWired, restSpeed}
 use Rattle.state.specs.Setting.{zonePlace, counterOf, speedIn}
 
@@ -110,9 +112,10 @@ pub record FormedRegisters (g : Registers) : Type 0 where
   pub facts : factsGood (g .facts) ≡ true
   pub account : goodAccount (g .account) ≡ true
   pub clock : realClock (g .clock) ≡ true
-  pub counters : countersGood (g .counters) ≡ true
+  pub counters : countersGood (counterEnd (familyIn g)) (g .counters) ≡ true
+  pub exported : countersGood (exportEnd (familyIn g)) (g .exported) ≡ true
   pub tables : tablesGood (tablesIn g) (g .tables) ≡ true
-  pub archive : archiveGood (g .archive) ≡ true
+  pub archive : archiveGood (familyIn g) (g .archive) ≡ true
 
 pub formed-registers : (g : Registers) → registersGood g ≡ true → FormedRegisters g
 unfolding registersGood factoryGood
@@ -120,23 +123,27 @@ formed-registers g h =
     let f = factsGood (g .facts) in
     let a = goodAccount (g .account) in
     let k = realClock (g .clock) in
-    let c = countersGood (g .counters) in
+    let i = countersGood (counterEnd (familyIn g)) (g .counters) in
+    let o = countersGood (exportEnd (familyIn g)) (g .exported) in
     let t = tablesGood (tablesIn g) (g .tables) in
-    let p = archiveGood (g .archive) in
-    let made = and-left (f && (a && k)) (c && (t && p)) h in
-    let rest = and-right (f && (a && k)) (c && (t && p)) h in
+    let p = archiveGood (familyIn g) (g .archive) in
+    let made = and-left (f && (a && k)) ((i && o) && (t && p)) h in
+    let rest = and-right (f && (a && k)) ((i && o) && (t && p)) h in
+    let both = and-left (i && o) (t && p) rest in
+    let last = and-right (i && o) (t && p) rest in
     record {
       facts = and-left f (a && k) made;
       account = and-left a k (and-right f (a && k) made);
       clock = and-right a k (and-right f (a && k) made);
-      counters = and-left c (t && p) rest;
-      tables = and-left t p (and-right c (t && p) rest);
-      archive = and-right t p (and-right c (t && p) rest);
+      counters = and-left i o both;
+      exported = and-right i o both;
+      tables = and-left t p last;
+      archive = and-right t p last;
     }
 
 pub registers-good : (g : Registers) → FormedRegisters g → registersGood g ≡ true
 unfolding registersGood factoryGood
-registers-good g f = rw (f .facts, f .account, f .clock, f .counters, f .tables, f .archive)
+registers-good g f = rw (f .facts, f .account, f .clock, f .counters, f .exported, f .tables, f .archive)
 
 -- what a meter has for life, taken apart
 pub record FormedFacts (f : Facts) : Type 0 where
@@ -144,7 +151,7 @@ pub record FormedFacts (f : Facts) : Type 0 where
   pub password : goodPassword (f .password) ≡ true
   pub edition : isEdition (f .edition) ≡ true
   pub link : linkGood (f .link) ≡ true
-  pub decimals : decimalsGood (f .decimals) ≡ true
+  pub family : isFamily (f .decimals) ≡ true
 
 pub formed-facts : (f : Facts) → factsGood f ≡ true → FormedFacts f
 unfolding factsGood
@@ -153,7 +160,7 @@ formed-facts f h =
     let p = goodPassword (f .password) in
     let e = isEdition (f .edition) in
     let l = linkGood (f .link) in
-    let d = decimalsGood (f .decimals) in
+    let d = isFamily (f .decimals) in
     let texts = and-left (s && p) (e && (l && d)) h in
     let numbers = and-right (s && p) (e && (l && d)) h in
     record {
@@ -161,7 +168,7 @@ formed-facts f h =
       password = and-right s p texts;
       edition = and-left e (l && d) numbers;
       link = and-left l d (and-right e (l && d) numbers);
-      decimals = and-right l d (and-right e (l && d) numbers);
+      family = and-right l d (and-right e (l && d) numbers);
     }
 
 pub record FormedReceiver (mode : ℕ) (r : Receiver) : Type 0 where
@@ -243,27 +250,32 @@ long m h =
       tables = rows-long (tablesIn (m .registers)) (m .registers .tables) (g .tables);
     }
 
--- of good counters each lies below 1,000,000,000, whatever zone is asked for
-zones-small : (zones : List ℕ) → every (below counterEnd) zones ≡ true → (i : ℕ) → getD zones i 0 < counterEnd
+-- of good counters each lies below its end, whatever zone is asked for
+pub zones-small : (end : ℕ) (zones : List ℕ) → 1 ≤ end → every (below end) zones ≡ true → (i : ℕ) → getD zones i 0 < end
 unfolding every below
-zones-small [] h i = omega arith
-zones-small (wh ∷ zones) h zero = ltb-true wh counterEnd (and-left (ltb wh counterEnd) (every (below counterEnd) zones) h)
-zones-small (wh ∷ zones) h (suc i) = zones-small zones (and-right (ltb wh counterEnd) (every (below counterEnd) zones) h) i
+zones-small end [] low h i = low
+zones-small end (n ∷ zones) low h zero = ltb-true n end (and-left (ltb n end) (every (below end) zones) h)
+zones-small end (n ∷ zones) low h (suc i) = zones-small end zones low (and-right (ltb n end) (every (below end) zones) h) i
 
-pub counter-small : (c : Counters) → countersGood c ≡ true → (n : ℕ) → counterOf c n < counterEnd
-unfolding zonesGood
-counter-small c h n =
-    let zones = and-left (zonesGood (c .zones)) (eqb (c .total) (total c)) h in
-    zones-small (c .zones) (and-right (eqb (length (c .zones)) 4) (every (below counterEnd) (c .zones)) zones) (zonePlace n)
+pub zones-below : (end : ℕ) (zones : List ℕ) → 1 ≤ end → zonesBelow end zones ≡ true → (i : ℕ) → getD zones i 0 < end
+unfolding zonesBelow
+zones-below end zones low h = zones-small end zones low (and-right (eqb (length zones) 4) (every (below end) zones) h)
 
--- the total that is kept is the sum of the four modulo 1,000,000,000, and so below it
-pub total-is-sum : (c : Counters) → countersGood c ≡ true → c .total ≡ total c
-total-is-sum c h = eqb-true (c .total) (total c) (and-right (zonesGood (c .zones)) (eqb (c .total) (total c)) h)
+pub counter-small : (end : ℕ) (c : Counters) → 1 ≤ end → countersGood end c ≡ true → (n : ℕ) → counterOf c n < end
+counter-small end c low h n = zones-below end (c .zones) low (and-left (zonesBelow end (c .zones)) (eqb (c .total) (total end c)) h) (zonePlace n)
 
-pub total-small : (c : Counters) → countersGood c ≡ true → c .total < counterEnd
+-- the total that is kept is the sum of the four, rolled over, and so below the end
+pub total-is-sum : (end : ℕ) (c : Counters) → countersGood end c ≡ true → c .total ≡ total end c
+total-is-sum end c h = eqb-true (c .total) (total end c) (and-right (zonesBelow end (c .zones)) (eqb (c .total) (total end c)) h)
+
+pub total-small : (end : ℕ) (c : Counters) → 1 ≤ end → countersGood end c ≡ true → c .total < end
 unfolding total
-total-small c h = rw (total-is-sum c h) (omega arith)
+total-small end c low h = rw (total-is-sum end c h) (mod-lt _ low)
 
 -- a well-formed meter is of an edition that there is
 pub edition-good : (m : Meter) → wellFormed m ≡ true → isEdition (m .registers .facts .edition) ≡ true
 edition-good m h = formed-facts (m .registers .facts) (formed-registers (m .registers) (formed m h .registers) .facts) .edition
+
+-- and of such a family
+pub family-good : (m : Meter) → wellFormed m ≡ true → isFamily (m .registers .facts .decimals) ≡ true
+family-good m h = formed-facts (m .registers .facts) (formed-registers (m .registers) (formed m h .registers) .facts) .family

@@ -1,24 +1,34 @@
 -- The total keeps up with the four counters: what one of them grows by, the total grows by. Assumes nothing.
-use mathlib.Core.Path.{_≡_}
+use mathlib.Core.Path.{_≡_, sym, _∙_}
 use mathlib.Core.List.{List, [], _∷_}
 use Prim.Native.Nat.{ℕ, zero, suc, _+_, _%_, _<_}
 use native.Mathlib.Omega.{arith}
+use native.Mathlib.Nat.{mod-add-mod, add-mod-mod}
 use lib.ListN.{length, getD, set}
-use Rattle.state.specs.Sizes.{counterEnd}
 use Rattle.state.specs.WellFormed.{sumOf}
 
--- one of them anew
-set-sum : (s : List ℕ) (i wh : ℕ) → i < length s → sumOf (set s i wh) + getD s i 0 ≡ sumOf s + wh
+-- one of them anew: the others, and that one
+others : (s : List ℕ) (i n : ℕ) → i < length s → sumOf (set s i n) ≡ sumOf (set s i 0) + n
 unfolding sumOf
-set-sum [] i wh h = absurd (omega arith)
-set-sum (x ∷ s) zero wh h = omega arith
-set-sum (x ∷ s) (suc i) wh h = omega (arith, set-sum s i wh (omega arith))
+others [] i n h = absurd (omega arith)
+others (x ∷ s) zero n h = omega arith
+others (x ∷ s) (suc i) n h = omega (arith, others s i n (omega arith))
+
+itself : (s : List ℕ) (i : ℕ) → i < length s → sumOf s ≡ sumOf (set s i 0) + getD s i 0
+unfolding sumOf
+itself [] i h = absurd (omega arith)
+itself (x ∷ s) zero h = omega arith
+itself (x ∷ s) (suc i) h = omega (arith, itself s i (omega arith))
 
 -- a sum rolls over as its part does
-rolls : (sum next was wh : ℕ) → next + was ≡ sum + (was + wh) % counterEnd → next % counterEnd ≡ (sum % counterEnd + wh) % counterEnd
-rolls sum next was wh e = omega (arith, e)
+rolls : (end rest was n : ℕ) → (rest + (was + n) % end) % end ≡ ((rest + was) % end + n) % end
+rolls end rest was n =
+    add-mod-mod rest (was + n) end ∙ rw (along rest was n) (sym (mod-add-mod (rest + was) end n))
+  where
+    along : (a b c : ℕ) → a + (b + c) ≡ (a + b) + c
+    along a b c = omega arith
 
-pub grows-alike : (s : List ℕ) (i wh : ℕ) → i < length s
-    → sumOf (set s i ((getD s i 0 + wh) % counterEnd)) % counterEnd ≡ (sumOf s % counterEnd + wh) % counterEnd
-grows-alike s i wh h =
-    rolls (sumOf s) (sumOf (set s i ((getD s i 0 + wh) % counterEnd))) (getD s i 0) wh (set-sum s i ((getD s i 0 + wh) % counterEnd) h)
+pub grows-alike : (end : ℕ) (s : List ℕ) (i n : ℕ) → i < length s
+    → sumOf (set s i ((getD s i 0 + n) % end)) % end ≡ (sumOf s % end + n) % end
+grows-alike end s i n h =
+    rw (others s i ((getD s i 0 + n) % end) h, itself s i h) (rolls end (sumOf (set s i 0)) (getD s i 0) n)

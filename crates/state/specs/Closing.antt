@@ -30,10 +30,10 @@ closedWith p a = archiveOf (take periodPlaces (p ∷ periodsOf a))
 unfoldable pub oneMore : ℕ → ℕ
 oneMore count = cond (ltb count periodPlaces) (count + 1) periodPlaces
 
--- a period: the time without its second, and the counters
-abbrev pub periodOf : Clock → Counters → Period
-periodOf clock counters = record { closed = stampOf clock; zones = counters .zones }
+-- a period: the time without its second, and the counters of both directions
+abbrev pub periodOf : Clock → Counters → Counters → Period
+periodOf clock counters exported = record { closed = stampOf clock; zones = counters .zones; exported = exported .zones }
 
 -- the registers with a period closed, at the time that their clock shows and with their counters, which stay
 abbrev pub closing : Registers → Registers
-closing g = withArchive g (closedWith (periodOf (g .clock) (g .counters)) (g .archive))
+closing g = withArchive g (closedWith (periodOf (g .clock) (g .counters) (g .exported)) (g .archive))

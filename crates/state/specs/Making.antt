@@ -6,6 +6,7 @@ use lib.ListN.{replicate}
 use Rattle.clock.specs.Seconds.{dateOf, timeOf}
 use Rattle.clock.specs.declared.Clock.{Clock}
 use Rattle.values.specs.Edition.{isEdition, tablesOf}
+use Rattle.values.specs.Family.{isFamily}
 use Rattle.state.specs.declared.Receiver.{Receiver}
 use Rattle.state.specs.declared.Facts.{Facts}
 use Rattle.state.specs.declared.Counters.{Counters}
@@ -16,17 +17,17 @@ use Rattle.state.specs.declared.Meter.{Meter}
 use Rattle.state.specs.declared.Made.{Made}
 use Rattle.state.specs.Link.{restSpeed}
 use Rattle.state.specs.Sizes.{heldPlaces, rowLength, tablePlaces, periodPlaces}
-use Rattle.state.specs.WellFormed.{decimalsGood, factoryGood}
+use Rattle.state.specs.WellFormed.{factoryGood}
 
 abbrev pub emptyReceiver : Receiver
-emptyReceiver = record { held = replicate heldPlaces 0; count = 0; mark = 0; place = 0 }
+emptyReceiver = record { count = 0; held = replicate heldPlaces 0; mark = 0; place = 0 }
 
 abbrev pub noCounters : Counters
 noCounters = record { zones = replicate 4 0; total = 0 }
 
 -- an unused place
 abbrev pub noPeriod : Period
-noPeriod = record { closed = record { date = dateOf 0 0 0; hour = 0; minute = 0 }; zones = replicate 4 0 }
+noPeriod = record { closed = record { date = dateOf 0 0 0; hour = 0; minute = 0 }; zones = replicate 4 0; exported = replicate 4 0 }
 
 abbrev pub emptyArchive : Archive
 emptyArchive = record { periods = replicate periodPlaces noPeriod; count = 0 }
@@ -52,6 +53,7 @@ meterOf facts account clock =
             account = account;
             clock = clock;
             counters = noCounters;
+            exported = noCounters;
             tables = newRows (facts .edition);
             archive = emptyArchive;
           };
@@ -63,7 +65,7 @@ blankMeter = meterOf (factsOf (replicate 10 48) (replicate 8 48) 1 1 0) (replica
 
 -- 16 for an edition, then 18 for decimals that no meter has, else 15
 unfoldable pub factsRefused : ℕ → ℕ → ℕ
-factsRefused edition decimals = cond (isEdition edition) (cond (decimalsGood decimals) 15 18) 16
+factsRefused edition decimals = cond (isEdition edition) (cond (isFamily decimals) 15 18) 16
 
 abbrev pub notMade : ℕ → ℕ → Made
 notMade edition decimals = record { number = factsRefused edition decimals; meter = blankMeter }

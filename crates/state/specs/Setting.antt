@@ -17,11 +17,11 @@ use Rattle.state.specs.Making.{emptyReceiver}
 
 -- these characters, so many of them
 abbrev pub withHeld : Receiver → List ℕ → ℕ → Receiver
-withHeld r held count = record { held = held; count = count; mark = r .mark; place = r .place }
+withHeld r held count = record { count = count; held = held; mark = r .mark; place = r .place }
 
 -- this mark, and the place that it speaks of
 abbrev pub withMark : Receiver → ℕ → ℕ → Receiver
-withMark r mark place = record { held = r .held; count = r .count; mark = mark; place = place }
+withMark r mark place = record { count = r .count; held = r .held; mark = mark; place = place }
 
 -- a meter of these
 abbrev pub meterIn : ℕ → ℕ → ℕ → Receiver → Registers → Meter
@@ -48,19 +48,22 @@ abbrev pub withRegisters : Meter → Registers → Meter
 withRegisters m g = meterIn (m .mode) (m .attempts) (m .speed) (m .receiver) g
 
 abbrev pub withAccount : Registers → List ℕ → Registers
-withAccount g a = record { facts = g .facts; account = a; clock = g .clock; counters = g .counters; tables = g .tables; archive = g .archive }
+withAccount g a = record { facts = g .facts; account = a; clock = g .clock; counters = g .counters; exported = g .exported; tables = g .tables; archive = g .archive }
 
 abbrev pub withClock : Registers → Clock → Registers
-withClock g c = record { facts = g .facts; account = g .account; clock = c; counters = g .counters; tables = g .tables; archive = g .archive }
+withClock g c = record { facts = g .facts; account = g .account; clock = c; counters = g .counters; exported = g .exported; tables = g .tables; archive = g .archive }
 
 abbrev pub withCounters : Registers → Counters → Registers
-withCounters g c = record { facts = g .facts; account = g .account; clock = g .clock; counters = c; tables = g .tables; archive = g .archive }
+withCounters g c = record { facts = g .facts; account = g .account; clock = g .clock; counters = c; exported = g .exported; tables = g .tables; archive = g .archive }
+
+abbrev pub withExported : Registers → Counters → Registers
+withExported g c = record { facts = g .facts; account = g .account; clock = g .clock; counters = g .counters; exported = c; tables = g .tables; archive = g .archive }
 
 abbrev pub withTables : Registers → List ℕ → Registers
-withTables g t = record { facts = g .facts; account = g .account; clock = g .clock; counters = g .counters; tables = t; archive = g .archive }
+withTables g t = record { facts = g .facts; account = g .account; clock = g .clock; counters = g .counters; exported = g .exported; tables = t; archive = g .archive }
 
 abbrev pub withArchive : Registers → Archive → Registers
-withArchive g a = record { facts = g .facts; account = g .account; clock = g .clock; counters = g .counters; tables = g .tables; archive = a }
+withArchive g a = record { facts = g .facts; account = g .account; clock = g .clock; counters = g .counters; exported = g .exported; tables = g .tables; archive = a }
 
 -- the counter of a zone
 abbrev pub zonePlace : ℕ → ℕ

@@ -6,10 +6,6 @@ pub use Rattle.values.specs.Edition.{rowLength, tablePlaces}
 abbrev pub heldPlaces : ℕ
 heldPlaces = 63
 
--- a counter rolls over at 1,000,000,000
-abbrev pub counterEnd : ℕ
-counterEnd = 1000000000
-
 -- the least room of a reply buffer
 abbrev pub replyRoom : ℕ
 replyRoom = 4096

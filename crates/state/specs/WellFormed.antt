@@ -10,6 +10,7 @@ use Rattle.clock.specs.Seconds.{realClock, realStamp}
 use Rattle.clock.specs.declared.Clock.{Clock}
 use Rattle.clock.specs.declared.Stamp.{Stamp}
 use Rattle.values.specs.Edition.{isEdition, tablesOf}
+use Rattle.values.specs.Family.{isFamily, counterEnd, exportEnd}
 use Rattle.values.specs.Registers.{goodSerial, goodAccount, goodPassword}
 use Rattle.state.specs.declared.Receiver.{Receiver}
 use Rattle.state.specs.declared.Facts.{Facts}
@@ -19,7 +20,7 @@ use Rattle.state.specs.declared.Archive.{Archive}
 use Rattle.state.specs.declared.Registers.{Registers}
 use Rattle.state.specs.declared.Meter.{Meter}
 use Rattle.state.specs.Link.{linkOf, restSpeed}
-use Rattle.state.specs.Sizes.{heldPlaces, rowLength, tablePlaces, counterEnd, periodPlaces}
+use Rattle.state.specs.Sizes.{heldPlaces, rowLength, tablePlaces, periodPlaces}
 
 -- at most 31 held in mode 0, 5 in mode 1, 63 in modes 2 to 4
 unfoldable pub limit : ℕ → ℕ
@@ -51,27 +52,28 @@ receiverGood mode r =
     (((firstGood mode (r .count) (getD (r .held) 0 0) && markGood (r .count) (r .mark)) && hurtGood (r .count) (r .mark) (r .place)) && heldGood (r .held) (r .count))
     false
 
--- four counters, each 0 to 999,999,999
+-- four counters, each below where it rolls over
 unfoldable pub below : ℕ → ℕ → Bool
 below end n = ltb n end
 
-abbrev pub zonesBelow : ℕ → List ℕ → Bool
+unfoldable pub zonesBelow : ℕ → List ℕ → Bool
 zonesBelow end zones = eqb (length zones) 4 && every (below end) zones
-
-unfoldable pub zonesGood : List ℕ → Bool
-zonesGood zones = zonesBelow counterEnd zones
 
 unfoldable pub sumOf : List ℕ → ℕ
 sumOf [] = 0
 sumOf (wh ∷ rest) = wh + sumOf rest
 
--- the sum of the four modulo 1,000,000,000
-unfoldable pub total : Counters → ℕ
-total c = sumOf (c .zones) % counterEnd
+-- the sum of the four, which rolls over where they do
+unfoldable pub total : ℕ → Counters → ℕ
+total end c = sumOf (c .zones) % end
 
 -- [4]: the total that is kept is that sum
-abbrev pub countersGood : Counters → Bool
-countersGood c = zonesGood (c .zones) && eqb (c .total) (total c)
+abbrev pub countersGood : ℕ → Counters → Bool
+countersGood end c = zonesBelow end (c .zones) && eqb (c .total) (total end c)
+
+-- [10]: what came in and what went out, each with its own four and its own total
+abbrev pub directionsGood : ℕ → Counters → Counters → Bool
+directionsGood family counters exported = countersGood (counterEnd family) counters && countersGood (exportEnd family) exported
 
 -- [3]: a meter's edition says how many tables it has
 abbrev pub tablesIn : Registers → ℕ
@@ -80,52 +82,58 @@ tablesIn g = tablesOf (g .facts .edition)
 abbrev pub editionOf : Meter → ℕ
 editionOf m = m .registers .facts .edition
 
+-- [10]: and its decimals are those of its family
+abbrev pub familyIn : Registers → ℕ
+familyIn g = g .facts .decimals
+
+abbrev pub familyOf : Meter → ℕ
+familyOf m = familyIn (m .registers)
+
 -- so many tables of 24 characters '1' to '4'; the places behind them hold 0
 unfoldable pub tablesGood : ℕ → List ℕ → Bool
 tablesGood n s =
     eqb (length s) (tablePlaces * rowLength) && (every (between 49 52) (take (n * rowLength) s) && every (between 0 0) (drop (n * rowLength) s))
 
--- [12]: a closed period has a real time and four counters
-unfoldable pub periodGood : Period → Bool
-periodGood p = realStamp (p .closed) && zonesGood (p .zones)
+-- [12]: a closed period has a real time and four counters, [10]: in each direction
+unfoldable pub bothBelow : ℕ → ℕ → Period → Bool
+bothBelow end out p = zonesBelow end (p .zones) && zonesBelow out (p .exported)
+
+unfoldable pub periodGood : ℕ → Period → Bool
+periodGood family p = realStamp (p .closed) && bothBelow (counterEnd family) (exportEnd family) p
 
 -- an unused place is all 0
 unfoldable pub noTime : Stamp → Bool
 noTime s = (eqb (s .date .year) 0 && (eqb (s .date .month) 0 && eqb (s .date .day) 0)) && (eqb (s .hour) 0 && eqb (s .minute) 0)
 
 unfoldable pub unused : Period → Bool
-unused p = noTime (p .closed) && zonesBelow 1 (p .zones)
+unused p = noTime (p .closed) && bothBelow 1 1 p
 
 unfoldable pub everyPeriod : (Period → Bool) → List Period → Bool
 everyPeriod p [] = true
 everyPeriod p (x ∷ xs) = p x && everyPeriod p xs
 
 -- places from the i-th on: a period where it is one of the first so many, else nothing
-unfoldable pub placeGood : Bool → Period → Bool
-placeGood used p = cond used (periodGood p) (unused p)
+unfoldable pub placeGood : ℕ → Bool → Period → Bool
+placeGood family used p = cond used (periodGood family p) (unused p)
 
-unfoldable pub placesGood : ℕ → ℕ → List Period → Bool
-placesGood i count [] = true
-placesGood i count (p ∷ ps) = placeGood (ltb i count) p && placesGood (i + 1) count ps
+unfoldable pub placesGood : ℕ → ℕ → ℕ → List Period → Bool
+placesGood family i count [] = true
+placesGood family i count (p ∷ ps) = placeGood family (ltb i count) p && placesGood family (i + 1) count ps
 
 -- 0 to 12 periods are kept, the others of the twelve places are unused
-unfoldable pub archiveGood : Archive → Bool
-archiveGood a =
+unfoldable pub archiveGood : ℕ → Archive → Bool
+archiveGood family a =
     (leb (a .count) periodPlaces && eqb (length (a .periods)) periodPlaces)
-    && (everyPeriod periodGood (take (a .count) (a .periods)) && everyPeriod unused (drop (a .count) (a .periods)))
+    && (everyPeriod (periodGood family) (take (a .count) (a .periods)) && everyPeriod unused (drop (a .count) (a .periods)))
 
 -- a link that there is: 1, the optical one, or 2, the wired one
 unfoldable pub linkGood : ℕ → Bool
 linkGood link = eqb link 1 || eqb link 2
 
--- the decimals of a family that there is: 0 names document 01's
-unfoldable pub decimalsGood : ℕ → Bool
-decimalsGood decimals = eqb decimals 0
-
 -- what a meter has for life: serial, password, edition, link and decimals
 unfoldable pub factsGood : Facts → Bool
 factsGood f =
-    (goodSerial (f .serial) && goodPassword (f .password)) && (isEdition (f .edition) && (linkGood (f .link) && decimalsGood (f .decimals)))
+    (goodSerial (f .serial) && goodPassword (f .password)) && (isEdition (f .edition) && (linkGood (f .link) && isFamily (f .decimals)))
 
 -- what a meter is made from: these, account and clock
 unfoldable pub factoryGood : Facts → List ℕ → Clock → Bool
@@ -133,7 +141,8 @@ factoryGood facts account clock = factsGood facts && (goodAccount account && rea
 
 unfoldable pub registersGood : Registers → Bool
 registersGood g =
-    factoryGood (g .facts) (g .account) (g .clock) && (countersGood (g .counters) && (tablesGood (tablesIn g) (g .tables) && archiveGood (g .archive)))
+    factoryGood (g .facts) (g .account) (g .clock)
+    && (directionsGood (familyIn g) (g .counters) (g .exported) && (tablesGood (tablesIn g) (g .tables) && archiveGood (familyIn g) (g .archive)))
 
 -- speed identifier: on the optical link 0 in modes 0 and 1, 0 or 5 in modes 2 to 4; on the wired one 5
 unfoldable pub speedGood : ℕ → ℕ → ℕ → Bool

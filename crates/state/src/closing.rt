@@ -3,9 +3,9 @@ ghost use mathlib.Core.Path.{_≡_};
 ghost use mathlib.Core.Bool.{true};
 ghost use Prim.Native.Nat.{_≤_};
 ghost use mathlib.Core.List.{[], _∷_};
-ghost use lib.ListN.{length};
+ghost use lib.ListN.{length, drop};
 ghost use Rattle.state.specs.Sizes.{periodPlaces};
-ghost use Rattle.state.specs.WellFormed.{periodGood, noTime, unused, placeGood, placesGood, archiveGood};
+ghost use Rattle.state.specs.WellFormed.{bothBelow, periodGood, noTime, unused, everyPeriod, placeGood, placesGood, archiveGood};
 ghost use Rattle.state.specs.Closing.{oneMore, closedWith, closing};
 ghost use Rattle.state.specs.Making.{noPeriod, emptyArchive};
 use crate::Archive;
@@ -15,6 +15,7 @@ use crate::Registers;
 use crate::setting::with_archive;
 use clock::Date;
 use clock::Stamp;
+use values::family;
 
 fn no_period() -> Period
     ensures { λ r. ⌜ r ≡ noPeriod ⌝ }
@@ -30,6 +31,7 @@ fn no_period() -> Period
             minute: 0,
         },
         zones: [0; 4],
+        exported: [0; 4],
     }
 }
 
@@ -43,12 +45,21 @@ pub fn empty_archive() -> Archive
     }
 }
 
-// Whether a period has a real time and four counters.
-fn period_good(p: Period) -> bool
-    ensures { λ r. ⌜ r ≡ periodGood p ⌝ }
+// Whether its counters are below their ends, those of what went out below their own.
+fn both_below(p: Period, end: u32, out: u32) -> bool
+    ensures { λ r. ⌜ r ≡ bothBelow end out p ⌝ }
 {
     let zones = p.zones;
-    clock::is_stamp(p.closed) & crate::zones_good(&zones)
+    let exported = p.exported;
+    crate::zones_below(&zones, end) & crate::zones_below(&exported, out)
+}
+
+// Whether a period has a real time and the counters of a family.
+fn period_good(p: Period, family: u8) -> bool
+    ensures { λ r. ⌜ r ≡ periodGood family p ⌝ }
+{
+    clock::is_stamp(p.closed)
+        & both_below(p, family::counter_end(family), family::export_end(family))
 }
 
 fn has_no_time(s: Stamp) -> bool
@@ -62,31 +73,30 @@ fn has_no_time(s: Stamp) -> bool
 fn is_unused(p: Period) -> bool
     ensures { λ r. ⌜ r ≡ unused p ⌝ }
 {
-    let zones = p.zones;
-    has_no_time(p.closed) & crate::zones_below(&zones, 1)
+    has_no_time(p.closed) & both_below(p, 1, 1)
 }
 
 // Whether a place holds what it has to.
-fn place_good(p: Period, used: bool) -> bool
-    ensures { λ r. ⌜ r ≡ placeGood used p ⌝ }
+fn place_good(p: Period, used: bool, family: u8) -> bool
+    ensures { λ r. ⌜ r ≡ placeGood family used p ⌝ }
 {
     if used {
-        return period_good(p);
+        return period_good(p, family);
     }
     is_unused(p)
 }
 
 // The same of four places. They are given one by one, so that no place is copied: nearly no event touches the archive, and each looks at it.
-fn four_good(p: Period, q: Period, r: Period, s: Period, first: u8, count: u8) -> bool
+fn four_good(p: Period, q: Period, r: Period, s: Period, first: u8, count: u8, family: u8) -> bool
     requires { ⌜ first ≤ 8 ⌝ }
-    ensures { λ x. ⌜ x ≡ placesGood first count (p ∷ q ∷ r ∷ s ∷ []) ⌝ }
+    ensures { λ x. ⌜ x ≡ placesGood family first count (p ∷ q ∷ r ∷ s ∷ []) ⌝ }
 {
     let second = first + 1;
     let third = second + 1;
     let fourth = third + 1;
-    place_good(p, first < count)
-        & (place_good(q, second < count)
-            & (place_good(r, third < count) & place_good(s, fourth < count)))
+    place_good(p, first < count, family)
+        & (place_good(q, second < count, family)
+            & (place_good(r, third < count, family) & place_good(s, fourth < count, family)))
 }
 
 // How many places there are.
@@ -98,15 +108,15 @@ fn places(periods: [Period; PERIODS]) -> usize
 }
 
 // Whether an archive is well-formed.
-pub fn archive_good(a: Archive) -> bool
-    ensures { λ r. ⌜ r ≡ archiveGood a ⌝ }
+pub fn archive_good(a: Archive, family: u8) -> bool
+    ensures { λ r. ⌜ r ≡ archiveGood family a ⌝ }
 {
     let q = a.periods;
     let count = a.count;
     if count as usize <= places(q) {
-        return four_good(q[0], q[1], q[2], q[3], 0, count)
-            & (four_good(q[4], q[5], q[6], q[7], 4, count)
-                & four_good(q[8], q[9], q[10], q[11], 8, count));
+        return four_good(q[0], q[1], q[2], q[3], 0, count, family)
+            & (four_good(q[4], q[5], q[6], q[7], 4, count, family)
+                & four_good(q[8], q[9], q[10], q[11], 8, count, family));
     }
     false
 }
@@ -122,7 +132,7 @@ fn one_more(count: u8) -> u8
 
 // An archive with one more period.
 fn with_period(a: Archive, p: Period) -> Archive
-    requires { ⌜ archiveGood a ≡ true ⌝ }
+    requires { ⌜ ((a .count ≤ periodPlaces) × (length (a .periods) ≡ periodPlaces)) × (everyPeriod unused (drop (a .count) (a .periods)) ≡ true) ⌝ }
     ensures { λ r. ⌜ r ≡ closedWith p a ⌝ }
 {
     let q = a.periods;
@@ -147,14 +157,17 @@ fn with_period(a: Archive, p: Period) -> Archive
 
 // The registers with a period closed, at their clock and with their counters.
 pub fn close(g: Registers) -> Registers
-    requires { ⌜ archiveGood (g .archive) ≡ true ⌝ }
+    requires { ⌜ archiveGood (g .facts .decimals) (g .archive) ≡ true ⌝ }
     ensures { λ r. ⌜ r ≡ closing g ⌝ }
 {
     let counters = g.counters;
     let zones = counters.zones;
+    let out = g.exported;
+    let exported = out.zones;
     let p = Period {
         closed: clock::stamp_of(g.clock),
         zones,
+        exported,
     };
     with_archive(g, with_period(g.archive, p))
 }

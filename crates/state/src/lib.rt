@@ -1,18 +1,20 @@
 // The meter's state: what it is made of, what is well-formed, and how a new one is made.
 ghost use mathlib.Core.Path.{_≡_};
-ghost use Prim.Native.Nat.{_≤_, _<_};
+ghost use mathlib.Core.Bool.{true};
+ghost use Prim.Native.Nat.{_≤_};
 ghost use lib.ListN.{length};
 ghost use Rattle.line.specs.Runs.{every};
 ghost use Rattle.values.specs.Edition.{isEdition};
 ghost use Rattle.state.specs.Sizes.{heldPlaces};
-ghost use Rattle.state.specs.WellFormed.{limit, firstGood, heldGood, receiverGood, below, zonesBelow, zonesGood, total, countersGood, tablesGood, linkGood, decimalsGood, factsGood, factoryGood, registersGood, editionOf, wellFormed, speedGood, hurtGood};
-ghost use Rattle.state.specs.Making.{newRows, meterOf, blankMeter, factsRefused, notMade, madeOf};
+ghost use Rattle.state.specs.WellFormed.{limit, firstGood, heldGood, receiverGood, below, zonesBelow, total, countersGood, directionsGood, tablesGood, linkGood, factsGood, factoryGood, registersGood, editionOf, wellFormed, speedGood, hurtGood};
+ghost use Rattle.state.specs.Making.{noCounters, newRows, meterOf, blankMeter, factsRefused, notMade, madeOf};
 use clock::Clock;
 use clock::Date;
 use clock::Stamp;
 use clock::Time;
 use values::ROW_LENGTH;
 use values::TABLE_PLACES;
+use values::family;
 
 pub mod closing;
 pub mod link;
@@ -24,9 +26,6 @@ pub const HELD_PLACES: u8 = 63;
 // The rows of all tables, one after the other.
 pub const ALL_ROWS: usize = TABLE_PLACES * ROW_LENGTH;
 
-// A counter rolls over here.
-pub const COUNTER_END: u32 = 1_000_000_000;
-
 // The least room of a reply buffer.
 pub const REPLY_ROOM: usize = 4_096;
 
@@ -34,15 +33,16 @@ pub const REPLY_ROOM: usize = 4_096;
 pub const PERIODS: usize = 12;
 
 // What was received of a line or frame so far; the mark is 1 where damage was seen, else 0, and the place is that of the first damaged character, or 0.
+// The count comes first, so that a meter's held characters start at a whole word.
 #[repr(C)]
 pub struct Receiver {
-    pub held: [u8; HELD_PLACES as usize],
     pub count: u8,
+    pub held: [u8; HELD_PLACES as usize],
     pub mark: u8,
     pub place: u8,
 }
 
-// What a meter has for life. Decimals of 0 name document 01's family.
+// What a meter has for life. The decimals are those of its family, and 0 names document 01's.
 #[repr(C)]
 pub struct Facts {
     pub serial: [u8; 10],
@@ -52,18 +52,19 @@ pub struct Facts {
     pub decimals: u8,
 }
 
-// The zones' counters in Wh, and their sum modulo 1,000,000,000.
+// The zones' counters of one direction, in units of the last place, and their sum, which rolls over where they do.
 #[repr(C)]
 pub struct Counters {
     pub zones: [u32; 4],
     pub total: u32,
 }
 
-// A closed period: when it was closed, and the zones' counters as they stood.
+// A closed period: when it was closed, and the zones' counters of both directions as they stood.
 #[repr(C)]
 pub struct Period {
     pub closed: Stamp,
     pub zones: [u32; 4],
+    pub exported: [u32; 4],
 }
 
 // The closed periods, the newest first; unused places are all 0.
@@ -73,13 +74,14 @@ pub struct Archive {
     pub count: u8,
 }
 
-// What a refused frame never changes.
+// What a refused frame never changes. `counters` are those of what came in, `exported` of what went out.
 #[repr(C)]
 pub struct Registers {
     pub facts: Facts,
     pub account: [u8; 10],
     pub clock: Clock,
     pub counters: Counters,
+    pub exported: Counters,
     pub tables: [u8; ALL_ROWS],
     pub archive: Archive,
 }
@@ -185,33 +187,32 @@ fn zones_below(s: &[u32], end: u32) -> bool
     (s.len() == 4) & all_below(s, end)
 }
 
-fn zones_good(s: &[u32]) -> bool
-    ensures { λ r. ⌜ r ≡ zonesGood (now (s .entry)) ⌝ }
-{
-    zones_below(s, COUNTER_END)
-}
-
-fn wide(wh: u32) -> u64
-    ensures { λ r. ⌜ r ≡ wh ⌝ }
-    ensures small { λ r. ⌜ r < 4294967296 ⌝ }
-{
-    wh as u64
-}
-
-// The sum of the zones modulo 1,000,000,000; the one place where they are added up.
-fn total_of(c: Counters) -> u32
-    ensures { λ r. ⌜ r ≡ total c ⌝ }
+// The sum of the zones, which rolls over where they do; the one place where they are added up.
+fn total_of(c: Counters, end: u32) -> u32
+    requires { ⌜ ((1 ≤ end) × (end ≤ 1000000000)) × (zonesBelow end (c .zones) ≡ true) ⌝ }
+    ensures { λ r. ⌜ r ≡ total end c ⌝ }
 {
     let z = c.zones;
-    let sum = wide(z[0]) + wide(z[1]) + wide(z[2]) + wide(z[3]);
-    (sum % COUNTER_END as u64) as u32
+    (z[0] + z[1] + z[2] + z[3]) % end
 }
 
-fn counters_good(c: Counters) -> bool
-    ensures { λ r. ⌜ r ≡ countersGood c ⌝ }
+fn counters_good(c: Counters, end: u32) -> bool
+    requires { ⌜ (1 ≤ end) × (end ≤ 1000000000) ⌝ }
+    ensures { λ r. ⌜ r ≡ countersGood end c ⌝ }
 {
     let zones = c.zones;
-    zones_good(&zones) & (c.total == total_of(c))
+    if zones_below(&zones, end) {
+        return c.total == total_of(c, end);
+    }
+    false
+}
+
+// Whether what came in and what went out is good.
+fn directions_good(counters: Counters, exported: Counters, family: u8) -> bool
+    ensures { λ r. ⌜ r ≡ directionsGood family counters exported ⌝ }
+{
+    counters_good(counters, family::counter_end(family))
+        & counters_good(exported, family::export_end(family))
 }
 
 // Whether so many rows hold '1' to '4', and the places behind them 0.
@@ -229,12 +230,6 @@ fn link_good(link: u8) -> bool
     (link == 1) | (link == 2)
 }
 
-fn decimals_good(decimals: u8) -> bool
-    ensures { λ r. ⌜ r ≡ decimalsGood decimals ⌝ }
-{
-    decimals == 0
-}
-
 // Whether what a meter has for life is good.
 fn facts_good(f: Facts) -> bool
     ensures { λ r. ⌜ r ≡ factsGood f ⌝ }
@@ -242,7 +237,7 @@ fn facts_good(f: Facts) -> bool
     let serial = f.serial;
     let password = f.password;
     (values::is_digits(&serial, 10) & values::is_digits(&password, 8))
-        & (values::is_edition(f.edition) & (link_good(f.link) & decimals_good(f.decimals)))
+        & (values::is_edition(f.edition) & (link_good(f.link) & family::is_family(f.decimals)))
 }
 
 // Whether the facts that a meter is made from are good.
@@ -257,11 +252,11 @@ fn registers_good(g: Registers) -> bool
     ensures { λ r. ⌜ r ≡ registersGood g ⌝ }
 {
     let account = g.account;
-    if factory_good(g.facts, &account, g.clock) & counters_good(g.counters) {
+    let f = g.facts;
+    if factory_good(f, &account, g.clock) & directions_good(g.counters, g.exported, f.decimals) {
         let tables = g.tables;
-        let f = g.facts;
         return tables_good(&tables, values::tables_of(f.edition))
-            & closing::archive_good(g.archive);
+            & closing::archive_good(g.archive, f.decimals);
     }
     false
 }
@@ -309,10 +304,20 @@ fn new_rows(edition: u8) -> [u8; ALL_ROWS]
     rows
 }
 
+fn no_counters() -> Counters
+    ensures { λ r. ⌜ r ≡ noCounters ⌝ }
+{
+    Counters {
+        zones: [0; 4],
+        total: 0,
+    }
+}
+
 // A new meter: counters 0, attempts 0, all tables '1', no closed period, mode 0, an empty receiver.
 fn meter_of(facts: Facts, account: [u8; 10], clock: Clock) -> Meter
     ensures { λ r. ⌜ r ≡ meterOf facts account clock ⌝ }
 {
+    let none = no_counters();
     Meter {
         mode: 0,
         attempts: 0,
@@ -322,10 +327,8 @@ fn meter_of(facts: Facts, account: [u8; 10], clock: Clock) -> Meter
             facts,
             account,
             clock,
-            counters: Counters {
-                zones: [0; 4],
-                total: 0,
-            },
+            counters: none,
+            exported: none,
             tables: new_rows(facts.edition),
             archive: closing::empty_archive(),
         },
@@ -363,7 +366,7 @@ fn facts_refused(edition: u8, decimals: u8) -> u8
     ensures { λ r. ⌜ r ≡ factsRefused edition decimals ⌝ }
 {
     if values::is_edition(edition) {
-        if decimals_good(decimals) {
+        if family::is_family(decimals) {
             return 15;
         }
         return 18;

@@ -4,7 +4,7 @@ ghost use Prim.Native.Nat.{_≤_};
 ghost use lib.ListN.{length};
 ghost use Rattle.state.specs.Sizes.{rowLength, tablePlaces};
 ghost use Rattle.state.specs.Making.{emptyReceiver};
-ghost use Rattle.state.specs.Setting.{withHeld, withMark, withReceiver, inMode, withAttempts, withRegisters, withAccount, withClock, withCounters, withTables, withArchive, withZones, withTotal, withRow, rowStart, zonePlace, counterOf, speedIn, withSpeed};
+ghost use Rattle.state.specs.Setting.{withHeld, withMark, withReceiver, inMode, withAttempts, withRegisters, withAccount, withClock, withCounters, withExported, withTables, withArchive, withZones, withTotal, withRow, rowStart, zonePlace, counterOf, speedIn, withSpeed};
 use crate::ALL_ROWS;
 use crate::Archive;
 use crate::Counters;
@@ -23,8 +23,8 @@ pub fn empty_receiver() -> Receiver
     ensures { λ r. ⌜ r ≡ emptyReceiver ⌝ }
 {
     Receiver {
-        held: [0; HELD_PLACES as usize],
         count: 0,
+        held: [0; HELD_PLACES as usize],
         mark: 0,
         place: 0,
     }
@@ -128,6 +128,14 @@ pub fn with_counters(g: Registers, counters: Counters) -> Registers
 {
     let mut next = g;
     next.counters = counters;
+    next
+}
+
+pub fn with_exported(g: Registers, exported: Counters) -> Registers
+    ensures { λ x. ⌜ x ≡ withExported g exported ⌝ }
+{
+    let mut next = g;
+    next.exported = exported;
     next
 }
 

@@ -1,15 +1,16 @@
 -- Document 01, "Other events": Monday to Friday uses table = month, Saturday and Sunday 12 + month; the character for the hour names the zone,
--- whose counter grows modulo 1,000,000,000. [3]: edition 2 uses 25 on every Saturday.
+-- whose counter grows. [3]: edition 2 uses 25 on every Saturday. [10]: a pulse says its direction, and a counter rolls over where its family's do.
 use mathlib.Core.Bool.{Bool, cond, _&&_}
 use Prim.Native.Nat.{ℕ, _+_, _-_, _%_}
 use lib.Dec.{eqb, ltb}
 use lib.ListN.{getD, set}
 use Rattle.clock.specs.Weekday.{weekday}
 use Rattle.clock.specs.declared.Date.{Date}
+use Rattle.values.specs.Family.{counterEnd, exportEnd}
 use Rattle.state.specs.declared.Counters.{Counters}
 use Rattle.state.specs.declared.Registers.{Registers}
-use Rattle.state.specs.Sizes.{counterEnd}
-use Rattle.state.specs.Setting.{rowStart, zonePlace, counterOf, withZones, withTotal}
+use Rattle.state.specs.WellFormed.{familyIn}
+use Rattle.state.specs.Setting.{rowStart, zonePlace, counterOf, withZones, withTotal, withCounters, withExported}
 
 -- a Saturday of a meter that has a table for it
 unfoldable pub ownDay : ℕ → ℕ → Bool
@@ -22,12 +23,19 @@ tableFor edition d = cond (ltb (weekday d) 5) (d .month) (cond (ownDay edition (
 unfoldable pub zoneIn : Registers → ℕ
 zoneIn g = getD (g .tables) (rowStart (tableFor (g .facts .edition) (g .clock .date)) + g .clock .time .hour) 0 - 48
 
-abbrev pub grown : ℕ → ℕ → ℕ
-grown counter wh = (counter + wh) % counterEnd
+abbrev pub grown : ℕ → ℕ → ℕ → ℕ
+grown end counter units = (counter + units) % end
 
 -- the counter of a zone, 1 to 4, and with it the total; another zone has none
-unfoldable pub counted : Counters → ℕ → ℕ → Counters
-counted c zone wh =
+unfoldable pub counted : ℕ → Counters → ℕ → ℕ → Counters
+counted end c zone units =
     cond (ltb (zonePlace zone) 4)
-    (withTotal (withZones c (set (c .zones) (zonePlace zone) (grown (counterOf c zone) wh))) (grown (c .total) wh))
+    (withTotal (withZones c (set (c .zones) (zonePlace zone) (grown end (counterOf c zone) units))) (grown end (c .total) units))
     c
+
+-- what comes in, and what goes out
+abbrev pub countedIn : Registers → ℕ → Registers
+countedIn g units = withCounters g (counted (counterEnd (familyIn g)) (g .counters) (zoneIn g) units)
+
+abbrev pub countedOut : Registers → ℕ → Registers
+countedOut g units = withExported g (counted (exportEnd (familyIn g)) (g .exported) (zoneIn g) units)

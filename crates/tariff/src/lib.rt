@@ -2,17 +2,17 @@
 ghost use mathlib.Core.Path.{_≡_};
 ghost use mathlib.Core.Bool.{true};
 ghost use Prim.Native.Nat.{_-_, _≤_, _<_};
-ghost use Rattle.state.specs.Sizes.{counterEnd};
-ghost use Rattle.state.specs.WellFormed.{countersGood, archiveGood};
-ghost use Rattle.tariff.specs.Zones.{ownDay, tableFor, zoneIn, grown, counted};
+ghost use Rattle.values.specs.Family.{counterEnd, exportEnd};
+ghost use Rattle.state.specs.WellFormed.{familyIn, countersGood, archiveGood};
+ghost use Rattle.tariff.specs.Zones.{ownDay, tableFor, zoneIn, grown, counted, countedIn, countedOut};
 ghost use Rattle.tariff.specs.Months.{monthStarts, monthClosed, secondLater};
 use clock::Clock;
 use clock::Date;
-use state::COUNTER_END;
 use state::Counters;
 use state::Registers;
 use values::TableNo;
 use values::ZoneNo;
+use values::family;
 
 // The day's table: the month's, that of Saturdays, or that of the month's other days.
 pub fn table_for(edition: u8, d: Date) -> TableNo
@@ -50,27 +50,49 @@ pub fn zone_in(g: Registers) -> ZoneNo
     ZoneNo(digit(text::at(&rows, at)))
 }
 
-// A counter some Wh on; it rolls over at 1,000,000,000.
-fn grow(counter: u32, wh: u32) -> u32
-    requires { ⌜ (counter < counterEnd) × (wh ≤ 1000000) ⌝ }
-    ensures { λ r. ⌜ r ≡ grown counter wh ⌝ }
+// A counter some units of the last place on; it rolls over at an end.
+fn grow(counter: u32, units: u32, end: u32) -> u32
+    requires { ⌜ ((counter < end) × (end ≤ 1000000000)) × (units ≤ 1000000) ⌝ }
+    ensures { λ r. ⌜ r ≡ grown end counter units ⌝ }
 {
-    (counter + wh) % COUNTER_END
+    (counter + units) % end
 }
 
 // The counters after a pulse in a zone, and their total with them.
-pub fn count(c: Counters, zone: ZoneNo, wh: u32) -> Counters
-    requires { ⌜ (countersGood c ≡ true) × (wh ≤ 1000000) ⌝ }
-    ensures { λ r. ⌜ r ≡ counted c (zone .0) wh ⌝ }
+pub fn count(c: Counters, zone: ZoneNo, units: u32, end: u32) -> Counters
+    requires { ⌜ ((1 ≤ end) × (end ≤ 1000000000)) × ((countersGood end c ≡ true) × (units ≤ 1000000)) ⌝ }
+    ensures { λ r. ⌜ r ≡ counted end c (zone .0) units ⌝ }
 {
     let mut zones = c.zones;
     let i = state::setting::zone_place(zone);
     if i < 4 {
-        zones[i] = grow(zones[i], wh);
+        zones[i] = grow(zones[i], units, end);
         let next = state::setting::with_zones(c, zones);
-        return state::setting::with_total(next, grow(c.total, wh));
+        return state::setting::with_total(next, grow(c.total, units, end));
     }
     c
+}
+
+// The registers after a pulse of what comes in.
+pub fn count_in(g: Registers, units: u32) -> Registers
+    requires { ⌜ ((g .clock .date .month ≤ 12) × (countersGood (counterEnd (familyIn g)) (g .counters) ≡ true)) × (units ≤ 1000000) ⌝ }
+    ensures { λ r. ⌜ r ≡ countedIn g units ⌝ }
+{
+    let f = g.facts;
+    let c = g.counters;
+    let next = count(c, zone_in(g), units, family::counter_end(f.decimals));
+    state::setting::with_counters(g, next)
+}
+
+// The registers after a pulse of what goes out.
+pub fn count_out(g: Registers, units: u32) -> Registers
+    requires { ⌜ ((g .clock .date .month ≤ 12) × (countersGood (exportEnd (familyIn g)) (g .exported) ≡ true)) × (units ≤ 1000000) ⌝ }
+    ensures { λ r. ⌜ r ≡ countedOut g units ⌝ }
+{
+    let f = g.facts;
+    let c = g.exported;
+    let next = count(c, zone_in(g), units, family::export_end(f.decimals));
+    state::setting::with_exported(g, next)
 }
 
 // Whether it is 00:00:00 on the first of a month.
@@ -84,7 +106,7 @@ fn month_starts(c: Clock) -> bool
 
 // A month that starts closes a period.
 fn close_month(g: Registers) -> Registers
-    requires { ⌜ archiveGood (g .archive) ≡ true ⌝ }
+    requires { ⌜ archiveGood (familyIn g) (g .archive) ≡ true ⌝ }
     ensures { λ r. ⌜ r ≡ monthClosed g ⌝ }
 {
     if month_starts(g.clock) {
@@ -95,7 +117,7 @@ fn close_month(g: Registers) -> Registers
 
 // The registers a second later.
 pub fn second_later(g: Registers) -> Registers
-    requires { ⌜ archiveGood (g .archive) ≡ true ⌝ }
+    requires { ⌜ archiveGood (familyIn g) (g .archive) ≡ true ⌝ }
     ensures { λ r. ⌜ r ≡ secondLater g ⌝ }
 {
     close_month(state::setting::with_clock(g, clock::next_second(g.clock)))

@@ -3,9 +3,10 @@ use mathlib.Core.Path.{_≡_, refl, sym, ap, ap₂, _∙_}
 use mathlib.Core.Bool.{Bool, true, false, _&&_}
 use mathlib.Core.List.{List, [], _∷_, _++_, append-nil, append-assoc}
 use Prim.Native.Nat.{ℕ, zero, suc, _+_, _-_, _*_, _/_, _%_, _^_, _<_, _≤_}
-use native.Mathlib.Nat.{lt-of-lt-of-le, le-trans, le-of-eq, mul-le-mul-right, mul-assoc, mul-comm, one-mul, pow-suc, add-suc, add-zero, zero-add, mod-lt, zero-lt-suc}
+use native.Mathlib.Nat.{lt-of-lt-of-le, le-trans, le-of-eq, mul-le-mul-right, mul-assoc, mul-comm, one-mul, add-mul, pow-suc, pow-succ', add-suc, add-zero, zero-add, mod-lt, zero-lt-suc, div-one, div-div-eq-div-mul}
 use native.Mathlib.Omega.{arith}
 use borrow.Author.Tests.{leb-true, le-leb}
+use lib.Arith.{digits-div, digits-mod, mod-mul}
 use lib.Dec.{leb, lit<}
 use lib.ListN.{length, take, drop, getD, replicate, length-append}
 use lib.Seq.{drop-cons}
@@ -81,6 +82,15 @@ unfolding valueFrom
 value-grows [] acc = omega arith
 value-grows (c ∷ s) acc = omega (arith, value-grows s (acc * 10 + (c - 48)))
 
+-- digits read on after those of acc
+pub value-after : (s : List ℕ) (acc : ℕ) → valueFrom acc s ≡ acc * 10 ^ length s + valueOf s
+unfolding valueFrom valueOf
+value-after [] acc = omega arith
+value-after (c ∷ s) acc =
+    let more : valueFrom (0 * 10 + (c - 48)) s ≡ (c - 48) * 10 ^ length s + valueFrom 0 s = ap (λ (k : ℕ). valueFrom k s) (omega arith) ∙ value-after s (c - 48) in
+    value-after s (acc * 10 + (c - 48))
+    ∙ (rw (more, pow-succ' 10 (length s), add-mul (acc * 10) (c - 48) (10 ^ length s), mul-assoc acc 10 (10 ^ length s)) (omega arith))
+
 value-below : (s : List ℕ) (acc : ℕ) → every isDigit s ≡ true → valueFrom acc s < (acc + 1) * 10 ^ length s
 unfolding valueFrom every
 value-below [] acc e = omega arith
@@ -95,6 +105,31 @@ value-below (c ∷ s) acc e =
 pub value-lt : (s : List ℕ) → every isDigit s ≡ true → valueOf s < 10 ^ length s
 unfolding valueOf
 value-lt s e = lt-of-lt-of-le (value-below s 0 e) (le-of-eq (one-mul (10 ^ length s)))
+
+pub ten-pos : (k : ℕ) → 0 < 10 ^ k
+ten-pos zero = lit< tt
+ten-pos (suc k) = rw (pow-suc 10 k) (omega (arith, ten-pos k))
+
+-- digits cut in two: the last b are the number's own last digits
+pub decimal-split : (a b n : ℕ) → decimal (a + b) n ≡ decimal a (n / 10 ^ b) ++ decimal b n
+unfolding decimal
+decimal-split a zero n = ap₂ decimal (add-zero a) (sym (div-one n)) ∙ sym (append-nil (decimal a (n / 10 ^ 0)))
+decimal-split a (suc b) n =
+    let ten : 10 * 10 ^ b ≡ 10 ^ suc b = sym (pow-succ' 10 b) in
+    let one = (48 + n % 10) ∷ [] in
+    ap (λ (k : ℕ). decimal k n) (add-suc a b)
+    ∙ ap (λ (s : List ℕ). s ++ one) (decimal-split a b (n / 10))
+    ∙ append-assoc (decimal a (n / 10 / 10 ^ b)) (decimal b (n / 10)) one
+    ∙ ap (λ (k : ℕ). decimal a k ++ (decimal b (n / 10) ++ one)) (div-div-eq-div-mul n 10 (10 ^ b) ∙ ap (λ (k : ℕ). n / k) ten)
+
+-- and a number's last digits are those of what it leaves
+pub decimal-mod : (b n : ℕ) → decimal b (n % 10 ^ b) ≡ decimal b n
+unfolding decimal
+decimal-mod zero n = refl
+decimal-mod (suc b) n =
+    let cut : n % 10 ^ suc b ≡ (n / 10 % 10 ^ b) * 10 + n % 10 = ap (λ (k : ℕ). n % k) (pow-suc 10 b) ∙ mod-mul n (ten-pos b) (lit< tt) in
+    let low : n % 10 < 10 = mod-lt n (zero-lt-suc 9) in
+    rw (cut, digits-div (n / 10 % 10 ^ b) low, digits-mod (n / 10 % 10 ^ b) low, decimal-mod b (n / 10))
 
 -- the two digits at a place, and a number that is cut in two
 pub two-at : (s : List ℕ) (at : ℕ) → at + 2 ≤ length s → numberAt s at 2 ≡ (getD s at 0 - 48) * 10 + (getD s (at + 1) 0 - 48)

@@ -16,7 +16,7 @@ use Rattle.state.specs.WellFormed.{factoryGood}
 use Rattle.state.specs.Making.{meterOf}
 use Rattle.replies.specs.Shown.{rowOf}
 use Rattle.meter.specs.declared.Event.{Event}
-use Rattle.meter.specs.declared.Event.the-variants.{Character, Silence, Tick, Pulse, PowerUp, Unknown}
+use Rattle.meter.specs.declared.Event.the-variants.{Character, Silence, Tick, Pulse, PowerUp, PulseOut, Unknown}
 use Rattle.meter.specs.Life.{lived}
 use Rattle.promises.proofs.Choices as choice
 use Rattle.history.specs.Frames.{Write, clock, account, row, leaves, enters, tries, passwordIn, isTaken, writeIn, writeOf, isFrame, tells, dataIn, clockHere, accountHere, rowHere}
@@ -57,7 +57,7 @@ byte-apart facts s b far never =
     (λ t. choice.either Apart (eqb (s .failed) 3) refl
     (choice.given Apart (sameText (passwordIn (frameBy s b)) (facts .password)) (λ r. untrue (sym never ∙ all two w t r)) refl))
     refl))
-    (choice.either Apart (leaves (frameBy s b)) refl (choice.either Apart (isTaken (tablesOf (facts .edition)) (s .mode) (frameBy s b)) far fallen)))
+    (choice.either Apart (leaves (frameBy s b)) refl (choice.either Apart (isTaken (tablesOf (facts .edition)) (facts .decimals) (s .mode) (frameBy s b)) far fallen)))
     (choice.either Apart (isTooMany s b) fallen far)))
   where
     fallen : eqb (refusedIn facts (s .mode)) 4 ≡ false
@@ -73,7 +73,8 @@ past-apart facts (Character b ∷ past) e =
     byte-apart facts (standing facts past) b (past-apart facts past (or-right (rightNow facts (standing facts past) b) _ e)) (or-left (rightNow facts (standing facts past) b) _ e)
 past-apart facts (Silence ∷ past) e = refl
 past-apart facts (Tick ∷ past) e = past-apart facts past e
-past-apart facts (Pulse wh ∷ past) e = past-apart facts past e
+past-apart facts (Pulse units ∷ past) e = past-apart facts past e
+past-apart facts (PulseOut units ∷ past) e = past-apart facts past e
 past-apart facts (PowerUp ∷ past) e = refl
 past-apart facts (Unknown ∷ past) e = past-apart facts past e
 
@@ -94,16 +95,18 @@ no-writes facts (Character b ∷ past) e =
     byte-writes facts (standing facts past) b (deeds facts past) (rw (past-apart facts past before)) ∙ no-writes facts past before
 no-writes facts (Silence ∷ past) e = no-writes facts past e
 no-writes facts (Tick ∷ past) e = no-writes facts past e
-no-writes facts (Pulse wh ∷ past) e = no-writes facts past e
+no-writes facts (Pulse units ∷ past) e = no-writes facts past e
+no-writes facts (PulseOut units ∷ past) e = no-writes facts past e
 no-writes facts (PowerUp ∷ past) e = no-writes facts past e
 no-writes facts (Unknown ∷ past) e = no-writes facts past e
 
 -- ---- one event more
 
-past-snoc : (past : List Event) (es : List (ℕ × Event)) (room : ℕ) (e : Event) → pastOf past (es ++ ((room, e) ∷ [])) ≡ cond (happens room e) (e ∷ pastOf past es) (pastOf past es)
+past-snoc : (family : ℕ) (past : List Event) (es : List (ℕ × Event)) (room : ℕ) (e : Event)
+    → pastOf family past (es ++ ((room, e) ∷ [])) ≡ cond (happens family room e) (e ∷ pastOf family past es) (pastOf family past es)
 unfolding pastOf
-past-snoc past [] room e = refl
-past-snoc past ((r, x) ∷ es) room e = past-snoc (cond (happens r x) (x ∷ past) past) es room e
+past-snoc family past [] room e = refl
+past-snoc family past ((r, x) ∷ es) room e = past-snoc family (cond (happens family r x) (x ∷ past) past) es room e
 
 -- a frame tells one write or none
 one-write : (P : List Write → Type 0) (tables : ℕ) (frame : List ℕ) → P [] → ((w : Write) → P (w ∷ [])) → P (writeIn tables frame)
@@ -120,23 +123,23 @@ module _ (facts : Facts) (account₀ : List ℕ) (clock₀ : Clock) (good : fact
 
   module _ (es : List (ℕ × Event)) (room : ℕ) (e : Event) where
     abbrev past : List Event
-    past = happened es
+    past = happened facts es
 
     abbrev s : Standing
     s = standing facts past
 
     -- what is told of the account then
-    then : (ws : List Write) → writesOf (deeds facts (cond (happens room e) (e ∷ past) past)) ≡ ws
+    then : (ws : List Write) → writesOf (deeds facts (cond (happens (facts .decimals) room e) (e ∷ past) past)) ≡ ws
         → lived (meterOf facts account₀ clock₀) (es ++ ((room, e) ∷ [])) .registers .account ≡ accountTold account₀ ws
-    then ws w = nothing-told (es ++ ((room, e) ∷ [])) .account-told ∙ ap (λ (p : List Event). accountTold account₀ (writesOf (deeds facts p))) (past-snoc [] es room e) ∙ ap (accountTold account₀) w
+    then ws w = nothing-told (es ++ ((room, e) ∷ [])) .account-told ∙ ap (λ (p : List Event). accountTold account₀ (writesOf (deeds facts p))) (past-snoc (facts .decimals) [] es room e) ∙ ap (accountTold account₀) w
 
-    same : (ws : List Write) → writesOf (deeds facts (cond (happens room e) (e ∷ past) past)) ≡ ws → accountTold account₀ ws ≡ accountTold account₀ (writesTold facts es)
+    same : (ws : List Write) → writesOf (deeds facts (cond (happens (facts .decimals) room e) (e ∷ past) past)) ≡ ws → accountTold account₀ ws ≡ accountTold account₀ (writesTold facts es)
         → AccountAfter facts account₀ clock₀ es room e
     same ws w k = stays (then ws w ∙ k ∙ sym (nothing-told es .account-told))
 
     -- an event that is no write
     idle : writesOf (deedsAt facts s e ++ deeds facts past) ≡ writesTold facts es → AccountAfter facts account₀ clock₀ es room e
-    idle k = same _ (go (happens room e)) refl
+    idle k = same _ (go (happens (facts .decimals) room e)) refl
       where
         go : (p : Bool) → writesOf (deeds facts (cond p (e ∷ past) past)) ≡ writesTold facts es
         go true = unfold deeds in k
@@ -144,7 +147,7 @@ module _ (facts : Facts) (account₀ : List ℕ) (clock₀ : Clock) (good : fact
 
   module _ (es : List (ℕ × Event)) (room b : ℕ) where
     abbrev s′ : Standing
-    s′ = standing facts (happened es)
+    s′ = standing facts (happened facts es)
 
     abbrev frame : List ℕ
     frame = frameBy s′ b
@@ -153,12 +156,12 @@ module _ (facts : Facts) (account₀ : List ℕ) (clock₀ : Clock) (good : fact
     After = AccountAfter facts account₀ clock₀ es room (Character b)
 
     -- it makes a frame whole while programming mode stands
-    told-then : (eqb (s′ .mode) 4 && isWhole s′) ≡ true → happens room (Character b) ≡ true → (ws : List Write) → writeIn (tablesOf (facts .edition)) frame ≡ ws
-        → writesOf (deeds facts (cond (happens room (Character b)) (Character b ∷ happened es) (happened es))) ≡ writesOf (wroteAll ws ++ deeds facts (happened es))
+    told-then : (eqb (s′ .mode) 4 && isWhole s′) ≡ true → happens (facts .decimals) room (Character b) ≡ true → (ws : List Write) → writeIn (tablesOf (facts .edition)) frame ≡ ws
+        → writesOf (deeds facts (cond (happens (facts .decimals) room (Character b)) (Character b ∷ happened facts es) (happened facts es))) ≡ writesOf (wroteAll ws ++ deeds facts (happened facts es))
     unfolding deeds deedsAt
     told-then k h ws e = rw (h, k, e)
 
-    by-write : (eqb (s′ .mode) 4 && isWhole s′) ≡ true → happens room (Character b) ≡ true → (w : Write) → writeIn (tablesOf (facts .edition)) frame ≡ w ∷ [] → After
+    by-write : (eqb (s′ .mode) 4 && isWhole s′) ≡ true → happens (facts .decimals) room (Character b) ≡ true → (w : Write) → writeIn (tablesOf (facts .edition)) frame ≡ w ∷ [] → After
     unfolding wroteAll writesOf accountTold
     by-write k h (clock c) e = same es room (Character b) _ (told-then k h _ e) refl
     by-write k h (account a) e =
@@ -166,11 +169,11 @@ module _ (facts : Facts) (account₀ : List ℕ) (clock₀ : Clock) (good : fact
     by-write k h (row n r) e = same es room (Character b) _ (told-then k h _ e) refl
 
     after-byte : After
-    after-byte = go (happens room (Character b)) refl (eqb (s′ .mode) 4 && isWhole s′) refl
+    after-byte = go (happens (facts .decimals) room (Character b)) refl (eqb (s′ .mode) 4 && isWhole s′) refl
       where
-        go : (h : Bool) → happens room (Character b) ≡ h → (k : Bool) → (eqb (s′ .mode) 4 && isWhole s′) ≡ k → After
-        go h x false y = idle es room (Character b) (unfold deedsAt in (byte-writes facts s′ b (deeds facts (happened es)) y))
-        go false x true y = same es room (Character b) _ (ap (λ (p : Bool). writesOf (deeds facts (cond p (Character b ∷ happened es) (happened es)))) x) refl
+        go : (h : Bool) → happens (facts .decimals) room (Character b) ≡ h → (k : Bool) → (eqb (s′ .mode) 4 && isWhole s′) ≡ k → After
+        go h x false y = idle es room (Character b) (unfold deedsAt in (byte-writes facts s′ b (deeds facts (happened facts es)) y))
+        go false x true y = same es room (Character b) _ (ap (λ (p : Bool). writesOf (deeds facts (cond p (Character b ∷ happened facts es) (happened facts es)))) x) refl
         go true x true y =
             one-write (λ (ws : List Write). writeIn (tablesOf (facts .edition)) frame ≡ ws → After) (tablesOf (facts .edition)) frame
             (λ e. same es room (Character b) _ (told-then y x [] e) (unfold wroteAll in refl)) (λ w e. by-write y x w e) refl
@@ -180,7 +183,8 @@ module _ (facts : Facts) (account₀ : List ℕ) (clock₀ : Clock) (good : fact
   after-event es room (Character b) = after-byte es room b
   after-event es room Silence = idle es room Silence refl
   after-event es room Tick = idle es room Tick refl
-  after-event es room (Pulse wh) = idle es room (Pulse wh) refl
+  after-event es room (Pulse units) = idle es room (Pulse units) refl
+  after-event es room (PulseOut units) = idle es room (PulseOut units) refl
   after-event es room PowerUp = idle es room PowerUp refl
   after-event es room Unknown = idle es room Unknown refl
 
@@ -189,7 +193,7 @@ module _ (facts : Facts) (account₀ : List ℕ) (clock₀ : Clock) (good : fact
   corollaries =
       record {
         no-password = λ es e.
-            let none = no-writes facts (happened es) e in
+            let none = no-writes facts (happened facts es) e in
             record {
               same-account = nothing-told es .account-told ∙ ap (accountTold account₀) none;
               same-tables = nothing-told es .tables-told ∙ ap (tablesTold (meterOf facts account₀ clock₀ .registers .tables)) none;
@@ -201,5 +205,5 @@ module _ (facts : Facts) (account₀ : List ℕ) (clock₀ : Clock) (good : fact
               same-tables = nothing-told es .tables-told ∙ ap (tablesTold (meterOf facts account₀ clock₀ .registers .tables)) e ∙ sym (nothing-told es′ .tables-told);
             };
         last-rows = λ es n good-n.
-            ap (λ (t : List ℕ). rowOf t n) (nothing-told es .tables-told) ∙ rows-told (facts .edition) n good-n (writesTold facts es) (told-good facts (happened es));
+            ap (λ (t : List ℕ). rowOf t n) (nothing-told es .tables-told) ∙ rows-told (facts .edition) n good-n (writesTold facts es) (told-good facts (happened facts es));
       }

@@ -36,9 +36,9 @@ data-back frame x h =
 
 data-printable : (tables : ℕ) (w : Write) → goodWrite tables w ≡ true → every isPrintable (writeData w) ≡ true
 unfolding goodWrite writeData
-data-printable tables (clock c) g = unfold dataOf goodFields in (command-printable tables (writeClock c) g)
-data-printable tables (account a) g = unfold dataOf goodFields in (command-printable tables (writeAccount a) g)
-data-printable tables (row n r) g = unfold dataOf goodFields in (command-printable tables (writeTable n r) g)
+data-printable tables (clock c) g = unfold dataOf goodFields in (command-printable tables 0 (writeClock c) g)
+data-printable tables (account a) g = unfold dataOf goodFields in (command-printable tables 0 (writeAccount a) g)
+data-printable tables (row n r) g = unfold dataOf goodFields in (command-printable tables 0 (writeTable n r) g)
 
 data-written : (tables : ℕ) (w : Write) → tables < 100 → goodWrite tables w ≡ true → writeOf tables (writeData w) ≡ w ∷ []
 unfolding goodWrite writeData

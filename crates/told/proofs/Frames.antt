@@ -5,7 +5,7 @@ use mathlib.Core.List.{List, [], _∷_, _++_, map}
 use Prim.Native.Nat.{ℕ, suc, _+_, _-_, _≤_}
 use native.Mathlib.Omega.{arith}
 use borrow.Author.Tests.{leb-true, leb-false, eqb-true, eq-eqb}
-use lib.Dec.{eqb, leb}
+use lib.Dec.{eqb, leb, ltb}
 use lib.ListN.{length, getD, take, drop, length-append, length-drop}
 use lib.Seq.{take-suc, take-length, take-append-le, drop-append-le}
 use Rattle.line.specs.Characters.{damagedAt, seven, undamagedAll}
@@ -15,9 +15,10 @@ use Rattle.line.proofs.Runs.{and-left, and-right, and-both}
 use Rattle.text.specs.Classes.{sameText, isPrintable, between}
 use Rattle.text.specs.Layout.{fits}
 use Rattle.text.proofs.Matching.{same-is, same-self, same-snoc}
-use Rattle.line.specs.Quoted.{chars}
+use Rattle.line.specs.Quoted.{char, chars}
+use Rattle.values.specs.Family.{isEqm}
 use Rattle.values.specs.Reading.{tableRead}
-use Rattle.frames.specs.Commands.{askClock, askSerial, askAccount, askEnergy}
+use Rattle.frames.specs.Commands.{askClock, askSerial, askAccount, lettered, askEnergy, askExport}
 use Rattle.frames.specs.Frames.{closed, frameOf, bareFrame}
 use Rattle.state.specs.WellFormed.{marked}
 use Rattle.receiving.specs.Receivers.{heldText}
@@ -25,7 +26,7 @@ use Rattle.replies.specs.declared.Ask.{Ask}
 use Rattle.deciding.specs.declared.Verdict.{Verdict}
 use Rattle.deciding.specs.declared.Verdict.the-variants.{Refuse, Leave, Read}
 use Rattle.deciding.specs.Shape.{startGood, bareShape, framedShape, content}
-use Rattle.deciding.specs.Asking.{asked, energyAsked, tableAsked}
+use Rattle.deciding.specs.Asking.{asked, energyNamed, energyAsked, tableAsked}
 use Rattle.deciding.specs.Verdict.{bareVerdict, framedVerdict, shapeVerdict, verdict}
 use Rattle.meter.specs.Character.{symbol}
 use Rattle.promises.proofs.Choices as choice
@@ -33,7 +34,7 @@ use Rattle.whole.specs.Gathering.{filled}
 use Rattle.whole.proofs.Filled.{length-map}
 use Rattle.dialogue.proofs.Frames.{heldFrame, verdict-is}
 use Rattle.history.specs.Saying.{says}
-use Rattle.history.specs.Frames.{dataIn, isFrame, isAsk, leaves}
+use Rattle.history.specs.Frames.{dataIn, isFrame, isOneOf, isAsk, leaves}
 use Rattle.history.proofs.Saying.{map-snoc, undamaged-snoc}
 use Rattle.told.proofs.Holding.{untrue, symbols, held-is}
 
@@ -131,36 +132,49 @@ data-held h c = go (leb 4 (length h)) refl
 pub data Refused : Verdict → Type 0 where
   refused : (n : ℕ) → Refused (Refuse n)
 
--- what R1 may ask, and all else
-pub data Asks (tables : ℕ) (d : List ℕ) : Verdict → Type 0 where
-  asks-it : (a : Ask) → isAsk tables d ≡ true → Asks tables d (Read a)
-  asks-nothing : isAsk tables d ≡ false → Asks tables d (Refuse 9)
+-- one of five
+five : (a b c d e : Bool) → ltb (cond a 0 (cond b 1 (cond c 2 (cond d 3 (cond e 4 5))))) 5 ≡ (a || (b || (c || (d || e))))
+five true b c d e = refl
+five false true c d e = refl
+five false false true d e = refl
+five false false false true e = refl
+five false false false false true = refl
+five false false false false false = refl
 
-pub asked-asks : (tables : ℕ) (d : List ℕ) → Asks tables d (asked tables d)
+came-named : (d : List ℕ) → isOneOf askEnergy d ≡ ltb (energyNamed (char "E") d) 5
+unfolding isOneOf askEnergy energyNamed
+came-named d = sym (five (sameText d (lettered 69 0)) (sameText d (lettered 69 1)) (sameText d (lettered 69 2)) (sameText d (lettered 69 3)) (sameText d (lettered 69 4)))
+
+went-named : (d : List ℕ) → isOneOf askExport d ≡ ltb (energyNamed (char "G") d) 5
+unfolding isOneOf askExport energyNamed
+went-named d = sym (five (sameText d (lettered 71 0)) (sameText d (lettered 71 1)) (sameText d (lettered 71 2)) (sameText d (lettered 71 3)) (sameText d (lettered 71 4)))
+
+-- what R1 may ask, and all else
+pub data Asks (tables family : ℕ) (d : List ℕ) : Verdict → Type 0 where
+  asks-it : (a : Ask) → isAsk tables family d ≡ true → Asks tables family d (Read a)
+  asks-nothing : isAsk tables family d ≡ false → Asks tables family d (Refuse 9)
+
+pub asked-asks : (tables family : ℕ) (d : List ℕ) → Asks tables family d (asked tables family d)
 unfolding asked energyAsked tableAsked isAsk
-asked-asks tables d =
+asked-asks tables family d =
     go (sameText d askClock) refl (sameText d askSerial) refl (sameText d askAccount) refl
-    (sameText d (askEnergy 0)) refl (sameText d (askEnergy 1)) refl (sameText d (askEnergy 2)) refl (sameText d (askEnergy 3)) refl (sameText d (askEnergy 4)) refl
+    (ltb (energyNamed (char "E") d) 5) refl (isEqm family && ltb (energyNamed (char "G") d) 5) refl
     (fits (chars "Z(##)") d) refl (tableRead tables (take 2 (drop 2 d)) .ok) refl
   where
     go : (c : Bool) → sameText d askClock ≡ c → (s : Bool) → sameText d askSerial ≡ s → (a : Bool) → sameText d askAccount ≡ a
-        → (e0 : Bool) → sameText d (askEnergy 0) ≡ e0 → (e1 : Bool) → sameText d (askEnergy 1) ≡ e1 → (e2 : Bool) → sameText d (askEnergy 2) ≡ e2
-        → (e3 : Bool) → sameText d (askEnergy 3) ≡ e3 → (e4 : Bool) → sameText d (askEnergy 4) ≡ e4
-        → (z : Bool) → fits (chars "Z(##)") d ≡ z → (k : Bool) → tableRead tables (take 2 (drop 2 d)) .ok ≡ k → Asks tables d (asked tables d)
-    go true x0 s x1 a x2 e0 x3 e1 x4 e2 x5 e3 x6 e4 x7 z x8 k x9 = rw x0 (asks-it _ (rw x0))
-    go false x0 true x1 a x2 e0 x3 e1 x4 e2 x5 e3 x6 e4 x7 z x8 k x9 = rw (x0, x1) (asks-it _ (rw (x0, x1)))
-    go false x0 false x1 true x2 e0 x3 e1 x4 e2 x5 e3 x6 e4 x7 z x8 k x9 = rw (x0, x1, x2) (asks-it _ (rw (x0, x1, x2)))
-    go false x0 false x1 false x2 true x3 e1 x4 e2 x5 e3 x6 e4 x7 z x8 k x9 = rw (x0, x1, x2, x3) (asks-it _ (rw (x0, x1, x2, x3)))
-    go false x0 false x1 false x2 false x3 true x4 e2 x5 e3 x6 e4 x7 z x8 k x9 = rw (x0, x1, x2, x3, x4) (asks-it _ (rw (x0, x1, x2, x3, x4)))
-    go false x0 false x1 false x2 false x3 false x4 true x5 e3 x6 e4 x7 z x8 k x9 = rw (x0, x1, x2, x3, x4, x5) (asks-it _ (rw (x0, x1, x2, x3, x4, x5)))
-    go false x0 false x1 false x2 false x3 false x4 false x5 true x6 e4 x7 z x8 k x9 = rw (x0, x1, x2, x3, x4, x5, x6) (asks-it _ (rw (x0, x1, x2, x3, x4, x5, x6)))
-    go false x0 false x1 false x2 false x3 false x4 false x5 false x6 true x7 z x8 k x9 = rw (x0, x1, x2, x3, x4, x5, x6, x7) (asks-it _ (rw (x0, x1, x2, x3, x4, x5, x6, x7)))
-    go false x0 false x1 false x2 false x3 false x4 false x5 false x6 false x7 true x8 true x9 =
-        rw (x0, x1, x2, x3, x4, x5, x6, x7, x8, x9) (asks-it _ (rw (x0, x1, x2, x3, x4, x5, x6, x7, x8, x9)))
-    go false x0 false x1 false x2 false x3 false x4 false x5 false x6 false x7 true x8 false x9 =
-        rw (x0, x1, x2, x3, x4, x5, x6, x7, x8, x9) (asks-nothing (rw (x0, x1, x2, x3, x4, x5, x6, x7, x8, x9)))
-    go false x0 false x1 false x2 false x3 false x4 false x5 false x6 false x7 false x8 k x9 =
-        rw (x0, x1, x2, x3, x4, x5, x6, x7, x8) (asks-nothing (rw (x0, x1, x2, x3, x4, x5, x6, x7, x8)))
+        → (e : Bool) → ltb (energyNamed (char "E") d) 5 ≡ e → (o : Bool) → (isEqm family && ltb (energyNamed (char "G") d) 5) ≡ o
+        → (z : Bool) → fits (chars "Z(##)") d ≡ z → (k : Bool) → tableRead tables (take 2 (drop 2 d)) .ok ≡ k → Asks tables family d (asked tables family d)
+    go true x0 s x1 a x2 e x3 o x4 z x5 k x6 = rw x0 (asks-it _ (rw x0))
+    go false x0 true x1 a x2 e x3 o x4 z x5 k x6 = rw (x0, x1) (asks-it _ (rw (x0, x1)))
+    go false x0 false x1 true x2 e x3 o x4 z x5 k x6 = rw (x0, x1, x2) (asks-it _ (rw (x0, x1, x2)))
+    go false x0 false x1 false x2 true x3 o x4 z x5 k x6 = rw (x0, x1, x2, x3) (asks-it _ (rw (x0, x1, x2, came-named d, x3)))
+    go false x0 false x1 false x2 false x3 true x4 z x5 k x6 = rw (x0, x1, x2, x3, x4) (asks-it _ (rw (x0, x1, x2, came-named d, x3, went-named d, x4)))
+    go false x0 false x1 false x2 false x3 false x4 true x5 true x6 =
+        rw (x0, x1, x2, x3, x4, x5, x6) (asks-it _ (rw (x0, x1, x2, came-named d, x3, went-named d, x4, x5, x6)))
+    go false x0 false x1 false x2 false x3 false x4 true x5 false x6 =
+        rw (x0, x1, x2, x3, x4, x5, x6) (asks-nothing (rw (x0, x1, x2, came-named d, x3, went-named d, x4, x5, x6)))
+    go false x0 false x1 false x2 false x3 false x4 false x5 k x6 =
+        rw (x0, x1, x2, x3, x4, x5) (asks-nothing (rw (x0, x1, x2, came-named d, x3, went-named d, x4, x5)))
 
 module _ (run : List ℕ) (b : ℕ) where
   abbrev pub held : List ℕ
@@ -213,9 +227,9 @@ module _ (run : List ℕ) (b : ℕ) where
   unfolding isFrame
   frame-unmarked command h = says-unmarked _ (and-left (says frame (frameOf command (dataIn frame))) _ h)
 
-  module _ (tables mode : ℕ) where
+  module _ (tables family mode : ℕ) where
     -- the frame is one with these letters
-    pub framed-decided : (x y : ℕ) → isPrintable x ≡ true → isPrintable y ≡ true → isFrame (x ∷ y ∷ []) frame ≡ true → verdict tables mode held mark (symbol b) ≡ framedVerdict tables mode x y (content held)
+    pub framed-decided : (x y : ℕ) → isPrintable x ≡ true → isPrintable y ≡ true → isFrame (x ∷ y ∷ []) frame ≡ true → verdict tables family mode held mark (symbol b) ≡ framedVerdict tables family mode x y (content held)
     unfolding isFrame
     framed-decided x y px py h =
         let e = frame-unmarked (x ∷ y ∷ []) (unfold isFrame in h) in
@@ -225,7 +239,7 @@ module _ (run : List ℕ) (b : ℕ) where
         let same : sameText (held ++ (symbol b ∷ [])) (frameOf (x ∷ y ∷ []) (content held)) ≡ true =
         sym (says-held (frameOf (x ∷ y ∷ []) (content held)) e) ∙ ap (λ (d : List ℕ). says frame (frameOf (x ∷ y ∷ []) d)) (sym here) ∙ said in
         let two = apart x y (content held) same in
-        rw e (ap₂ (λ (l : List ℕ) (n : ℕ). verdict tables mode l false n) (two .0) (two .1) ∙ verdict-is x y (content held) px py printable tables mode)
+        rw e (ap₂ (λ (l : List ℕ) (n : ℕ). verdict tables family mode l false n) (two .0) (two .1) ∙ verdict-is x y (content held) px py printable tables family mode)
       where
         apart : (x y : ℕ) (d : List ℕ) → sameText (held ++ (symbol b ∷ [])) (frameOf (x ∷ y ∷ []) d) ≡ true
             → (held ≡ heldFrame x y d) × (symbol b ≡ bccOf (x ∷ y ∷ 2 ∷ (d ++ (3 ∷ []))))
@@ -234,24 +248,24 @@ module _ (run : List ℕ) (b : ℕ) where
             (same-is held (heldFrame x y d) (and-left (sameText held (heldFrame x y d)) _ both), eqb-true (symbol b) _ (and-right (sameText held (heldFrame x y d)) _ both)))
 
     -- it is B0
-    pub leaves-decided : (leb 2 mode && leb mode 4) ≡ true → leaves frame ≡ true → verdict tables mode held mark (symbol b) ≡ Leave
+    pub leaves-decided : (leb 2 mode && leb mode 4) ≡ true → leaves frame ≡ true → verdict tables family mode held mark (symbol b) ≡ Leave
     unfolding leaves
     leaves-decided session h =
         let e = says-unmarked _ h in
         let two = apart (sym (says-held (bareFrame (66 ∷ 48 ∷ [])) e) ∙ h) in
-        rw e (ap₂ (λ (l : List ℕ) (n : ℕ). verdict tables mode l false n) (two .0) (two .1) ∙ bare mode session)
+        rw e (ap₂ (λ (l : List ℕ) (n : ℕ). verdict tables family mode l false n) (two .0) (two .1) ∙ bare mode session)
       where
         apart : sameText (held ++ (symbol b ∷ [])) (bareFrame (66 ∷ 48 ∷ [])) ≡ true → (held ≡ 1 ∷ 66 ∷ 48 ∷ 3 ∷ []) × (symbol b ≡ bccOf (66 ∷ 48 ∷ 3 ∷ []))
         apart h = unfold bareFrame closed in (
             let both = sym (same-snoc held (1 ∷ 66 ∷ 48 ∷ 3 ∷ []) (symbol b) (bccOf (66 ∷ 48 ∷ 3 ∷ []))) ∙ h in
             (same-is held (1 ∷ 66 ∷ 48 ∷ 3 ∷ []) (and-left (sameText held (1 ∷ 66 ∷ 48 ∷ 3 ∷ [])) _ both), eqb-true (symbol b) _ (and-right (sameText held (1 ∷ 66 ∷ 48 ∷ 3 ∷ [])) _ both)))
 
-        bare : (mode : ℕ) → (leb 2 mode && leb mode 4) ≡ true → verdict tables mode (1 ∷ 66 ∷ 48 ∷ 3 ∷ []) false (bccOf (66 ∷ 48 ∷ 3 ∷ [])) ≡ Leave
+        bare : (mode : ℕ) → (leb 2 mode && leb mode 4) ≡ true → verdict tables family mode (1 ∷ 66 ∷ 48 ∷ 3 ∷ []) false (bccOf (66 ∷ 48 ∷ 3 ∷ [])) ≡ Leave
         bare mode k = unfold verdict shapeVerdict bareShape startGood isPrintable between bareVerdict in (rw (eq-eqb (bccOf (66 ∷ 48 ∷ 3 ∷ [])) _ refl, k))
 
     -- it is none that does anything
     pub other-decided : leaves frame ≡ false → isFrame (80 ∷ 49 ∷ []) frame ≡ false → isFrame (82 ∷ 49 ∷ []) frame ≡ false → isFrame (87 ∷ 49 ∷ []) frame ≡ false
-        → Refused (verdict tables mode held mark (symbol b))
+        → Refused (verdict tables family mode held mark (symbol b))
     unfolding verdict shapeVerdict bareVerdict framedVerdict
     other-decided none no-entry no-ask no-write =
         choice.told Refused mark (λ e. refused 3)

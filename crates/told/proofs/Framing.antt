@@ -21,7 +21,7 @@ use Rattle.state.specs.declared.Receiver.{Receiver}
 use Rattle.state.specs.declared.Registers.{Registers}
 use Rattle.state.specs.declared.Meter.{Meter}
 use Rattle.state.specs.Link.{isWired}
-use Rattle.state.specs.WellFormed.{tablesIn}
+use Rattle.state.specs.WellFormed.{tablesIn, familyIn}
 use Rattle.state.specs.Making.{emptyReceiver}
 use Rattle.state.specs.Setting.{meterIn, inMode, withAttempts, withClock, withAccount, withTables, withRow}
 use Rattle.receiving.specs.declared.Hearing.{Hearing}
@@ -152,7 +152,7 @@ module _ (failed speed : ℕ) (said run : List ℕ) (g : Registers) (b : ℕ) wh
       go false false k = refused-2 9
 
   abbrev decided2 : Verdict
-  decided2 = verdict (tablesIn g) 2 (held run b) (mark run b) (symbol b)
+  decided2 = verdict (tablesIn g) (familyIn g) 2 (held run b) (mark run b) (symbol b)
 
   frame-2 : Goal2 (told.entered (g .facts) s2 f2) decided2
   frame-2 = go (leaves f2) refl (isFrame (80 ∷ 49 ∷ []) f2) refl (isFrame (82 ∷ 49 ∷ []) f2) refl (isFrame (87 ∷ 49 ∷ []) f2) refl
@@ -163,13 +163,13 @@ module _ (failed speed : ℕ) (said run : List ℕ) (g : Registers) (b : ℕ) wh
       go : (l : Bool) → leaves f2 ≡ l → (p : Bool) → isFrame (80 ∷ 49 ∷ []) f2 ≡ p → (r : Bool) → isFrame (82 ∷ 49 ∷ []) f2 ≡ r → (w : Bool) → isFrame (87 ∷ 49 ∷ []) f2 ≡ w
           → Goal2 (told.entered (g .facts) s2 f2) decided2
       go true e true f r j w k = absurd (omega (arith, leave-letter f2 e, frame-letter f2 80 49 f))
-      go true e false f r j w k = rw (no-more f, leaves-decided run b (tablesIn g) 2 refl e) (unfold acted in (begins 0 failed _ g))
-      go false e true f r j w k = rw (framed-decided run b (tablesIn g) 2 80 49 (unfold isPrintable between in refl) (unfold isPrintable between in refl) f) (unfold framedVerdict in (entry-2 f))
+      go true e false f r j w k = rw (no-more f, leaves-decided run b (tablesIn g) (familyIn g) 2 refl e) (unfold acted in (begins 0 failed _ g))
+      go false e true f r j w k = rw (framed-decided run b (tablesIn g) (familyIn g) 2 80 49 (unfold isPrintable between in refl) (unfold isPrintable between in refl) f) (unfold framedVerdict in (entry-2 f))
       go false e false f true j w k =
-          rw (no-more f, framed-decided run b (tablesIn g) 2 82 49 (unfold isPrintable between in refl) (unfold isPrintable between in refl) j) (unfold framedVerdict in (refused-2 8))
+          rw (no-more f, framed-decided run b (tablesIn g) (familyIn g) 2 82 49 (unfold isPrintable between in refl) (unfold isPrintable between in refl) j) (unfold framedVerdict in (refused-2 8))
       go false e false f false j true k =
-          rw (no-more f, framed-decided run b (tablesIn g) 2 87 49 (unfold isPrintable between in refl) (unfold isPrintable between in refl) k) (unfold framedVerdict in (refused-2 8))
-      go false e false f false j false k = rw (no-more f) (idle-2 decided2 (other-decided run b (tablesIn g) 2 e f j k))
+          rw (no-more f, framed-decided run b (tablesIn g) (familyIn g) 2 87 49 (unfold isPrintable between in refl) (unfold isPrintable between in refl) k) (unfold framedVerdict in (refused-2 8))
+      go false e false f false j false k = rw (no-more f) (idle-2 decided2 (other-decided run b (tablesIn g) (familyIn g) 2 e f j k))
 
 -- ---- a frame in modes 3 and 4
 
@@ -198,11 +198,11 @@ module _ (mode failed speed : ℕ) (said run : List ℕ) (g : Registers) (b : �
   to3 taken = cond taken (anew s3 mode) (anew s3 (refusedIn (g .facts) mode))
 
   -- the data of a question
-  ask-3 : Goal3 (to3 (isAsk (tablesIn g) (content (held run b)))) [] (asked (tablesIn g) (content (held run b)))
+  ask-3 : Goal3 (to3 (isAsk (tablesIn g) (familyIn g) (content (held run b)))) [] (asked (tablesIn g) (familyIn g) (content (held run b)))
   unfolding acted doneAll
-  ask-3 = go (asked (tablesIn g) (content (held run b))) (asked-asks (tablesIn g) (content (held run b)))
+  ask-3 = go (asked (tablesIn g) (familyIn g) (content (held run b))) (asked-asks (tablesIn g) (familyIn g) (content (held run b)))
     where
-      go : (v : Verdict) → Asks (tablesIn g) (content (held run b)) v → Goal3 (to3 (isAsk (tablesIn g) (content (held run b)))) [] v
+      go : (v : Verdict) → Asks (tablesIn g) (familyIn g) (content (held run b)) v → Goal3 (to3 (isAsk (tablesIn g) (familyIn g) (content (held run b)))) [] v
       go v (asks-it a e) = rw e (begins mode failed speed g)
       go v (asks-nothing e) = rw e (refused-3 9)
 
@@ -228,9 +228,9 @@ module _ (mode failed speed : ℕ) (said run : List ℕ) (g : Registers) (b : �
       go v e nothing = rw (none-written (tablesIn g) d few e) (refused-3 9)
 
   abbrev decided3 : Verdict
-  decided3 = verdict (tablesIn g) mode (held run b) (mark run b) (symbol b)
+  decided3 = verdict (tablesIn g) (familyIn g) mode (held run b) (mark run b) (symbol b)
 
-  frame-3 : (leb 2 mode && leb mode 4) ≡ true → Goal3 (cond (leaves f3) (anew s3 0) (to3 (isTaken (tablesIn g) mode f3))) (cond (eqb mode 4) (wroteAll (writeIn (tablesIn g) f3)) []) decided3
+  frame-3 : (leb 2 mode && leb mode 4) ≡ true → Goal3 (cond (leaves f3) (anew s3 0) (to3 (isTaken (tablesIn g) (familyIn g) mode f3))) (cond (eqb mode 4) (wroteAll (writeIn (tablesIn g) f3)) []) decided3
   unfolding writeIn isTaken asks someWrite
   frame-3 session = go (leaves f3) refl (isFrame (80 ∷ 49 ∷ []) f3) refl (isFrame (82 ∷ 49 ∷ []) f3) refl (isFrame (87 ∷ 49 ∷ []) f3) refl
     where
@@ -257,22 +257,22 @@ module _ (mode failed speed : ℕ) (said run : List ℕ) (g : Registers) (b : �
       told-3 false = refused-3 8
 
       go : (l : Bool) → leaves f3 ≡ l → (p : Bool) → isFrame (80 ∷ 49 ∷ []) f3 ≡ p → (r : Bool) → isFrame (82 ∷ 49 ∷ []) f3 ≡ r → (w : Bool) → isFrame (87 ∷ 49 ∷ []) f3 ≡ w
-          → Goal3 (cond l (anew s3 0) (to3 ((r && isAsk (tablesIn g) (dataIn f3)) || (eqb mode 4 && someWrite (cond w (writeOf (tablesIn g) (dataIn f3)) [])))))
+          → Goal3 (cond l (anew s3 0) (to3 ((r && isAsk (tablesIn g) (familyIn g) (dataIn f3)) || (eqb mode 4 && someWrite (cond w (writeOf (tablesIn g) (dataIn f3)) [])))))
           (cond (eqb mode 4) (wroteAll (cond w (writeOf (tablesIn g) (dataIn f3)) [])) []) decided3
       go true e p f r j true k = absurd (omega (arith, leave-letter f3 e, frame-letter f3 87 49 k))
-      go true e p f r j false k = rw (none (eqb mode 4), leaves-decided run b (tablesIn g) mode session e) (unfold acted doneAll in (begins 0 failed _ g))
+      go true e p f r j false k = rw (none (eqb mode 4), leaves-decided run b (tablesIn g) (familyIn g) mode session e) (unfold acted doneAll in (begins 0 failed _ g))
       go false e true f true j w k = absurd (omega (arith, frame-letter f3 80 49 f, frame-letter f3 82 49 j))
       go false e true f false j true k = absurd (omega (arith, frame-letter f3 80 49 f, frame-letter f3 87 49 k))
       go false e true f false j false k =
-          rw (none (eqb mode 4), and-false (eqb mode 4), framed-decided run b (tablesIn g) mode 80 49 (printable .0) (printable .1 .1 .1) f) (unfold framedVerdict in (rw later (refused-3 8)))
+          rw (none (eqb mode 4), and-false (eqb mode 4), framed-decided run b (tablesIn g) (familyIn g) mode 80 49 (printable .0) (printable .1 .1 .1) f) (unfold framedVerdict in (rw later (refused-3 8)))
       go false e false f true j true k = absurd (omega (arith, frame-letter f3 82 49 j, frame-letter f3 87 49 k))
       go false e false f true j false k =
-          rw (none (eqb mode 4), and-false (eqb mode 4), or-false (isAsk (tablesIn g) (dataIn f3)), data-is run b (frame-unmarked run b (82 ∷ 49 ∷ []) j), framed-decided run b (tablesIn g) mode 82 49 (printable .1 .0) (printable .1 .1 .1) j)
+          rw (none (eqb mode 4), and-false (eqb mode 4), or-false (isAsk (tablesIn g) (familyIn g) (dataIn f3)), data-is run b (frame-unmarked run b (82 ∷ 49 ∷ []) j), framed-decided run b (tablesIn g) (familyIn g) mode 82 49 (printable .1 .0) (printable .1 .1 .1) j)
           (unfold framedVerdict in (rw reads ask-3))
       go false e false f false j true k =
-          rw (data-is run b (frame-unmarked run b (87 ∷ 49 ∷ []) k), framed-decided run b (tablesIn g) mode 87 49 (printable .1 .1 .0) (printable .1 .1 .1) k)
+          rw (data-is run b (frame-unmarked run b (87 ∷ 49 ∷ []) k), framed-decided run b (tablesIn g) (familyIn g) mode 87 49 (printable .1 .1 .0) (printable .1 .1 .1) k)
           (unfold framedVerdict in (told-3 (eqb mode 4)))
-      go false e false f false j false k = rw (none (eqb mode 4), and-false (eqb mode 4)) (idle-3 decided3 (other-decided run b (tablesIn g) mode e f j k))
+      go false e false f false j false k = rw (none (eqb mode 4), and-false (eqb mode 4)) (idle-3 decided3 (other-decided run b (tablesIn g) (familyIn g) mode e f j k))
 
 -- ---- a byte
 
@@ -287,15 +287,15 @@ module _ (mode failed speed : ℕ) (said : List ℕ) (g : Registers) (b : ℕ) (
   m = meterIn mode failed speed (filled run) g
 
   whole-framed : Follows (told.framed (g .facts) s (run ++ (b ∷ []))) (doneAll (cond (eqb mode 4) (wroteAll (writeIn (tablesIn g) (run ++ (b ∷ [])))) []) g)
-      (acted m (verdict (tablesIn g) mode (held run b) (mark run b) (symbol b)) .next)
+      (acted m (verdict (tablesIn g) (familyIn g) mode (held run b) (mark run b) (symbol b)) .next)
   whole-framed = go (eqb mode 2) refl
     where
       two : mode ≡ 2 → Follows (told.entered (g .facts) s (run ++ (b ∷ []))) (doneAll (cond (eqb mode 4) (wroteAll (writeIn (tablesIn g) (run ++ (b ∷ [])))) []) g)
-          (acted m (verdict (tablesIn g) mode (held run b) (mark run b) (symbol b)) .next)
+          (acted m (verdict (tablesIn g) (familyIn g) mode (held run b) (mark run b) (symbol b)) .next)
       two e = rw e (unfold doneAll in (frame-2 failed speed said run g b))
 
-      go : (p : Bool) → eqb mode 2 ≡ p → Follows (cond p (told.entered (g .facts) s (run ++ (b ∷ []))) (cond (leaves (run ++ (b ∷ []))) (anew s 0) (cond (isTaken (tablesIn g) mode (run ++ (b ∷ []))) (anew s mode) (anew s (refusedIn (g .facts) mode)))))
-          (doneAll (cond (eqb mode 4) (wroteAll (writeIn (tablesIn g) (run ++ (b ∷ [])))) []) g) (acted m (verdict (tablesIn g) mode (held run b) (mark run b) (symbol b)) .next)
+      go : (p : Bool) → eqb mode 2 ≡ p → Follows (cond p (told.entered (g .facts) s (run ++ (b ∷ []))) (cond (leaves (run ++ (b ∷ []))) (anew s 0) (cond (isTaken (tablesIn g) (familyIn g) mode (run ++ (b ∷ []))) (anew s mode) (anew s (refusedIn (g .facts) mode)))))
+          (doneAll (cond (eqb mode 4) (wroteAll (writeIn (tablesIn g) (run ++ (b ∷ [])))) []) g) (acted m (verdict (tablesIn g) (familyIn g) mode (held run b) (mark run b) (symbol b)) .next)
       go true e = two (eqb-true mode 2 e)
       go false e = frame-3 mode failed speed said run g b e session
 

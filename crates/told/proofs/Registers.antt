@@ -6,13 +6,13 @@ use Rattle.clock.specs.Seconds.{nextSecond}
 use Rattle.state.specs.declared.Registers.{Registers}
 use Rattle.tariff.specs.Months.{monthStarts, monthClosed}
 use Rattle.history.specs.Frames.{clock, account, row}
-use Rattle.history.specs.Deeds.{Deed, wrote, second, energy, closed, writesOf}
-use Rattle.history.specs.Told.{accountTold, tablesTold, clockBy, clockTold, countersTold, archiveTold, registersTold}
+use Rattle.history.specs.Deeds.{Deed, wrote, second, energy, energyOut, closed, writesOf}
+use Rattle.history.specs.Told.{accountTold, tablesTold, clockBy, clockTold, countersTold, exportedTold, archiveTold, registersTold}
 use Rattle.told.specs.Doing.{written, done, doneAll}
 
 module _ (factory : Registers) where
   one-done : (d : Deed) (ds : List Deed) → registersTold factory (d ∷ ds) ≡ done d (registersTold factory ds)
-  unfolding writesOf accountTold tablesTold clockBy clockTold countersTold archiveTold written done monthClosed
+  unfolding writesOf accountTold tablesTold clockBy clockTold countersTold exportedTold archiveTold written done monthClosed
   one-done (wrote (clock c)) ds = refl
   one-done (wrote (account a)) ds = refl
   one-done (wrote (row n r)) ds = refl
@@ -21,7 +21,8 @@ module _ (factory : Registers) where
       go : (p : Bool) → monthStarts (nextSecond (clockTold (factory .clock) ds)) ≡ p → registersTold factory (second ∷ ds) ≡ done second (registersTold factory ds)
       go true e = rw e
       go false e = rw e
-  one-done (energy wh) ds = refl
+  one-done (energy units) ds = refl
+  one-done (energyOut units) ds = refl
   one-done closed ds = refl
 
   pub all-done : (xs ds : List Deed) → registersTold factory (xs ++ ds) ≡ doneAll xs (registersTold factory ds)

@@ -18,7 +18,7 @@ use Rattle.state.specs.declared.Facts.{Facts}
 use Rattle.state.specs.Making.{newRows}
 use Rattle.replies.specs.Shown.{rowOf}
 use Rattle.meter.specs.declared.Event.{Event}
-use Rattle.meter.specs.declared.Event.the-variants.{Character, Silence, Tick, Pulse, PowerUp, Unknown}
+use Rattle.meter.specs.declared.Event.the-variants.{Character, Silence, Tick, Pulse, PowerUp, PulseOut, Unknown}
 use Rattle.promises.proofs.Choices as choice
 use Rattle.delivery.proofs.Rows.{row-here, row-apart}
 use Rattle.history.specs.Frames.{Write, clock, account, row, goodWrite, tells, dataIn, isFrame, clockHere, accountHere, rowHere, writeOf, writeIn}
@@ -60,7 +60,8 @@ told-good facts (Character b ∷ past) =
     (choice.either (λ (xs : List Deed). allGood (tablesOf (facts .edition)) (writesOf (xs ++ deeds facts past)) ≡ true) (eqb (s .mode) 0 && closesPeriod facts (s .said ++ (b ∷ []))) before before)
 told-good facts (Silence ∷ past) = told-good facts past
 told-good facts (Tick ∷ past) = told-good facts past
-told-good facts (Pulse wh ∷ past) = told-good facts past
+told-good facts (Pulse units ∷ past) = told-good facts past
+told-good facts (PulseOut units ∷ past) = told-good facts past
 told-good facts (PowerUp ∷ past) = told-good facts past
 told-good facts (Unknown ∷ past) = told-good facts past
 

@@ -1,27 +1,28 @@
 -- A meter follows its history: one event, then all. Assumes nothing.
-use mathlib.Core.Path.{_≡_, refl, ap}
+use mathlib.Core.Path.{_≡_, refl, ap, _∙_}
 use mathlib.Core.Bool.{Bool, true, false, cond, _&&_}
 use mathlib.Core.List.{List, [], _∷_}
 use Prim.Native.Nat.{ℕ, _≤_}
 use native.Mathlib.Omega.{arith}
 use borrow.Author.Tests.{le-leb, lt-ltb, le-ltb, leb-true, leb-false, eqb-true, eqb-false}
 use lib.Dec.{eqb, leb}
+use Rattle.values.specs.Family.{isEqm}
 use Rattle.values.specs.Registers.{goodSerial}
 use Rattle.clock.specs.declared.Clock.{Clock}
 use Rattle.state.specs.Sizes.{replyRoom}
 use Rattle.state.specs.declared.Facts.{Facts}
 use Rattle.state.specs.declared.Registers.{Registers}
 use Rattle.state.specs.declared.Meter.{Meter}
-use Rattle.state.specs.WellFormed.{factoryGood, wellFormed}
+use Rattle.state.specs.WellFormed.{familyOf, factoryGood, wellFormed}
 use Rattle.state.specs.Making.{meterOf}
 use Rattle.state.specs.Setting.{inMode}
 use Rattle.state.proofs.Parts.{formed, formed-registers, formed-facts, edition-good}
 use Rattle.tariff.specs.Zones.{zoneIn}
 use Rattle.meter.specs.Outcomes.{silent, saying}
 use Rattle.meter.specs.Character.{taken, character}
-use Rattle.meter.specs.Events.{afterSilence, silence, tick, pulse, powerUp}
+use Rattle.meter.specs.Events.{afterSilence, pulseRefused, silence, tick, pulse, powerUp}
 use Rattle.meter.specs.declared.Event.{Event}
-use Rattle.meter.specs.declared.Event.the-variants.{Character, Silence, Tick, Pulse, PowerUp, Unknown}
+use Rattle.meter.specs.declared.Event.the-variants.{Character, Silence, Tick, Pulse, PowerUp, PulseOut, Unknown}
 use Rattle.meter.specs.Life.{met, lived}
 use Rattle.state.specs.Link.{linkOf, restSpeed}
 use Rattle.meter.specs.Link.{refusedReply}
@@ -31,7 +32,7 @@ use Rattle.history.specs.Past.{happens, pastOf}
 use Rattle.history.specs.Standing.{Standing, standingAs, anew, standing}
 use Rattle.history.specs.Standing as told
 use Rattle.history.specs.Deeds.{byByte, deedsAt, deeds, writesOf}
-use Rattle.history.specs.Told.{accountTold, tablesTold, clockTold, countersTold, archiveTold, registersTold}
+use Rattle.history.specs.Told.{accountTold, tablesTold, clockTold, countersTold, exportedTold, archiveTold, registersTold}
 use Rattle.told.specs.Doing.{done, doneAll}
 use Rattle.told.specs.Claims.{Told}
 use Rattle.told.proofs.Holding.{holding, Follows, fresh}
@@ -93,7 +94,7 @@ module _ (factory : Registers) where
 
     -- it happens, or it is as if it had not been
     abbrev then : ℕ → Event → List Event
-    then room e = cond (happens room e) (e ∷ past) past
+    then room e = cond (happens (facts .decimals) room e) (e ∷ past) past
 
     by-byte : (room b : ℕ) → Held (then room (Character b)) (met m room (Character b) .next)
     unfolding happens met character
@@ -127,15 +128,30 @@ module _ (factory : Registers) where
     unfolding happens met tick standing
     by-tick room = rw (edition-good m good, good, f .is) (deed-follows s Tick past _ (unfold deedsAt doneAll done in (record { speed = f .speed; is = refl })))
 
-    by-pulse : (room wh : ℕ) → Held (then room (Pulse wh)) (met m room (Pulse wh) .next)
-    unfolding happens met pulse standing zoneIn
-    by-pulse room wh = go (leb wh 1000000) refl
+    -- the meter is of the factory's family
+    of-family : familyOf m ≡ facts .decimals
+    of-family = ap familyOf (f .is)
+
+    by-pulse : (room units : ℕ) → Held (then room (Pulse units)) (met m room (Pulse units) .next)
+    unfolding happens met pulse pulseRefused standing zoneIn
+    by-pulse room units = go (leb units 1000000) refl
       where
-        go : (p : Bool) → leb wh 1000000 ≡ p → Held (cond p (Pulse wh ∷ past) past) (met m room (Pulse wh) .next)
+        go : (p : Bool) → leb units 1000000 ≡ p → Held (cond p (Pulse units ∷ past) past) (met m room (Pulse units) .next)
         go true e =
-            rw (edition-good m good, le-ltb 1000000 wh (leb-true wh 1000000 e), good, f .is)
-            (deed-follows s (Pulse wh) past _ (unfold deedsAt doneAll done in (record { speed = f .speed; is = refl })))
-        go false e = rw (edition-good m good, lt-ltb 1000000 wh (leb-false wh 1000000 e)) f
+            rw (edition-good m good, le-ltb 1000000 units (leb-true units 1000000 e), good, f .is)
+            (deed-follows s (Pulse units) past _ (unfold deedsAt doneAll done in (record { speed = f .speed; is = refl })))
+        go false e = rw (edition-good m good, lt-ltb 1000000 units (leb-false units 1000000 e)) f
+
+    by-pulse-out : (room units : ℕ) → Held (then room (PulseOut units)) (met m room (PulseOut units) .next)
+    unfolding happens met pulse pulseRefused standing zoneIn
+    by-pulse-out room units = go (isEqm (facts .decimals)) refl (leb units 1000000) refl
+      where
+        go : (q : Bool) → isEqm (facts .decimals) ≡ q → (p : Bool) → leb units 1000000 ≡ p → Held (cond (q && p) (PulseOut units ∷ past) past) (met m room (PulseOut units) .next)
+        go true k true e =
+            rw (edition-good m good, ap isEqm of-family ∙ k, le-ltb 1000000 units (leb-true units 1000000 e), good, f .is)
+            (deed-follows s (PulseOut units) past _ (unfold deedsAt doneAll done in (record { speed = f .speed; is = refl })))
+        go true k false e = rw (edition-good m good, ap isEqm of-family ∙ k, lt-ltb 1000000 units (leb-false units 1000000 e)) f
+        go false k p e = rw (edition-good m good, ap isEqm of-family ∙ k) f
 
     by-power : (room : ℕ) → Held (then room PowerUp) (met m room PowerUp .next)
     unfolding happens met powerUp standing deeds deedsAt
@@ -145,27 +161,28 @@ module _ (factory : Registers) where
     met-follows room (Character b) = by-byte room b
     met-follows room Silence = by-silence room
     met-follows room Tick = by-tick room
-    met-follows room (Pulse wh) = by-pulse room wh
+    met-follows room (Pulse units) = by-pulse room units
     met-follows room PowerUp = by-power room
+    met-follows room (PulseOut units) = by-pulse-out room units
     met-follows room Unknown = unfold happens met in (rw (edition-good m good) f)
 
   -- ---- all of them
 
-  lived-follows : (past : List Event) (m : Meter) (es : List (ℕ × Event)) → wellFormed m ≡ true → Held past m → Held (pastOf past es) (lived m es)
+  lived-follows : (past : List Event) (m : Meter) (es : List (ℕ × Event)) → wellFormed m ≡ true → Held past m → Held (pastOf (facts .decimals) past es) (lived m es)
   unfolding pastOf lived
   lived-follows past m [] good f = f
   lived-follows past m ((room, e) ∷ es) good f =
-      lived-follows (cond (happens room e) (e ∷ past) past) (met m room e .next) es (met-stays m room e good) (met-follows past m good f room e)
+      lived-follows (cond (happens (facts .decimals) room e) (e ∷ past) past) (met m room e .next) es (met-stays m room e good) (met-follows past m good f room e)
 
 module _ (facts : Facts) (account : List ℕ) (clock : Clock) (good : factoryGood facts account clock ≡ true) (es : List (ℕ × Event)) where
   abbrev made : Meter
   made = meterOf facts account clock
 
   starts : Held (made .registers) [] made
-  unfolding standing deeds accountTold tablesTold clockTold countersTold archiveTold writesOf
+  unfolding standing deeds accountTold tablesTold clockTold countersTold exportedTold archiveTold writesOf
   starts = record { speed = restSpeed (facts .link); is = rw (fresh 0) }
 
-  follows : Held (made .registers) (pastOf [] es) (lived made es)
+  follows : Held (made .registers) (pastOf (facts .decimals) [] es) (lived made es)
   follows = lived-follows (made .registers) [] made es (new-well-formed facts account clock good) starts
 
   -- a meter from the factory holds nothing but what it was told
@@ -177,6 +194,7 @@ module _ (facts : Facts) (account : List ℕ) (clock : Clock) (good : factoryGoo
         tables-told = ap (λ (m : Meter). m .registers .tables) e;
         clock-told = ap (λ (m : Meter). m .registers .clock) e;
         counters-told = ap (λ (m : Meter). m .registers .counters) e;
+        exported-told = ap (λ (m : Meter). m .registers .exported) e;
         archive-told = ap (λ (m : Meter). m .registers .archive) e;
         facts-kept = ap (λ (m : Meter). m .registers .facts) e;
         mode-told = ap (λ (m : Meter). m .mode) e;

@@ -15,7 +15,7 @@ use Rattle.state.specs.declared.Registers.{Registers}
 use Rattle.state.specs.Making.{meterOf}
 use Rattle.replies.specs.Shown.{rowOf}
 use Rattle.meter.specs.declared.Event.{Event}
-use Rattle.meter.specs.declared.Event.the-variants.{Character, Silence, Tick, Pulse, PowerUp, Unknown}
+use Rattle.meter.specs.declared.Event.the-variants.{Character, Silence, Tick, Pulse, PowerUp, PulseOut, Unknown}
 use Rattle.meter.specs.Life.{lived}
 use Rattle.history.specs.Frames.{Write, clock, account, row, tries, passwordIn, writeIn}
 use Rattle.history.specs.Past.{happens}
@@ -32,7 +32,8 @@ rightEver facts [] = false
 rightEver facts (Character b ∷ past) = rightNow facts (standing facts past) b || rightEver facts past
 rightEver facts (Silence ∷ past) = rightEver facts past
 rightEver facts (Tick ∷ past) = rightEver facts past
-rightEver facts (Pulse wh ∷ past) = rightEver facts past
+rightEver facts (Pulse units ∷ past) = rightEver facts past
+rightEver facts (PulseOut units ∷ past) = rightEver facts past
 rightEver facts (PowerUp ∷ past) = rightEver facts past
 rightEver facts (Unknown ∷ past) = rightEver facts past
 
@@ -45,9 +46,9 @@ pub record SameSettings (a b : Registers) : Type 0 where
 pub data AccountAfter (facts : Facts) (account₀ : List ℕ) (clock₀ : Clock) (es : List (ℕ × Event)) (room : ℕ) (e : Event) : Type 0 where
   stays : lived (meterOf facts account₀ clock₀) (es ++ ((room, e) ∷ [])) .registers .account ≡ lived (meterOf facts account₀ clock₀) es .registers .account
       → AccountAfter facts account₀ clock₀ es room e
-  written : (b : ℕ) (a : List ℕ) → e ≡ Character b → happens room e ≡ true
-      → standing facts (happened es) .mode ≡ 4 → isWhole (standing facts (happened es)) ≡ true
-      → writeIn (tablesOf (facts .edition)) (frameBy (standing facts (happened es)) b) ≡ account a ∷ []
+  written : (b : ℕ) (a : List ℕ) → e ≡ Character b → happens (facts .decimals) room e ≡ true
+      → standing facts (happened facts es) .mode ≡ 4 → isWhole (standing facts (happened facts es)) ≡ true
+      → writeIn (tablesOf (facts .edition)) (frameBy (standing facts (happened facts es)) b) ≡ account a ∷ []
       → lived (meterOf facts account₀ clock₀) (es ++ ((room, e) ∷ [])) .registers .account ≡ a
       → AccountAfter facts account₀ clock₀ es room e
 
@@ -60,7 +61,7 @@ rowTold n (account a ∷ ws) = rowTold n ws
 
 pub record Corollaries (facts : Facts) (account₀ : List ℕ) (clock₀ : Clock) : Type 0 where
   -- without a right password account and tables are the factory's
-  pub no-password : (es : List (ℕ × Event)) → rightEver facts (happened es) ≡ false
+  pub no-password : (es : List (ℕ × Event)) → rightEver facts (happened facts es) ≡ false
       → SameSettings (lived (meterOf facts account₀ clock₀) es .registers) (meterOf facts account₀ clock₀ .registers)
   -- an account changes only by a K write in programming mode
   pub only-by-write : (es : List (ℕ × Event)) (room : ℕ) (e : Event) → AccountAfter facts account₀ clock₀ es room e

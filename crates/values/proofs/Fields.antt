@@ -11,9 +11,8 @@ use Rattle.text.specs.Decimal.{numberAt}
 use Rattle.text.specs.Layout.{Piece, pattern, fits, numbersFrom, agrees}
 use Rattle.text.proofs.Matching.{matched-length}
 use Rattle.text.proofs.Forms.{form-within}
-use Rattle.values.specs.Texts.{threeTwos, clockForm, stampForm, counterForm, tableForm}
-use Rattle.values.specs.Edition.{counterDigits, counterDecimals}
-use Rattle.values.specs.Numbers.{ThreeAt, ClockAt, StampAt, CounterAt, TableAt}
+use Rattle.values.specs.Texts.{threeTwos, clockForm, stampForm, tableForm}
+use Rattle.values.specs.Numbers.{ThreeAt, ClockAt, StampAt, TableAt}
 
 -- a text of a form is as long as its pattern
 pub fits-long : (p s : List ℕ) → fits p s ≡ true → length s ≡ length p
@@ -48,12 +47,6 @@ stamp-fields s h =
     let f = form-within stampForm s h in
     let t = f .1 .1 .1 in
     record { long = n; date = record { room = omega arith; first = f .0; second = f .1 .0; third = f .1 .1 .0 }; hour = t .0; minute = t .1 .0 }
-
-pub counter-fields : (s : List ℕ) → fits (pattern (counterForm counterDigits counterDecimals)) s ≡ true → CounterAt s
-unfolding numbersFrom pattern
-counter-fields s h =
-    let f = form-within (counterForm counterDigits counterDecimals) s h in
-    record { long = fits-long (pattern (counterForm counterDigits counterDecimals)) s h; whole = f .0; decimals = f .1 .0 }
 
 pub table-fields : (s : List ℕ) → fits (pattern tableForm) s ≡ true → TableAt s
 unfolding numbersFrom pattern

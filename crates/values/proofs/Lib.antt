@@ -1,5 +1,6 @@
 pub mod Editions
 pub mod Fields
 pub mod RoundTrip
+pub mod Families
 pub mod Rules
 pub mod Serials

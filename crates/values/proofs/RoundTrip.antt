@@ -4,17 +4,18 @@ use mathlib.Core.Path.{_≡_, refl, sym, ap, _∙_}
 use mathlib.Core.Bool.{Bool, true, false, cond, _&&_}
 use mathlib.Core.List.{List, [], _∷_}
 use Prim.Native.Nat.{ℕ, zero, suc, _+_, _-_, _*_, _/_, _%_, _^_, _≤_, _<_}
-use native.Mathlib.Nat.{pow-suc, mod-lt, div-lt-iff-lt-mul, div-add-mod'}
+use native.Mathlib.Nat.{mod-lt, div-lt-iff-lt-mul, div-add-mod'}
 use native.Mathlib.Omega.{arith}
 use borrow.Author.Tests.{lt-ltb, leb-true}
 use lib.Arith.{digits-div, digits-mod}
 use lib.Pow.{pow-add}
-use lib.Dec.{leb, ltb, lit<}
+use lib.Dec.{leb, ltb}
 use lib.ListN.{length, getD}
 use Rattle.line.proofs.Runs.{and-left, and-right, and-both, chosen}
 use Rattle.line.specs.Runs.{every}
 use Rattle.text.specs.Classes.{between}
 use Rattle.text.specs.Decimal.{numberAt}
+use Rattle.text.proofs.Decimal.{ten-pos}
 use Rattle.text.specs.Layout.{Piece, layoutText, numbersFrom, pattern, fits, numbersFit, plain}
 use Rattle.text.proofs.Forms.{text-fits, text-reads, form-is-text, form-within}
 use Rattle.clock.specs.Dates.{realDate, realTime}
@@ -212,10 +213,6 @@ stamp-read-is-text s h =
 
 -- ---- the counter, over its digits and decimals
 
-ten-pos : (k : ℕ) → 0 < 10 ^ k
-ten-pos zero = lit< tt
-ten-pos (suc k) = rw (pow-suc 10 k) (omega (arith, ten-pos k))
-
 module _ (all decimals n : ℕ) (h : n < 10 ^ all) (low : decimals ≤ all) where
   counter-fit : numbersFit (counterForm all decimals) ((n / 10 ^ decimals) ∷ (n % 10 ^ decimals) ∷ []) ≡ true
   unfolding numbersFit
@@ -224,7 +221,7 @@ module _ (all decimals n : ℕ) (h : n < 10 ^ all) (low : decimals ≤ all) wher
       let g : n < 10 ^ (all - decimals) * 10 ^ decimals = rw p at h in
       rw (lt-ltb _ _ (div-lt-iff-lt-mul (ten-pos decimals) .1 g), lt-ltb _ _ (mod-lt n (ten-pos decimals)))
 
-  pub counter-reads-back : counterRead all decimals (counterText all decimals n) ≡ record { ok = true; wh = n }
+  pub counter-reads-back : counterRead all decimals (counterText all decimals n) ≡ record { ok = true; number = n }
   unfolding counterRead counterText numbersFrom
   counter-reads-back =
       let ps = counterForm all decimals in
@@ -235,11 +232,11 @@ module _ (all decimals n : ℕ) (h : n < 10 ^ all) (low : decimals ≤ all) wher
       let z : all - decimals + 1 ≡ 0 + (all - decimals) + 1 = omega arith in
       rw (text-fits ps ns (counter-plain all decimals) counter-fit, a, z, b, div-add-mod' n (10 ^ decimals))
 
-pub counter-read-is-text : (all decimals : ℕ) (s : List ℕ) → counterRead all decimals s .ok ≡ true → counterText all decimals (counterRead all decimals s .wh) ≡ s
+pub counter-read-is-text : (all decimals : ℕ) (s : List ℕ) → counterRead all decimals s .ok ≡ true → counterText all decimals (counterRead all decimals s .number) ≡ s
 unfolding counterRead counterText numbersFrom
 counter-read-is-text all decimals s h =
     let ps = counterForm all decimals in
-    let f : fits (pattern ps) s ≡ true = chosen (λ (r : CounterRead). r .ok) (fits (pattern ps) s) _ (record { ok = false; wh = 0 }) refl h in
+    let f : fits (pattern ps) s ≡ true = chosen (λ (r : CounterRead). r .ok) (fits (pattern ps) s) _ (record { ok = false; number = 0 }) refl h in
     let a = numberAt s 0 (all - decimals) in
     let b = numberAt s (0 + (all - decimals) + 1) decimals in
     let z : all - decimals + 1 ≡ 0 + (all - decimals) + 1 = omega arith in

@@ -19,10 +19,3 @@ tablePlaces = 25
 -- a table's row has a character for each hour of a day
 abbrev pub rowLength : ℕ
 rowLength = 24
-
--- a counter is shown in so many digits, so many of them decimals of a kWh
-abbrev pub counterDigits : ℕ
-counterDigits = 9
-
-abbrev pub counterDecimals : ℕ
-counterDecimals = 3

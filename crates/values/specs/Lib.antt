@@ -1,6 +1,7 @@
 pub mod Edition
+pub mod Family
 pub mod Registers
 pub mod Texts
-pub mod Numbers
 pub mod Reading
+pub mod Numbers
 pub mod Serials

@@ -1,11 +1,12 @@
 -- Where numbers stand in a text, and how large each can be.
 use mathlib.Core.Path.{_≡_}
 use mathlib.Core.List.{List}
-use Prim.Native.Nat.{ℕ, _+_, _-_, _^_, _≤_, _<_}
+use Prim.Native.Nat.{ℕ, _+_, _≤_, _<_}
 use lib.ListN.{length}
 use Rattle.text.specs.Decimal.{numberAt}
 use Rattle.values.specs.declared.number.Three.{Three}
-use Rattle.values.specs.Edition.{counterDigits, counterDecimals}
+use Rattle.values.specs.Family.{counterDigits, counterDecimals, counterEnd}
+use Rattle.values.specs.Reading.{counterIn}
 
 -- there are three from a place on, each below 100
 pub record ThreeAt (s : List ℕ) (at : ℕ) : Type 0 where
@@ -32,11 +33,10 @@ pub record StampAt (s : List ℕ) : Type 0 where
   pub hour : numberAt s 9 2 < 100
   pub minute : numberAt s 12 2 < 100
 
--- as in eeeeee.eee*kWh
-pub record CounterAt (s : List ℕ) : Type 0 where
-  pub long : length s ≡ 14
-  pub whole : numberAt s 0 (counterDigits - counterDecimals) < 10 ^ (counterDigits - counterDecimals)
-  pub decimals : numberAt s (counterDigits - counterDecimals + 1) counterDecimals < 10 ^ counterDecimals
+-- as in eeeeee.eee*kWh, or as another family shows it
+pub record CounterAt (family : ℕ) (s : List ℕ) : Type 0 where
+  pub long : length s ≡ counterDigits family + 5
+  pub number : counterIn (counterDigits family) (counterDecimals family) s < counterEnd family
 
 -- as in xx
 pub record TableAt (s : List ℕ) : Type 0 where

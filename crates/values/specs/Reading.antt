@@ -14,6 +14,7 @@ use Rattle.values.specs.declared.reading.ClockRead.{ClockRead}
 use Rattle.values.specs.declared.reading.StampRead.{StampRead}
 use Rattle.values.specs.declared.reading.CounterRead.{CounterRead}
 use Rattle.values.specs.declared.reading.TableRead.{TableRead}
+use Rattle.values.specs.Family.{counterDigits, counterDecimals}
 use Rattle.values.specs.Registers.{goodTable}
 use Rattle.values.specs.Texts.{dateForm, timeForm, clockForm, stampForm, counterForm, tableForm}
 
@@ -69,7 +70,11 @@ counterIn all decimals s = numberAt s 0 (all - decimals) * 10 ^ decimals + numbe
 
 unfoldable pub counterRead : ℕ → ℕ → List ℕ → CounterRead
 counterRead all decimals s =
-    cond (fits (pattern (counterForm all decimals)) s) (record { ok = true; wh = counterIn all decimals s }) (record { ok = false; wh = 0 })
+    cond (fits (pattern (counterForm all decimals)) s) (record { ok = true; number = counterIn all decimals s }) (record { ok = false; number = 0 })
+
+-- as a family shows it
+unfoldable pub energyRead : ℕ → List ℕ → CounterRead
+energyRead family s = counterRead (counterDigits family) (counterDecimals family) s
 
 -- xx, of so many tables
 abbrev pub noTable : TableRead

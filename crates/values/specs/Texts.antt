@@ -8,6 +8,7 @@ use Rattle.clock.specs.declared.Date.{Date}
 use Rattle.clock.specs.declared.Time.{Time}
 use Rattle.clock.specs.declared.Clock.{Clock}
 use Rattle.clock.specs.declared.Stamp.{Stamp}
+use Rattle.values.specs.Family.{counterDigits, counterDecimals}
 
 -- a serial's digits, with a character between the third and the fourth
 abbrev pub parted : ℕ → List ℕ → List ℕ
@@ -67,3 +68,7 @@ counterForm all decimals = digits (all - decimals) ∷ fixed (chars ".") ∷ dig
 
 unfoldable pub counterText : ℕ → ℕ → ℕ → List ℕ
 counterText all decimals n = layoutText (counterForm all decimals) ((n / 10 ^ decimals) ∷ (n % 10 ^ decimals) ∷ [])
+
+-- as a family shows it
+unfoldable pub energyText : ℕ → ℕ → List ℕ
+energyText family n = counterText (counterDigits family) (counterDecimals family) n

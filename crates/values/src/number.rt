@@ -4,7 +4,7 @@ ghost use Prim.Native.Nat.{_+_, _-_, _<_, _≤_, _^_};
 ghost use lib.ListN.{length};
 ghost use Rattle.values.specs.Numbers.{ThreeAt, threeIn};
 ghost use Rattle.line.specs.Quoted.{char};
-ghost use Rattle.text.specs.Decimal.{valueOf, numberAt};
+ghost use Rattle.text.specs.Decimal.{valueFrom, numberAt};
 
 // What a digit stands for; a character below '0' stands for nothing.
 fn digit(c: u8) -> u32
@@ -44,12 +44,12 @@ pub fn three_at(s: &[u8], at: usize) -> Three
     }
 }
 
-// The number that so many digits say, where it fits.
-pub fn number(s: &[u8]) -> u32
-    requires { ⌜ valueOf (now s) < 2 ^ 32 ⌝ }
-    ensures { λ r. ⌜ r ≡ valueOf (now (s .entry)) ⌝ }
+// The number that digits say after those of another, where it fits.
+pub fn number(before: u32, s: &[u8]) -> u32
+    requires { ⌜ valueFrom before (now s) < 2 ^ 32 ⌝ }
+    ensures { λ r. ⌜ r ≡ valueFrom before (now (s .entry)) ⌝ }
 {
-    let mut n: u32 = 0;
+    let mut n = before;
     let mut i = 0;
     while i < s.len() {
         n = n * 10 + digit(s[i]);

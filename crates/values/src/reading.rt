@@ -1,10 +1,14 @@
 // Dates, times, counters and table numbers read back from their texts.
 ghost use mathlib.Core.Path.{_≡_};
 ghost use Prim.Native.Nat.{_+_, _<_};
-ghost use Rattle.values.specs.Edition.{counterDigits, counterDecimals};
+ghost use Rattle.values.specs.Family.{counterDigits, counterDecimals};
+ghost use Rattle.text.specs.Layout.{pattern, fits};
 ghost use Rattle.values.specs.Numbers.{ClockAt, StampAt, CounterAt};
-ghost use Rattle.values.specs.Reading.{someDate, someTime, someClock, noClock, clockIn, someStamp, noStamp, stampIn, counterIn, someTable, dateRead, timeRead, clockRead, stampRead, counterRead, tableRead};
+ghost use Rattle.values.specs.Texts.{counterForm};
+ghost use Rattle.values.specs.Reading.{someDate, someTime, someClock, noClock, clockIn, someStamp, noStamp, stampIn, counterIn, someTable, dateRead, timeRead, clockRead, stampRead, energyRead, tableRead};
 use crate::TableNo;
+use crate::family::counter_decimals;
+use crate::family::counter_digits;
 use crate::number::Three;
 use crate::number::number;
 use crate::number::three_at;
@@ -36,7 +40,7 @@ pub struct StampRead {
 
 pub struct CounterRead {
     pub ok: bool,
-    pub wh: u32,
+    pub number: u32,
 }
 
 pub struct TableRead {
@@ -252,27 +256,49 @@ pub fn read_stamp(s: &[u8]) -> StampRead
     no_stamp()
 }
 
-// The Wh of a counter's text.
-fn counter_in(s: &[u8]) -> u32
-    requires { ⌜ CounterAt (now s) ⌝ }
-    ensures { λ r. ⌜ r ≡ counterIn counterDigits counterDecimals (now (s .entry)) ⌝ }
+// Whether a text has the form of a family's counters.
+fn is_counter(s: &[u8], family: u8) -> bool
+    ensures { λ r. ⌜ r ≡ fits (pattern (counterForm (counterDigits family) (counterDecimals family))) (now (s .entry)) ⌝ }
 {
-    let kwh = number(&s[0..6]);
-    let rest = number(&s[7..10]);
-    kwh * 1000 + rest
+    if family == 0 {
+        return text::has_form(b"######.###*kWh", s);
+    }
+    if family == 2 {
+        return text::has_form(b"######.##*kWh", s);
+    }
+    if family == 3 {
+        return text::has_form(b"#####.###*kWh", s);
+    }
+    text::has_form(b"####.####*kWh", s)
 }
 
-// A counter's Wh from `eeeeee.eee*kWh`.
-pub fn read_counter(s: &[u8]) -> CounterRead
-    ensures { λ r. ⌜ r ≡ counterRead counterDigits counterDecimals (now (s .entry)) ⌝ }
+// The number of a counter's text.
+fn counter_in(s: &[u8], family: u8) -> u32
+    requires { ⌜ CounterAt family (now s) ⌝ }
+    ensures { λ r. ⌜ r ≡ counterIn (counterDigits family) (counterDecimals family) (now (s .entry)) ⌝ }
 {
-    if text::has_form(b"######.###*kWh", s) {
+    let digits = counter_digits(family);
+    let point = digits - counter_decimals(family);
+    let after = point + 1;
+    let end = digits + 1;
+    let kwh = number(0, &s[0..point]);
+    number(kwh, &s[after..end])
+}
+
+// A counter from `eeeeee.eee*kWh`, or as another family shows it.
+pub fn read_counter(s: &[u8], family: u8) -> CounterRead
+    ensures { λ r. ⌜ r ≡ energyRead family (now (s .entry)) ⌝ }
+{
+    if is_counter(s, family) {
         return CounterRead {
             ok: true,
-            wh: counter_in(s),
+            number: counter_in(s, family),
         };
     }
-    CounterRead { ok: false, wh: 0 }
+    CounterRead {
+        ok: false,
+        number: 0,
+    }
 }
 
 // The table that a number of two digits names, of so many tables.

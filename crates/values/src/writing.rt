@@ -2,10 +2,13 @@
 ghost use mathlib.Core.Path.{_≡_};
 ghost use Prim.Native.Nat.{_+_, _-_, _≤_, _<_};
 ghost use lib.ListN.{length};
+ghost use Rattle.text.specs.Decimal.{decimal};
 ghost use Rattle.text.specs.Writing.{stored};
-ghost use Rattle.values.specs.Edition.{counterDigits, counterDecimals};
-ghost use Rattle.values.specs.Texts.{parted, serialText, wiredText, tableText, dateText, timeText, clockText, stampText, counterText};
+ghost use Rattle.values.specs.Family.{counterDigits};
+ghost use Rattle.values.specs.Texts.{parted, serialText, wiredText, tableText, dateText, timeText, clockText, stampText, energyText};
 use crate::TableNo;
+use crate::family::counter_decimals;
+use crate::family::counter_digits;
 use clock::Clock;
 use clock::Date;
 use clock::Stamp;
@@ -149,29 +152,34 @@ pub fn put_stamp(buf: &mut [u8], at: usize, stamp: Stamp) -> usize
     text::put(buf, a, &shown)
 }
 
-// A counter's Wh as `eeeeee.eee*kWh`.
-pub fn put_counter(buf: &mut [u8], at: usize, wh: u32) -> usize
-    requires { ⌜ at + 14 ≤ length (now buf) ⌝ }
-    ensures next { λ r. ⌜ r ≡ at + 14 ⌝ }
-    ensures held { λ _. ⌜ now (buf .exit) ≡ stored (now (buf .entry)) at (counterText counterDigits counterDecimals wh) ⌝ }
+// A number's last nine digits.
+fn nine_digits(n: u32) -> [u8; 9]
+    ensures { λ r. ⌜ r ≡ decimal 9 n ⌝ }
 {
-    let e = wh / 1000;
-    let f = wh % 1000;
-    let shown = [
-        b'0' + (e / 10 / 10 / 10 / 10 / 10 % 10) as u8,
-        b'0' + (e / 10 / 10 / 10 / 10 % 10) as u8,
-        b'0' + (e / 10 / 10 / 10 % 10) as u8,
-        b'0' + (e / 10 / 10 % 10) as u8,
-        b'0' + (e / 10 % 10) as u8,
-        b'0' + (e % 10) as u8,
-        b'.',
-        b'0' + (f / 10 / 10 % 10) as u8,
-        b'0' + (f / 10 % 10) as u8,
-        b'0' + (f % 10) as u8,
-        b'*',
-        b'k',
-        b'W',
-        b'h',
-    ];
-    text::put(buf, at, &shown)
+    [
+        b'0' + (n / 10 / 10 / 10 / 10 / 10 / 10 / 10 / 10 % 10) as u8,
+        b'0' + (n / 10 / 10 / 10 / 10 / 10 / 10 / 10 % 10) as u8,
+        b'0' + (n / 10 / 10 / 10 / 10 / 10 / 10 % 10) as u8,
+        b'0' + (n / 10 / 10 / 10 / 10 / 10 % 10) as u8,
+        b'0' + (n / 10 / 10 / 10 / 10 % 10) as u8,
+        b'0' + (n / 10 / 10 / 10 % 10) as u8,
+        b'0' + (n / 10 / 10 % 10) as u8,
+        b'0' + (n / 10 % 10) as u8,
+        b'0' + (n % 10) as u8,
+    ]
+}
+
+// A counter as `eeeeee.eee*kWh`, or as another family shows it.
+pub fn put_counter(buf: &mut [u8], at: usize, n: u32, family: u8) -> usize
+    requires { ⌜ at + (counterDigits family + 5) ≤ length (now buf) ⌝ }
+    ensures next { λ r. ⌜ r ≡ at + (counterDigits family + 5) ⌝ }
+    ensures held { λ _. ⌜ now (buf .exit) ≡ stored (now (buf .entry)) at (energyText family n) ⌝ }
+{
+    let shown = nine_digits(n);
+    let first = 9 - counter_digits(family);
+    let point = 9 - counter_decimals(family);
+    let a = text::put(buf, at, &shown[first..point]);
+    let b = text::put(buf, a, b".");
+    let c = text::put(buf, b, &shown[point..9]);
+    text::put(buf, c, b"*kWh")
 }

@@ -311,9 +311,9 @@ module _ (m : Meter) (room : ℕ) (large : replyRoom ≤ room) (formed : wellFor
     frame-formed some = comes .formed some
 
 -- the last byte, as the meter is told it
-pub told-fits : (room b : ℕ) → replyRoom ≤ room → b < 256 → refusal room (eventOf 0 b) ≡ 0
+pub told-fits : (family room b : ℕ) → replyRoom ≤ room → b < 256 → refusal family room (eventOf 0 b) ≡ 0
 unfolding eventOf refusal
-told-fits room b h small = rw (le-leb b 255 (omega arith), le-ltb room replyRoom h)
+told-fits family room b h small = rw (le-leb b 255 (omega arith), le-ltb room replyRoom h)
 
 pub told-is : (m : Meter) (b : ℕ) → b < 256 → happened m (eventOf 0 b) ≡ taken m b
 unfolding eventOf happened

@@ -39,17 +39,20 @@ const fn digit(number: u8) -> u8 {
     b'0' + number % 10
 }
 
-/// The frames that ask for the zones.
-static ASK_ZONE: [[u8; 10]; 4] = {
+/// The frames that ask for the zones, and those that ask for what went out in them.
+static ASK_ZONE: [[u8; 10]; 4] = ask_zones(b'E');
+static ASK_ZONE_OUT: [[u8; 10]; 4] = ask_zones(b'G');
+
+const fn ask_zones(letter: u8) -> [[u8; 10]; 4] {
     let mut frames = [[0; 10]; 4];
     let mut zone = 0;
     while zone < 4 {
         let n = digit(zone as u8 + 1);
-        frames[zone] = framed([1, b'R', b'1', 2, b'E', n, b'(', b')', 3, 0]);
+        frames[zone] = framed([1, b'R', b'1', 2, letter, n, b'(', b')', 3, 0]);
         zone += 1;
     }
     frames
-};
+}
 
 /// The frames that ask for the tables.
 static ASK_TABLE: [[u8; 11]; 25] = {
@@ -175,6 +178,11 @@ pub fn read_total(out: &mut [u8]) -> Built {
     fixed(const { &framed(*b"\x01R1\x02E0()\x03 ") }, out)
 }
 
+#[inline(never)]
+pub fn read_total_out(out: &mut [u8]) -> Built {
+    fixed(const { &framed(*b"\x01R1\x02G0()\x03 ") }, out)
+}
+
 /// A serial's first and last eight digits as they are sent.
 #[inline(always)]
 fn sent_serial(serial: &[u8]) -> Option<(u64, u64)> {
@@ -248,15 +256,25 @@ pub fn password(password: &[u8], out: &mut [u8]) -> Built {
     (DONE, 16)
 }
 
-#[inline(never)]
-pub fn read_zone(zone: u8, out: &mut [u8]) -> Built {
+#[inline(always)]
+fn one_of(frames: &[[u8; 10]; 4], zone: u8, out: &mut [u8]) -> Built {
     if out.len() < COMMAND_ROOM {
         return (SHORT_ROOM, 0);
     }
-    match ASK_ZONE.get(usize::from(zone).wrapping_sub(1)) {
+    match frames.get(usize::from(zone).wrapping_sub(1)) {
         Some(frame) => fixed(frame, out),
         None => (FIELD, 0),
     }
+}
+
+#[inline(never)]
+pub fn read_zone(zone: u8, out: &mut [u8]) -> Built {
+    one_of(&ASK_ZONE, zone, out)
+}
+
+#[inline(never)]
+pub fn read_zone_out(zone: u8, out: &mut [u8]) -> Built {
+    one_of(&ASK_ZONE_OUT, zone, out)
 }
 
 #[inline(never)]

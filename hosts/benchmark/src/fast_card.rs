@@ -125,8 +125,9 @@ pub fn read(edition: u8, text: &[u8], out: &mut [u8]) -> (u8, usize, usize) {
 
 /// The card of a state: the number, and its length.
 pub fn write(meter: &Meter, out: &mut [u8]) -> (u8, usize) {
-    let Some(highest) = tables_of(meter.edition).filter(|_| fast_meter::well_formed(meter)) else {
-        return (14, 0);
+    let (number, _) = fast_meter::total(meter);
+    let Some(highest) = tables_of(meter.edition).filter(|_| number == 1) else {
+        return (number, 0);
     };
     let length = ACCOUNT_FIELD + usize::from(highest) * TABLE_FIELD;
     let Some(card) = out.get_mut(..length) else {

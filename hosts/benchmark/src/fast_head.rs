@@ -1,5 +1,6 @@
-//! The head's reading of replies, written by hand for speed in safe Rust: the yardstick for the proved
-//! head. The same checks and answers as the model, which the tests below hold it to.
+//! The head's reading of replies, and what it asks an EQM meter, written by hand for speed in safe
+//! Rust: the yardstick for the proved head. The same checks and answers as the model, which the tests
+//! below hold it to.
 
 use model::head::{answer, Lookup, Step};
 
@@ -195,7 +196,9 @@ mod tests {
                 minute: 59,
                 second: 58,
             },
+            decimals: 0,
             counters: [1_500, 999_999_999, 0, 123_456_789],
+            exported: [0; 4],
             tables: Vec::from_iter(
                 (0..24).map(|t| std::array::from_fn(|h| b'1' + ((7 * t + 3 * h) % 4) as u8)),
             ),
@@ -207,6 +210,7 @@ mod tests {
                     ..Clock::default()
                 },
                 counters: [1_500, 999_999_998, 0, 7],
+                exported: [0; 4],
             }],
         }
     }

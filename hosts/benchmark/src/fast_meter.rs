@@ -1,9 +1,9 @@
-//! The meter of edition 1 written for speed: the state is changed in place and still checked whole at every call.
-//! It shares the record with the model and nothing else.
+//! The meter written for speed, of every edition, link and family: the state is changed in place and
+//! still checked whole at every call. It shares the record with the model and nothing else.
 
 use model::meter::{
-    Answer, Clock, Meter, Period, ACK, BLOCK, COUNTER_END, CR, ETX, LF, NAK, PERIODS, PERIOD_LINES,
-    PLACES, PULSE_MOST, ROOM, SOH, STX,
+    Answer, Clock, Meter, Period, Way, ACK, COUNTER_END, CR, EQM_END, EQM_PERIOD_LINES, ETX, LF,
+    NAK, NO_EDITION, OPTICAL, PERIODS, PERIOD_LINES, PLACES, PULSE_MOST, ROOM, SOH, STX, WIRED,
 };
 
 /// Days of the months of a common year; 0 for what is no month.
@@ -34,25 +34,24 @@ const ACCOUNT: [bool; 256] = {
     good
 };
 
-// Where the lines of the data block start.
+// Where the lines of the data block start; from the energy on in document 01's family, and of an EQM
+// meter, which has twice as many of these lines.
 const SERIAL_LINE: usize = 1;
 const DATE_LINE: usize = SERIAL_LINE + 20;
 const TIME_LINE: usize = DATE_LINE + 17;
 const ACCOUNT_LINE: usize = TIME_LINE + 17;
 const ENERGY_LINE: usize = ACCOUNT_LINE + 19;
 const ENERGY: usize = 24;
+const EQM_ENERGY: usize = 22;
 const TABLE_LINE: usize = ENERGY_LINE + 5 * ENERGY;
+const EQM_TABLE_LINE: usize = ENERGY_LINE + 10 * EQM_ENERGY;
 const TABLE: usize = 36;
-const END_LINE: usize = TABLE_LINE + 24 * TABLE;
+const END: usize = TABLE_LINE + 25 * TABLE;
+const EQM_END_LINE: usize = EQM_TABLE_LINE + 25 * TABLE;
 
-/// The data block without parity and BCC, its values left open.
-const TEMPLATE: [u8; BLOCK - 1] = {
-    let mut block = [0; BLOCK - 1];
-    block[0] = STX;
-    block = put(block, SERIAL_LINE, b"C.1.0(nnn nnnnnnn)\r\n");
-    block = put(block, DATE_LINE, b"0.9.2(yy-mm-dd)\r\n");
-    block = put(block, TIME_LINE, b"0.9.1(hh:nn:ss)\r\n");
-    block = put(block, ACCOUNT_LINE, b"0.0.0(aaaaaaaaaa)\r\n");
+/// The data block of edition 2 up to its last line, without parity, its values left open.
+const TEMPLATE: [u8; END] = {
+    let mut block = front::<END>();
     let mut line = 0;
     while line < 5 {
         let at = ENERGY_LINE + line * ENERGY;
@@ -60,28 +59,61 @@ const TEMPLATE: [u8; BLOCK - 1] = {
         block[at + 5] = b"12340"[line];
         line += 1;
     }
+    rows(block, TABLE_LINE)
+};
+
+/// The same of an EQM meter.
+const EQM_TEMPLATE: [u8; EQM_END_LINE] = {
+    let mut block = front::<EQM_END_LINE>();
+    let mut line = 0;
+    while line < 10 {
+        let at = ENERGY_LINE + line * EQM_ENERGY;
+        block = put(block, at, b"d.8.n(eeeeeeeee*kWh)\r\n");
+        block[at] = if line < 5 { b'1' } else { b'2' };
+        block[at + 4] = b"12340"[line % 5];
+        line += 1;
+    }
+    rows(block, EQM_TABLE_LINE)
+};
+
+const fn front<const N: usize>() -> [u8; N] {
+    let mut block = [0; N];
+    block[0] = STX;
+    block = put(block, SERIAL_LINE, b"C.1.0(nnn nnnnnnn)\r\n");
+    block = put(block, DATE_LINE, b"0.9.2(yy-mm-dd)\r\n");
+    block = put(block, TIME_LINE, b"0.9.1(hh:nn:ss)\r\n");
+    put(block, ACCOUNT_LINE, b"0.0.0(aaaaaaaaaa)\r\n")
+}
+
+const fn rows<const N: usize>(mut block: [u8; N], from: usize) -> [u8; N] {
     let mut table = 0;
-    while table < 24 {
-        let at = TABLE_LINE + table * TABLE;
+    while table < 25 {
+        let at = from + table * TABLE;
         block = put(block, at, b"131.0.xx(rrrrrrrrrrrrrrrrrrrrrrrr)\r\n");
         block[at + 6] = b'0' + (table as u8 + 1) / 10;
         block[at + 7] = b'0' + (table as u8 + 1) % 10;
         table += 1;
     }
-    put(block, END_LINE, b"!\r\n\x03")
-};
+    block
+}
 
 /// The lines of a period, its number and its values left open.
 const PERIOD: &[u8; PERIOD_LINES] = b"0.1.2*kk(yy-mm-dd hh:nn)\r\n\
     15.8.1*kk(eeeeee.eee*kWh)\r\n15.8.2*kk(eeeeee.eee*kWh)\r\n\
     15.8.3*kk(eeeeee.eee*kWh)\r\n15.8.4*kk(eeeeee.eee*kWh)\r\n";
+const EQM_PERIOD: &[u8; EQM_PERIOD_LINES] = b"0.1.2*kk(yy-mm-dd hh:nn)\r\n\
+    1.8.1*kk(eeeeeeeee*kWh)\r\n1.8.2*kk(eeeeeeeee*kWh)\r\n\
+    1.8.3*kk(eeeeeeeee*kWh)\r\n1.8.4*kk(eeeeeeeee*kWh)\r\n\
+    2.8.1*kk(eeeeeeeee*kWh)\r\n2.8.2*kk(eeeeeeeee*kWh)\r\n\
+    2.8.3*kk(eeeeeeeee*kWh)\r\n2.8.4*kk(eeeeeeeee*kWh)\r\n";
 const PERIOD_TIME: usize = 26;
 const PERIOD_ENERGY: usize = 27;
+const EQM_PERIOD_ENERGY: usize = 25;
 
 /// SOH on the wire; ETX is the same there.
 const WIRE_SOH: u8 = 0x81;
 
-const fn put(mut block: [u8; BLOCK - 1], at: usize, text: &[u8]) -> [u8; BLOCK - 1] {
+const fn put<const N: usize>(mut block: [u8; N], at: usize, text: &[u8]) -> [u8; N] {
     let mut place = 0;
     while place < text.len() {
         block[at + place] = text[place];
@@ -115,8 +147,26 @@ fn date_good(year: u16, month: u8, day: u8) -> bool {
     (year.wrapping_sub(2000) < 100) & (month < 16) & (day.wrapping_sub(1) < days)
 }
 
+/// What counters of either direction stay below: nothing does where the decimals are no family's.
+fn ends(decimals: u8) -> (u32, u32) {
+    match decimals {
+        0 => (COUNTER_END, 1),
+        2..=4 => (EQM_END, EQM_END),
+        _ => (0, 0),
+    }
+}
+
+/// Counters below an end, and what they are added up to.
+fn counters_good(counters: [u32; 4], total: u32, end: u32) -> bool {
+    let [a, b, c, d] = counters;
+    // Four full counters fit u32; what does not fit is not below the end.
+    let sum = a.wrapping_add(b).wrapping_add(c).wrapping_add(d);
+    (a.max(b).max(c.max(d)) < end) && (total == sum % end)
+}
+
 /// The closed periods, and nothing where there is none.
 fn archive_good(meter: &Meter) -> bool {
+    let (end, end_out) = ends(meter.decimals);
     let closed = usize::from(meter.closed);
     if closed > PERIODS {
         return false;
@@ -125,16 +175,19 @@ fn archive_good(meter: &Meter) -> bool {
     let mut good = true;
     for period in kept {
         let [a, b, c, d] = period.counters;
+        let [e, f, g, h] = period.exported;
         good &= date_good(period.year, period.month, period.day)
             & (period.hour < 24)
             & (period.minute < 60)
-            & (a.max(b).max(c.max(d)) < COUNTER_END);
+            & (a.max(b).max(c.max(d)) < end)
+            & (e.max(f).max(g.max(h)) < end_out);
     }
     let mut bits = 0;
     for period in unused {
         let [a, b, c, d] = period.counters;
+        let [e, f, g, h] = period.exported;
         let small = period.month | period.day | period.hour | period.minute;
-        bits |= a | b | c | d | u32::from(period.year) | u32::from(small);
+        bits |= a | b | c | d | e | f | g | h | u32::from(period.year) | u32::from(small);
     }
     good & (bits == 0)
 }
@@ -175,36 +228,70 @@ pub fn well_formed(meter: &Meter) -> bool {
     for zone in tables {
         most = most.max(zone.wrapping_sub(b'1'));
     }
-    let mut stray = meter.edition ^ 1;
+    // The row behind the tables: zones of edition 2, zeros of edition 1.
+    let (lowest, over) = if meter.edition == 2 {
+        (b'1', 3)
+    } else {
+        (0, 0)
+    };
+    let mut stray = 0;
     for place in spare {
-        stray |= place;
+        stray = stray.max(place.wrapping_sub(lowest));
     }
     let mut account = true;
     for &character in &meter.account {
         account &= ACCOUNT[usize::from(character)];
     }
-    let mut counters = true;
-    for counter in meter.counters {
-        counters &= counter < COUNTER_END;
-    }
-    // Four full counters fit u32; what does not fit has failed above.
-    let sum = meter
-        .counters
-        .iter()
-        .fold(0, |sum: u32, &wh| sum.wrapping_add(wh));
-    counters &= meter.total == sum % COUNTER_END;
+    let (end, end_out) = ends(meter.decimals);
     (most < 4)
-        & (stray == 0)
+        & (stray <= over)
+        & edition_good(meter)
+        & ((meter.link == OPTICAL) | (meter.link == WIRED))
         & receiver_good(meter)
         & account
-        & counters
+        & counters_good(meter.counters, meter.total, end)
+        & counters_good(meter.exported, meter.exported_total, end_out)
         & eight_digits(eight(&meter.serial, 0))
         & eight_digits(eight(&meter.serial, 2))
         & eight_digits(eight(&meter.password, 0))
         & (meter.attempts < 4)
-        & ((meter.speed == 0) | ((meter.speed == 5) & (meter.mode >= 2)))
+        & ((meter.speed == rest(meter)) | ((meter.speed == 5) & (meter.mode >= 2)))
         & clock_good(&meter.clock)
         & archive_good(meter)
+}
+
+fn edition_good(meter: &Meter) -> bool {
+    (meter.edition == 1) | (meter.edition == 2)
+}
+
+/// The number of a state that is refused.
+fn refused(meter: &Meter) -> Option<Answer> {
+    if well_formed(meter) {
+        return None;
+    }
+    let number = if edition_good(meter) { 14 } else { NO_EDITION };
+    Some(answer(number, 0, 0))
+}
+
+/// The same of a call with a buffer: a small one comes behind the edition.
+fn refused_in(meter: &Meter, room: usize) -> Option<Answer> {
+    if room < ROOM && edition_good(meter) {
+        return Some(answer(12, 0, 0));
+    }
+    refused(meter)
+}
+
+/// The speed outside a session.
+fn rest(meter: &Meter) -> u8 {
+    if meter.link == WIRED {
+        5
+    } else {
+        0
+    }
+}
+
+fn tables(meter: &Meter) -> usize {
+    23 + usize::from(meter.edition)
 }
 
 /// Closes a period at the clock as it is.
@@ -218,17 +305,17 @@ fn close(meter: &mut Meter) {
         hour: clock.hour,
         minute: clock.minute,
         counters: meter.counters,
+        exported: meter.exported,
     };
     meter.closed += u8::from(meter.closed < PERIODS as u8);
 }
 
-/// The total for a display with 1, or 0 with 14.
+/// The total for a display with 1, or 0 with 14 or 16.
 #[inline(never)]
 pub fn total(meter: &Meter) -> (u8, u32) {
-    if well_formed(meter) {
-        (1, meter.total)
-    } else {
-        (14, 0)
+    match refused(meter) {
+        None => (1, meter.total),
+        Some(refused) => (refused.number, 0),
     }
 }
 
@@ -252,12 +339,12 @@ fn empty(meter: &mut Meter) {
     meter.held = [0; PLACES];
 }
 
-/// Outside a session there is no speed but 0.
+/// Outside a session there is no speed but the link's.
 fn enter(meter: &mut Meter, mode: u8) {
     empty(meter);
     meter.mode = mode;
     if mode < 2 {
-        meter.speed = 0;
+        meter.speed = rest(meter);
     }
 }
 
@@ -283,11 +370,8 @@ fn hold(meter: &mut Meter, character: u8, damaged: bool) {
 
 /// A received character.
 pub fn character(meter: &mut Meter, byte: u8, buffer: &mut [u8]) -> Answer {
-    if buffer.len() < ROOM {
-        return answer(12, 0, 0);
-    }
-    if !well_formed(meter) {
-        return answer(14, 0, 0);
+    if let Some(refused) = refused_in(meter, buffer.len()) {
+        return refused;
     }
     let damaged = byte.count_ones() % 2 == 1;
     let character = if damaged { 0 } else { byte & 0x7F };
@@ -299,37 +383,59 @@ pub fn character(meter: &mut Meter, byte: u8, buffer: &mut [u8]) -> Answer {
 }
 
 fn line_character(meter: &mut Meter, character: u8, damaged: bool, buffer: &mut [u8]) -> Answer {
+    let speed = meter.speed;
     if character == b'/' {
         restart(meter, b'/');
-        return answer(0, 0, 0);
+        return answer(0, speed, 0);
     }
     let count = usize::from(meter.count);
     if count == 0 {
-        return answer(0, 0, 0);
+        return answer(0, speed, 0);
     }
     if character == LF {
-        let closing = meter.mark == 0 && meter.held[..count] == *b"/C!\r";
-        let ours = closing || meter.mark == 0 && called(&meter.held[..count], &meter.serial);
+        let wired = meter.link == WIRED;
+        let line = &meter.held[..count];
+        let closing = meter.mark == 0 && !wired && line == b"/C!\r";
+        let ours = closing
+            || meter.mark == 0
+                && match wired {
+                    true => called_by_wire(line, &meter.serial),
+                    false => called(line, &meter.serial),
+                };
         empty(meter);
         if closing {
             close(meter);
         }
         if !ours {
-            return answer(0, 0, 0);
+            return answer(0, speed, 0);
         }
         meter.mode = 1;
-        let identification = b"/ZZZ5SUB-VP01.00*\r\n";
-        for (place, &character) in buffer.iter_mut().zip(identification) {
-            *place = parity(character);
-        }
-        return answer(1, 0, identification.len());
+        return answer(1, speed, identify(meter, buffer));
     }
     if count == 31 {
         empty(meter);
     } else {
         hold(meter, character, damaged);
     }
-    answer(0, 0, 0)
+    answer(0, speed, 0)
+}
+
+fn identify(meter: &Meter, buffer: &mut [u8]) -> usize {
+    let mut text = *b"/ZZZ5SUB-VP01.00*\r\n";
+    text[12] = b'0' + meter.edition;
+    let mut length = text.len();
+    if meter.link == WIRED {
+        length = 15;
+        text[..2].copy_from_slice(b"/g");
+        text[2..5].copy_from_slice(&meter.serial[..3]);
+        text[5] = b'.';
+        text[6..13].copy_from_slice(&meter.serial[3..]);
+        text[13..15].copy_from_slice(b"\r\n");
+    }
+    for (place, &character) in buffer.iter_mut().zip(&text[..length]) {
+        *place = parity(character);
+    }
+    length
 }
 
 /// A sign-on line up to its CR.
@@ -337,6 +443,17 @@ fn called(line: &[u8], serial: &[u8; 10]) -> bool {
     match line {
         b"/?!\r" => true,
         [b'/', b'?', a, b, c, b' ', rest @ .., b'!', CR] if rest.len() == 7 => {
+            let head = [*a, *b, *c];
+            (head == serial[..3] && rest == &serial[3..]) || (head == *b"000" && rest == b"0000000")
+        }
+        _ => false,
+    }
+}
+
+/// The same on the wire.
+fn called_by_wire(line: &[u8], serial: &[u8; 10]) -> bool {
+    match line {
+        [b'/', b'A', a, b, c, b'.', rest @ .., CR] if rest.len() == 7 => {
             let head = [*a, *b, *c];
             (head == serial[..3] && rest == &serial[3..]) || (head == *b"000" && rest == b"0000000")
         }
@@ -352,13 +469,13 @@ fn confirmation_character(
 ) -> Answer {
     if meter.count < 5 {
         hold(meter, character, damaged);
-        return answer(0, 0, 0);
+        return answer(0, meter.speed, 0);
     }
     let good = meter.mark == 0
         && !damaged
         && character == LF
         && meter.held[..2] == [ACK, b'0']
-        && (meter.held[2] == b'0' || meter.held[2] == b'5')
+        && (meter.held[2] == b'5' || meter.held[2] == b'0' && meter.link == OPTICAL)
         && meter.held[4] == CR;
     let speed = meter.held[2] & 5;
     let choice = meter.held[3];
@@ -375,7 +492,7 @@ fn confirmation_character(
             }
             answer(1, speed, ask.len())
         }
-        _ => answer(2, 0, 0),
+        _ => answer(2, meter.speed, 0),
     }
 }
 
@@ -422,11 +539,8 @@ fn held_in(frame: &[u8]) -> usize {
 
 /// A frame that comes whole.
 pub fn frame(meter: &mut Meter, frame: &[u8], buffer: &mut [u8]) -> Answer {
-    if buffer.len() < ROOM {
-        return answer(12, 0, 0);
-    }
-    if !well_formed(meter) {
-        return answer(14, 0, 0);
+    if let Some(refused) = refused_in(meter, buffer.len()) {
+        return refused;
     }
     let held = held_in(frame);
     if meter.mode < 2 || meter.count != 0 || held == 0 {
@@ -489,6 +603,10 @@ fn frame_character(meter: &mut Meter, character: u8, damaged: bool, buffer: &mut
 
 fn refuse(meter: &mut Meter, number: u8, buffer: &mut [u8]) -> Answer {
     let speed = meter.speed;
+    if meter.link == WIRED {
+        enter(meter, 0);
+        return answer(number, speed, 0);
+    }
     empty(meter);
     if meter.mode == 2 {
         enter(meter, 0);
@@ -528,7 +646,7 @@ fn decide(meter: &mut Meter, count: usize, check: u8, buffer: &mut [u8]) -> Resu
             return Err(7);
         }
         meter.mode = 0;
-        meter.speed = 0;
+        meter.speed = rest(meter);
         return Ok(acknowledge(buffer));
     }
     // The data are looked at where they are held, from a copy of the places alone.
@@ -596,12 +714,16 @@ fn read(meter: &Meter, data: &[u8], buffer: &mut [u8]) -> Result<usize, u8> {
         [b'E', zone @ b'0'..=b'4', b'(', b')'] => {
             // The total is the fifth line of the block.
             let number = usize::from(zone.wrapping_sub(b'1')).min(4);
-            line(to, ENERGY_LINE + number * ENERGY, ENERGY);
-            energy(meter, number, to);
-            ENERGY
+            match meter.decimals {
+                0 => energy(meter, number, to),
+                _ => eqm_energy(meter, number, to),
+            }
+        }
+        [b'G', zone @ b'0'..=b'4', b'(', b')'] if meter.decimals != 0 => {
+            eqm_energy(meter, 5 + usize::from(zone.wrapping_sub(b'1')).min(4), to)
         }
         [b'Z', b'(', tens, units, b')'] => {
-            let number = table(*tens, *units).ok_or(9)?;
+            let number = table(meter, *tens, *units).ok_or(9)?;
             line(to, TABLE_LINE + number * TABLE, TABLE);
             row(meter, number, to);
             TABLE
@@ -616,7 +738,7 @@ fn read(meter: &Meter, data: &[u8], buffer: &mut [u8]) -> Result<usize, u8> {
 fn write(meter: &mut Meter, data: &[u8], buffer: &mut [u8]) -> Result<usize, u8> {
     match data {
         [b'Z', b'(', tens, units, b';', row @ .., b')'] if row.len() == 24 => {
-            let table = table(*tens, *units).ok_or(9)?;
+            let table = table(meter, *tens, *units).ok_or(9)?;
             let mut most = 0;
             for zone in row {
                 most = most.max(zone.wrapping_sub(b'1'));
@@ -650,9 +772,9 @@ fn pair(tens: u8, units: u8) -> u16 {
 }
 
 /// The table, counted from 0.
-fn table(tens: u8, units: u8) -> Option<usize> {
+fn table(meter: &Meter, tens: u8, units: u8) -> Option<usize> {
     let table = usize::from(pair(tens, units).wrapping_sub(1));
-    (table < 24).then_some(table)
+    (table < tables(meter)).then_some(table)
 }
 
 fn clock_told(told: &[u8]) -> Option<Clock> {
@@ -709,13 +831,41 @@ fn account(meter: &Meter, to: &mut [u8]) {
     to[6..16].copy_from_slice(&meter.account);
 }
 
-/// Numbers 0 to 3 are the zones, 4 is the total.
-fn energy(meter: &Meter, number: usize, to: &mut [u8]) {
+/// Numbers 0 to 3 are the zones, 4 is the total; gives the length of the line.
+fn energy(meter: &Meter, number: usize, to: &mut [u8]) -> usize {
     let wh = match meter.counters.get(number) {
         Some(&wh) => wh,
         None => meter.total,
     };
+    line(to, ENERGY_LINE + number * ENERGY, ENERGY);
     kwh(wh, &mut to[7..]);
+    ENERGY
+}
+
+/// Numbers 0 to 4 are what came in, in that order, and 5 to 9 what went out.
+fn eqm_energy(meter: &Meter, number: usize, to: &mut [u8]) -> usize {
+    let (counters, total) = match number < 5 {
+        true => (&meter.counters, meter.total),
+        false => (&meter.exported, meter.exported_total),
+    };
+    let units = counters.get(number % 5).copied().unwrap_or(total);
+    let at = ENERGY_LINE + number * EQM_ENERGY;
+    to[..EQM_ENERGY].copy_from_slice(&EQM_TEMPLATE[at..at + EQM_ENERGY]);
+    eqm_kwh(units, meter.decimals, &mut to[6..]);
+    EQM_ENERGY
+}
+
+/// Eight digits, and the point before the last so many.
+fn eqm_kwh(units: u32, decimals: u8, to: &mut [u8]) {
+    let mut four = |at: usize, value: u32| {
+        two(&mut to[at..], (value / 100) as u8);
+        two(&mut to[at + 2..], (value % 100) as u8);
+    };
+    four(0, units / 10_000);
+    four(4, units % 10_000);
+    let point = 8 - usize::from(decimals);
+    to.copy_within(point..8, point + 1);
+    to[point] = b'.';
 }
 
 /// `eeeeee.eee`, its point left as it is.
@@ -730,21 +880,35 @@ fn kwh(wh: u32, to: &mut [u8]) {
     three(7, wh % 1_000);
 }
 
-/// The lines of the period at a place.
-fn period(meter: &Meter, place: usize, to: &mut [u8]) {
+/// The lines of the period at a place; gives their length.
+fn period(meter: &Meter, place: usize, to: &mut [u8]) -> usize {
     let period = &meter.periods[place];
-    to[..PERIOD_LINES].copy_from_slice(PERIOD);
+    if meter.decimals == 0 {
+        to[..PERIOD_LINES].copy_from_slice(PERIOD);
+    } else {
+        to[..EQM_PERIOD_LINES].copy_from_slice(EQM_PERIOD);
+    }
     two(&mut to[6..], place as u8 + 1);
     two(&mut to[9..], (period.year - 2000) as u8);
     two(&mut to[12..], period.month);
     two(&mut to[15..], period.day);
     two(&mut to[18..], period.hour);
     two(&mut to[21..], period.minute);
-    for (zone, &wh) in period.counters.iter().enumerate() {
-        let line = &mut to[PERIOD_TIME + zone * PERIOD_ENERGY..];
-        two(&mut line[7..], place as u8 + 1);
-        kwh(wh, &mut line[10..]);
+    if meter.decimals == 0 {
+        for (zone, &wh) in period.counters.iter().enumerate() {
+            let line = &mut to[PERIOD_TIME + zone * PERIOD_ENERGY..];
+            two(&mut line[7..], place as u8 + 1);
+            kwh(wh, &mut line[10..]);
+        }
+        return PERIOD_LINES;
     }
+    let counters = period.counters.iter().chain(&period.exported);
+    for (number, &units) in counters.enumerate() {
+        let line = &mut to[PERIOD_TIME + number * EQM_PERIOD_ENERGY..];
+        two(&mut line[6..], place as u8 + 1);
+        eqm_kwh(units, meter.decimals, &mut line[9..]);
+    }
+    EQM_PERIOD_LINES
 }
 
 fn row(meter: &Meter, table: usize, to: &mut [u8]) {
@@ -765,62 +929,79 @@ fn seal(buffer: &mut [u8], length: usize) -> usize {
 
 /// Writes the data block; the state must be well-formed and the buffer long enough.
 pub fn data_block(meter: &Meter, buffer: &mut [u8]) -> usize {
-    let block = &mut buffer[..BLOCK];
-    registers(meter, block);
-    seal(block, BLOCK - 1)
+    let end = registers(meter, buffer);
+    ended(buffer, end)
 }
 
 /// The same with the closed periods after the tables.
 pub fn block_with_periods(meter: &Meter, buffer: &mut [u8]) -> usize {
-    registers(meter, buffer);
-    let mut end = END_LINE;
+    let mut end = registers(meter, buffer);
     for place in 0..usize::from(meter.closed) {
-        period(meter, place, &mut buffer[end..]);
-        end += PERIOD_LINES;
+        end += period(meter, place, &mut buffer[end..]);
     }
+    ended(buffer, end)
+}
+
+/// The last line, ETX, parity and BCC.
+fn ended(buffer: &mut [u8], end: usize) -> usize {
     buffer[end..end + 4].copy_from_slice(b"!\r\n\x03");
     seal(buffer, end + 4)
 }
 
-/// The data block without parity and BCC.
-fn registers(meter: &Meter, block: &mut [u8]) {
-    block[..BLOCK - 1].copy_from_slice(&TEMPLATE);
+/// The data block up to its last line, without parity; gives where it ends.
+fn registers(meter: &Meter, block: &mut [u8]) -> usize {
+    let (count, ours) = (tables(meter), meter.decimals == 0);
+    let from = if ours { TABLE_LINE } else { EQM_TABLE_LINE };
+    let end = from + count * TABLE;
+    if ours {
+        block[..end].copy_from_slice(&TEMPLATE[..end]);
+    } else {
+        block[..end].copy_from_slice(&EQM_TEMPLATE[..end]);
+    }
     serial(meter, &mut block[SERIAL_LINE..]);
     date(meter, &mut block[DATE_LINE..]);
     time(meter, &mut block[TIME_LINE..]);
     account(meter, &mut block[ACCOUNT_LINE..]);
-    for number in 0..5 {
-        energy(meter, number, &mut block[ENERGY_LINE + number * ENERGY..]);
+    if ours {
+        for number in 0..5 {
+            energy(meter, number, &mut block[ENERGY_LINE + number * ENERGY..]);
+        }
+    } else {
+        for number in 0..10 {
+            eqm_energy(
+                meter,
+                number,
+                &mut block[ENERGY_LINE + number * EQM_ENERGY..],
+            );
+        }
     }
-    for table in 0..24 {
-        row(meter, table, &mut block[TABLE_LINE + table * TABLE..]);
+    for table in 0..count {
+        row(meter, table, &mut block[from + table * TABLE..]);
     }
+    end
 }
 
 /// Eight seconds of silence.
 pub fn silence(meter: &mut Meter, buffer: &mut [u8]) -> Answer {
-    if buffer.len() < ROOM {
-        return answer(12, 0, 0);
-    }
-    if !well_formed(meter) {
-        return answer(14, 0, 0);
+    if let Some(refused) = refused_in(meter, buffer.len()) {
+        return refused;
     }
     let mode = meter.mode;
     enter(meter, 0);
     match mode {
-        0 => answer(0, 0, 0),
-        1 => {
+        0 => answer(0, meter.speed, 0),
+        1 if meter.link == OPTICAL => {
             buffer[0] = parity(NAK);
             answer(1, 0, 1)
         }
-        _ => answer(1, 0, 0),
+        _ => answer(1, meter.speed, 0),
     }
 }
 
 /// One second of the clock; the first one of a month closes a period.
 pub fn tick(meter: &mut Meter) -> Answer {
-    if !well_formed(meter) {
-        return answer(14, 0, 0);
+    if let Some(refused) = refused(meter) {
+        return refused;
     }
     let clock = &mut meter.clock;
     clock.second += 1;
@@ -861,21 +1042,21 @@ fn next_day(clock: &mut Clock) {
 
 /// The power comes back.
 pub fn power_up(meter: &mut Meter) -> Answer {
-    if !well_formed(meter) {
-        return answer(14, 0, 0);
+    if let Some(refused) = refused(meter) {
+        return refused;
     }
     enter(meter, 0);
     meter.attempts = 0;
-    answer(1, 0, 0)
+    answer(1, meter.speed, 0)
 }
 
-/// Energy used.
-pub fn pulse(meter: &mut Meter, wh: u32) -> Answer {
-    if wh > PULSE_MOST {
+/// Energy of a direction.
+pub fn pulse(meter: &mut Meter, way: Way, units: u32) -> Answer {
+    if (units > PULSE_MOST || way == Way::Out && meter.decimals == 0) && edition_good(meter) {
         return answer(13, 0, 0);
     }
-    if !well_formed(meter) {
-        return answer(14, 0, 0);
+    if let Some(refused) = refused(meter) {
+        return refused;
     }
     let clock = &meter.clock;
     let year = u32::from(clock.year) - 2000;
@@ -883,17 +1064,22 @@ pub fn pulse(meter: &mut Meter, wh: u32) -> Answer {
     let month = usize::from(clock.month);
     let days = 365 * year + year.div_ceil(4) + DAYS_BEFORE[month] + leap_passed;
     // Counted from 2000-01-01, a Saturday.
-    let weekend = (days + u32::from(clock.day) - 1) % 7 < 2;
-    let table = if weekend { month + 11 } else { month - 1 };
+    let table = match (days + u32::from(clock.day) - 1) % 7 {
+        0 if meter.edition == 2 => 24,
+        0 | 1 => month + 11,
+        _ => month - 1,
+    };
     let zone = meter.tables[table][usize::from(clock.hour)] - b'1';
-    let counter = &mut meter.counters[usize::from(zone)];
-    *counter += wh;
-    if *counter >= COUNTER_END {
-        *counter -= COUNTER_END;
-    }
-    meter.total += wh;
-    if meter.total >= COUNTER_END {
-        meter.total -= COUNTER_END;
+    let (end, _) = ends(meter.decimals);
+    let (counters, total) = match way {
+        Way::In => (&mut meter.counters, &mut meter.total),
+        Way::Out => (&mut meter.exported, &mut meter.exported_total),
+    };
+    for count in [&mut counters[usize::from(zone)], total] {
+        *count += units;
+        if *count >= end {
+            *count -= end;
+        }
     }
     answer(1, meter.speed, 0)
 }

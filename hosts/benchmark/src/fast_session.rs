@@ -3,9 +3,10 @@
 
 use crate::fast_head;
 use crate::fast_post::{self, tables_of};
+use crate::fast_values;
 use dirgemist::session::{
     Session, Started, Told, Turn, DONE, FIELD, GOES_ON, MANY_READS, MESSAGE_ROOM, NAK, NONE,
-    NO_EDITION, NO_POST, NO_READS, NO_ROOM, OVER, READ_ONLY, SILENT, WRONG,
+    NO_DECIMALS, NO_EDITION, NO_POST, NO_READS, NO_ROOM, OVER, READ_ONLY, SILENT, WRONG,
 };
 
 const LINE: usize = 36;
@@ -81,10 +82,17 @@ fn sign_on(s: &Session, out: &mut [u8]) -> usize {
 }
 
 #[inline(always)]
-fn good_read(highest: u8, letter: u8, n: u8) -> bool {
+fn is_family(decimals: u8) -> bool {
+    matches!(decimals, 0 | 2..=4)
+}
+
+/// What may be asked of meters that have so many tables and write energy with so many decimals.
+#[inline(always)]
+fn good_read(highest: u8, decimals: u8, letter: u8, n: u8) -> bool {
     match letter {
         b'T' | b'L' | b'K' => true,
         b'E' => n <= 4,
+        b'G' => n <= 4 && decimals != 0,
         b'Z' => (1..=highest).contains(&n),
         _ => false,
     }
@@ -141,12 +149,12 @@ fn message(s: &Session, highest: u8, work: &[u8], n: u8, out: &mut [u8]) -> Opti
         }
         n => {
             let (letter, number) = read_at(work, usize::from(n - 4));
-            if !good_read(highest, letter, number) {
+            if !good_read(highest, s.decimals, letter, number) {
                 return None;
             }
             w.put(b"\x01R1\x02");
             match letter {
-                b'E' => w.put(&[b'E', b'0' + number, b'(', b')']),
+                b'E' | b'G' => w.put(&[letter, b'0' + number, b'(', b')']),
                 b'Z' => w.put(&[b'Z', b'(', b'0' + number / 10, b'0' + number % 10, b')']),
                 _ => w.put(&[letter, b'(', b')']),
             }
@@ -176,7 +184,7 @@ fn is_date(year: u8, month: u8, day: u8) -> bool {
 }
 
 /// Whether data is just what a read asked for.
-fn tells(letter: u8, n: u8, data: &[u8]) -> bool {
+fn tells(decimals: u8, letter: u8, n: u8, data: &[u8]) -> bool {
     let pair = |at: usize| two([data[at], data[at + 1]]).unwrap_or(99);
     match letter {
         b'T' => {
@@ -195,6 +203,20 @@ fn tells(letter: u8, n: u8, data: &[u8]) -> bool {
                     .iter()
                     .all(|&c| c.is_ascii_alphanumeric() || c == b' ' || c == b'_')
         }
+        b'E' | b'G' if decimals != 0 => {
+            data.len() == 22
+                && data[..6]
+                    == [
+                        b'1' + u8::from(letter == b'G'),
+                        b'.',
+                        b'8',
+                        b'.',
+                        b'0' + n,
+                        b'(',
+                    ]
+                && fast_values::eqm(decimals, &data[6..19]).0 == DONE
+                && data.ends_with(b")\r\n")
+        }
         b'E' => {
             data.len() == 24 && data[5] == b'0' + n && {
                 let (front, rest) = (&data[..5], &data[6..]);
@@ -211,13 +233,13 @@ fn tells(letter: u8, n: u8, data: &[u8]) -> bool {
     }
 }
 
-fn answers(highest: u8, letter: u8, n: u8, reply: &[u8]) -> bool {
+fn answers(highest: u8, decimals: u8, letter: u8, n: u8, reply: &[u8]) -> bool {
     let mut plain = [0; 64];
-    if !good_read(highest, letter, n) || fast_head::strip(reply, &mut plain).0 != 1 {
+    if !good_read(highest, decimals, letter, n) || fast_head::strip(reply, &mut plain).0 != 1 {
         return false;
     }
     let (number, start, length) = fast_head::part(&plain[..reply.len()]);
-    number == 1 && tells(letter, n, &plain[start..start + length])
+    number == 1 && tells(decimals, letter, n, &plain[start..start + length])
 }
 
 fn right(s: &Session, highest: u8, work: &[u8], reply: &[u8]) -> bool {
@@ -226,7 +248,7 @@ fn right(s: &Session, highest: u8, work: &[u8], reply: &[u8]) -> bool {
         2 => reply == PASSWORD_ASK,
         n if n > 3 && n <= s.count + 3 && s.work == 0 => {
             let (letter, number) = read_at(work, usize::from(n - 4));
-            answers(highest, letter, number, reply)
+            answers(highest, s.decimals, letter, number, reply)
         }
         _ => reply == ACK,
     }
@@ -248,11 +270,19 @@ fn good(s: &Session, highest: u8) -> bool {
     let work = s.work == 0 || (s.work == 1 && s.access == 1 && s.count <= highest);
     let place = (1..=32).contains(&s.count) && (1..=s.count + 4).contains(&s.sent);
     place
+        && is_family(s.decimals)
         && work
         && s.fact <= SILENT
         && (s.fact != OVER || s.sent == s.count + 4)
         && told_well(s.named, &s.serial)
         && told_well(s.access, &s.password)
+}
+
+#[inline(always)]
+fn reads_good(told: &Told, highest: u8) -> bool {
+    told.work
+        .chunks_exact(2)
+        .all(|r| good_read(highest, told.decimals, r[0], r[1]))
 }
 
 /// Starts a session.
@@ -267,6 +297,7 @@ pub fn start(told: &Told, out: &mut [u8]) -> (Started, Session) {
         sent: 0,
         fact: 0,
         edition: 0,
+        decimals: 0,
     };
     let mut started = Started {
         number: DONE,
@@ -278,20 +309,16 @@ pub fn start(told: &Told, out: &mut [u8]) -> (Started, Session) {
         started.number = NO_EDITION;
         return (started, session);
     };
-    started.number = if out.len() < MESSAGE_ROOM {
+    started.number = if !is_family(told.decimals) {
+        NO_DECIMALS
+    } else if out.len() < MESSAGE_ROOM {
         NO_ROOM
     } else {
         match told.kind {
             0 if length == 0 => NO_READS,
             0 if length > 64 => MANY_READS,
             0 if length % 2 == 1 => FIELD,
-            0 if !told
-                .work
-                .chunks_exact(2)
-                .all(|r| good_read(highest, r[0], r[1])) =>
-            {
-                FIELD
-            }
+            0 if !reads_good(told, highest) => FIELD,
             0 => DONE,
             1 if fast_post::check(told.edition, told.work, &mut started.place) != 1 => NO_POST,
             1 if told.access == 0 => READ_ONLY,
@@ -326,6 +353,7 @@ pub fn start(told: &Told, out: &mut [u8]) -> (Started, Session) {
             sent: 1,
             fact: GOES_ON,
             edition: told.edition,
+            decimals: told.decimals,
         };
         started.length = sign_on(&session, out);
     }

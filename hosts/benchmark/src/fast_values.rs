@@ -1,7 +1,7 @@
 //! The head's values read back by hand for speed in safe Rust, eight characters at a time.
 
 use crate::fast_builders::{are_digits, eight, is_account, is_date, is_row};
-use model::head::answer::{DONE, MALFORMED};
+use model::head::answer::{DONE, MALFORMED, NO_DECIMALS};
 
 /// `nnn nnnnnnn`: the ten digits.
 #[inline(never)]
@@ -116,9 +116,33 @@ pub fn counter(value: &[u8]) -> (u8, u32) {
     if (value[6] != b'.') | (value[10..] != *b"*kWh") | (last > 9) | !are_digits(digits) {
         return (MALFORMED, 0);
     }
+    (DONE, number(digits) * 10 + u32::from(last))
+}
+
+/// Eight digits as a number.
+#[inline(always)]
+fn number(digits: u64) -> u32 {
     let ones = digits & 0x0F0F_0F0F_0F0F_0F0F;
     let two = (ones.wrapping_mul(1 + (10 << 8)) >> 8) & 0x00FF_00FF_00FF_00FF;
     let four = (two.wrapping_mul(1 + (100 << 16)) >> 16) & 0x0000_FFFF_0000_FFFF;
-    let all = four.wrapping_mul(1 + (10_000 << 32)) >> 32;
-    (DONE, all as u32 * 10 + u32::from(last))
+    (four.wrapping_mul(1 + (10_000 << 32)) >> 32) as u32
+}
+
+/// Eight digits of an EQM meter, the point before its decimals, and `*kWh`: units of the last place.
+#[inline(never)]
+pub fn eqm(decimals: u8, value: &[u8]) -> (u8, u32) {
+    if !(2..=4).contains(&decimals) {
+        return (NO_DECIMALS, 0);
+    }
+    let Ok(value) = <&[u8; 13]>::try_from(value) else {
+        return (MALFORMED, 0);
+    };
+    // The digits before the point from the front, those behind it one place on.
+    let point = 8 - usize::from(decimals);
+    let front = (1 << (8 * point)) - 1;
+    let digits = eight(value, 0) & front | eight(value, 1) & !front;
+    if (value[point] != b'.') | (value[9..] != *b"*kWh") | !are_digits(digits) {
+        return (MALFORMED, 0);
+    }
+    (DONE, number(digits))
 }

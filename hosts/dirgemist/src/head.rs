@@ -10,6 +10,8 @@ use crate::{UNWRITTEN, UNWRITTEN_BYTE};
 pub const END: u8 = 0;
 /// The number of what was built, stripped, found or read.
 pub const DONE: u8 = 1;
+/// The number of decimals that no EQM meter has.
+pub const NO_DECIMALS: u8 = 18;
 /// The least buffer that a command is built in.
 pub const COMMAND_ROOM: usize = 64;
 
@@ -58,6 +60,13 @@ extern "C" {
     fn dirgemist_head_read_account(out: *mut u8, out_length: usize, length: *mut usize) -> u8;
     fn dirgemist_head_read_total(out: *mut u8, out_length: usize, length: *mut usize) -> u8;
     fn dirgemist_head_read_zone(
+        zone: u8,
+        out: *mut u8,
+        out_length: usize,
+        length: *mut usize,
+    ) -> u8;
+    fn dirgemist_head_read_total_out(out: *mut u8, out_length: usize, length: *mut usize) -> u8;
+    fn dirgemist_head_read_zone_out(
         zone: u8,
         out: *mut u8,
         out_length: usize,
@@ -185,6 +194,12 @@ extern "C" {
         second: *mut u8,
     ) -> u8;
     fn dirgemist_head_value_counter(value: *const u8, length: usize, wh: *mut u32) -> u8;
+    fn dirgemist_head_value_eqm(
+        decimals: u8,
+        value: *const u8,
+        length: usize,
+        number: *mut u32,
+    ) -> u8;
 }
 
 // Every pointer below comes from a live borrow, with that borrow's length beside it, and two borrows
@@ -318,6 +333,16 @@ pub fn read_total(out: &mut [u8]) -> (u8, usize) {
 #[inline]
 pub fn read_zone(zone: u8, out: &mut [u8]) -> (u8, usize) {
     numbered(dirgemist_head_read_zone, zone, out)
+}
+
+/// Asks an EQM meter for the total of what went out.
+pub fn read_total_out(out: &mut [u8]) -> (u8, usize) {
+    plain(dirgemist_head_read_total_out, out)
+}
+
+/// Asks an EQM meter for what went out in a zone, 1 to 4.
+pub fn read_zone_out(zone: u8, out: &mut [u8]) -> (u8, usize) {
+    numbered(dirgemist_head_read_zone_out, zone, out)
 }
 
 /// Asks a meter of an edition for a table.
@@ -610,4 +635,20 @@ pub fn value_counter(value: &[u8]) -> (u8, u32) {
     // SAFETY: see above.
     let number = unsafe { dirgemist_head_value_counter(value.as_ptr(), value.len(), &mut wh) };
     (number, wh)
+}
+
+/// A counter of an EQM meter with so many decimals, in units of its last place.
+///
+/// ```
+/// use dirgemist::head;
+/// assert_eq!(head::value_eqm(3, b"00001.500*kWh"), (head::DONE, 1_500));
+/// assert_eq!(head::value_eqm(2, b"00001.500*kWh"), (25, 0));
+/// assert_eq!(head::value_eqm(1, b"00001.500*kWh"), (head::NO_DECIMALS, 0));
+/// ```
+pub fn value_eqm(decimals: u8, value: &[u8]) -> (u8, u32) {
+    let mut read = UNWRITTEN as u32;
+    let (from, length) = (value.as_ptr(), value.len());
+    // SAFETY: see above.
+    let number = unsafe { dirgemist_head_value_eqm(decimals, from, length, &mut read) };
+    (number, read)
 }

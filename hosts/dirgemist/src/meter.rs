@@ -53,8 +53,8 @@ pub struct Clock {
 #[repr(C)]
 #[derive(Clone, Copy, Debug, PartialEq, Eq)]
 pub struct Receiver {
-    pub held: [u8; 63],
     pub count: u8,
+    pub held: [u8; 63],
     pub mark: u8,
     pub place: u8,
 }
@@ -68,7 +68,8 @@ pub struct Facts {
     pub kind: Kind,
 }
 
-/// Which meter it is: edition, link, and the decimals of its family, 0 for document 01's.
+/// Which meter it is: edition, link, and the decimals of an EQM meter, 2, 3 or 4, or 0 for a meter
+/// that counts Wh and only what comes in.
 #[repr(C)]
 #[derive(Clone, Copy, Debug, PartialEq, Eq)]
 pub struct Kind {
@@ -87,7 +88,8 @@ impl Default for Kind {
     }
 }
 
-/// The zones' counters in Wh, and their sum modulo 1,000,000,000.
+/// The zones' counters of one direction in units of the last place, and their sum modulo
+/// 1,000,000,000, of an EQM meter modulo 100,000,000.
 #[repr(C)]
 #[derive(Clone, Copy, Debug, PartialEq, Eq)]
 pub struct Counters {
@@ -104,12 +106,13 @@ pub struct Stamp {
     pub minute: u8,
 }
 
-/// A closed period: when it was closed, and the zones' counters as they stood.
+/// A closed period: when it was closed, and the zones' counters as they stood, of either direction.
 #[repr(C)]
 #[derive(Clone, Copy, Debug, PartialEq, Eq)]
 pub struct Period {
     pub closed: Stamp,
     pub zones: [u32; 4],
+    pub exported: [u32; 4],
 }
 
 /// The closed periods, the newest first; the places from `count` on are all 0.
@@ -128,13 +131,15 @@ pub struct Registers {
     pub account: [u8; 10],
     pub clock: Clock,
     pub counters: Counters,
+    /// What went out of an EQM meter; of any other zeros.
+    pub exported: Counters,
     /// The 25th row is of edition 2; of edition 1 it is zeros.
     pub tables: [[u8; 24]; 25],
     pub archive: Archive,
 }
 
-/// The record. Any numbers may stand in it: a call tells by 14 that they are no meter's, and leaves
-/// them as they were.
+/// The record. Any numbers may stand in it: a call tells by 14 or 16 that they are no meter's, and
+/// leaves them as they were.
 #[repr(C)]
 #[derive(Clone, Copy, Debug, PartialEq, Eq)]
 pub struct Meter {
@@ -147,9 +152,9 @@ pub struct Meter {
 }
 
 // The layout is C's; include/dirgemist_meter.h has the same figures.
-const _: () = assert!(size_of::<Receiver>() == 66 && size_of::<Registers>() == 952);
-const _: () = assert!(size_of::<Period>() == 24 && size_of::<Archive>() == 292);
-const _: () = assert!(size_of::<Meter>() == 1024);
+const _: () = assert!(size_of::<Receiver>() == 66 && size_of::<Registers>() == 1164);
+const _: () = assert!(size_of::<Period>() == 40 && size_of::<Archive>() == 484);
+const _: () = assert!(size_of::<Meter>() == 1236);
 
 /// What can happen to a meter.
 #[derive(Clone, Copy, Debug, PartialEq, Eq)]
@@ -160,10 +165,12 @@ pub enum Event {
     Silence,
     /// A second went by.
     Tick,
-    /// So many Wh were used.
+    /// So many units of the last place came in.
     Pulse(u32),
     /// The power came back.
     PowerUp,
+    /// So many units of the last place went out.
+    PulseOut(u32),
 }
 
 impl Event {
@@ -173,8 +180,9 @@ impl Event {
             Event::Character(byte) => (0, byte.into()),
             Event::Silence => (1, 0),
             Event::Tick => (2, 0),
-            Event::Pulse(wh) => (3, wh),
+            Event::Pulse(units) => (3, units),
             Event::PowerUp => (4, 0),
+            Event::PulseOut(units) => (5, units),
         }
     }
 }
@@ -277,13 +285,13 @@ impl Meter {
         (number, unsafe { meter.assume_init() })
     }
 
-    /// 1 for a well-formed record, else 14.
+    /// 1 for a well-formed record, else 14, or 16 for an edition that is none.
     pub fn check(&self) -> u8 {
         // SAFETY: the record has the library's layout and is only read.
         unsafe { dirgemist_meter_check(self) }
     }
 
-    /// The total for a display with 1, or 0 with 14.
+    /// The total for a display, of what came in, with 1, or 0 with 14 or 16.
     pub fn total(&self) -> (u8, u32) {
         let mut total = u32::MAX;
         // SAFETY: both pointers are those of live borrows.

@@ -32,6 +32,8 @@ use std::mem::MaybeUninit;
 
 /// The number of an edition that there is not.
 pub const NO_EDITION: u8 = 16;
+/// The number of decimals that no meter has.
+pub const NO_DECIMALS: u8 = 18;
 /// The number of a session that was started, or that heard.
 pub const DONE: u8 = 1;
 /// The number of a serial, a password or a read that no message can be built from.
@@ -77,10 +79,11 @@ pub struct Session {
     pub sent: u8,
     pub fact: u8,
     pub edition: u8,
+    pub decimals: u8,
 }
 
 // The layout is C's; hosts/c/sessionlink.c holds the header to the same figures.
-const _: () = assert!(size_of::<Session>() == 25 && align_of::<Session>() == 1);
+const _: () = assert!(size_of::<Session>() == 26 && align_of::<Session>() == 1);
 
 /// What a session is told: whom to call, how to enter, and what to do. The flags are 0 or 1; any
 /// others are refused.
@@ -88,6 +91,8 @@ const _: () = assert!(size_of::<Session>() == 25 && align_of::<Session>() == 1);
 pub struct Told<'a> {
     /// The edition of the meters that are called, 1 or 2.
     pub edition: u8,
+    /// The decimals of the EQM meters that are called, 2, 3 or 4, or 0 for other meters.
+    pub decimals: u8,
     /// 1 calls the meter of the serial, 0 any.
     pub named: u8,
     pub serial: &'a [u8],
@@ -122,6 +127,7 @@ extern "C" {
     fn dirgemist_session_start(
         session: *mut Session,
         edition: u8,
+        decimals: u8,
         named: u8,
         serial: *const u8,
         serial_length: usize,
@@ -152,11 +158,12 @@ extern "C" {
 }
 
 impl<'a> Told<'a> {
-    /// Reads, two bytes each: `'T'`, `'L'`, `'K'`, `'E'` or `'Z'`, and the number of the energy or the
-    /// table. Any meter of edition 1, with `()`.
+    /// Reads, two bytes each: `'T'`, `'L'`, `'K'`, `'E'` or `'Z'`, of EQM meters also `'G'`, and the
+    /// number of the energy or the table. Any meter of edition 1 that is none of these, with `()`.
     pub fn reads(work: &'a [u8]) -> Told<'a> {
         Told {
             edition: 1,
+            decimals: 0,
             named: 0,
             serial: &[],
             access: 0,
@@ -177,6 +184,20 @@ impl<'a> Told<'a> {
     /// The same, to meters of an edition.
     pub fn of(self, edition: u8) -> Told<'a> {
         Told { edition, ..self }
+    }
+
+    /// The same, to EQM meters with so many decimals.
+    ///
+    /// ```
+    /// use dirgemist::session::{Told, DONE, FIELD, MESSAGE_ROOM, NO_DECIMALS};
+    /// let mut out = [0; MESSAGE_ROOM];
+    /// let exported = Told::reads(b"G\0");
+    /// assert_eq!(exported.eqm(3).start(&mut out).0.number, DONE);
+    /// assert_eq!(exported.start(&mut out).0.number, FIELD);
+    /// assert_eq!(exported.eqm(5).start(&mut out).0.number, NO_DECIMALS);
+    /// ```
+    pub fn eqm(self, decimals: u8) -> Told<'a> {
+        Told { decimals, ..self }
     }
 
     /// The same, to the meter of a serial.
@@ -222,6 +243,7 @@ impl<'a> Told<'a> {
             dirgemist_session_start(
                 session.as_mut_ptr(),
                 self.edition,
+                self.decimals,
                 self.named,
                 self.serial.as_ptr(),
                 self.serial.len(),

@@ -1,7 +1,7 @@
 //! The tester's script over the model: one command a line in, its answer lines out.
 
 use crate::card;
-use crate::meter::{Answer, Clock, Meter, Period, PERIODS, PLACES, ROOM, ROWS};
+use crate::meter::{Answer, Clock, Meter, Period, Way, PERIODS, PLACES, ROOM, ROWS};
 use std::fmt::Write as _;
 use std::io::{self, BufRead, Write};
 
@@ -41,7 +41,7 @@ pub enum Event {
     Silence { room: usize },
     Tick,
     PowerUp,
-    Pulse { wh: u32 },
+    Pulse { way: Way, units: u32 },
 }
 
 /// A meter on the bench.
@@ -125,7 +125,7 @@ impl Bench {
             Event::Silence { .. } => self.meter.silence(&mut buffer),
             Event::Tick => self.meter.tick(),
             Event::PowerUp => self.meter.power_up(),
-            Event::Pulse { wh } => self.meter.pulse(wh),
+            Event::Pulse { way, units } => self.meter.pulse(way, units),
         };
         put_answer(transcript, answer, room.map(|_| &buffer[..]));
         answer
@@ -213,7 +213,8 @@ pub fn parse(line: &[u8]) -> Option<Command> {
             room: room_of(room)?,
         },
         [b"up"] => Command::Play(vec![Event::PowerUp]),
-        [b"pulse", wh] => Command::Play(vec![Event::Pulse { wh: decimal(wh)? }]),
+        [b"pulse", units] => pulse(Way::In, units)?,
+        [b"pulse", units, b"out"] => pulse(Way::Out, units)?,
         _ => return None,
     })
 }
@@ -221,6 +222,11 @@ pub fn parse(line: &[u8]) -> Option<Command> {
 fn character(byte: &[u8], room: usize) -> Option<Command> {
     let [byte] = exactly(byte)?;
     Some(Command::Play(vec![Event::Character { byte, room }]))
+}
+
+fn pulse(way: Way, units: &[u8]) -> Option<Command> {
+    let units = decimal(units)?;
+    Some(Command::Play(vec![Event::Pulse { way, units }]))
 }
 
 fn room_of(field: &[u8]) -> Option<usize> {
@@ -254,27 +260,38 @@ fn clock_of(fields: &[&[u8]]) -> Option<Clock> {
     })
 }
 
-/// Fields of the archive: how many periods, and nine of each.
-const ARCHIVE: usize = 1 + 9 * PERIODS;
+/// Fields of a period, and of the archive: how many periods, and those of each.
+const PERIOD: usize = 13;
+const ARCHIVE: usize = 1 + PERIOD * PERIODS;
+/// Fields between the tables and the archive.
+const TOLD: usize = 10;
 
 /// The periods of the fields that end a state.
 fn archive(fields: &[&[u8]]) -> Option<(u8, [Period; PERIODS])> {
     let (closed, fields) = fields.split_first()?;
     let mut periods = [Period::default(); PERIODS];
-    for (period, fields) in periods.iter_mut().zip(fields.chunks(9)) {
-        let [year, month, day, hour, minute, c1, c2, c3, c4] = fields else {
+    for (period, fields) in periods.iter_mut().zip(fields.chunks(PERIOD)) {
+        let [year, month, day, hour, minute, counters @ ..] = fields else {
             return None;
         };
+        let (counters, exported) = counters.split_at_checked(4)?;
         *period = Period {
             year: decimal(year)?,
             month: decimal(month)?,
             day: decimal(day)?,
             hour: decimal(hour)?,
             minute: decimal(minute)?,
-            counters: [decimal(c1)?, decimal(c2)?, decimal(c3)?, decimal(c4)?],
+            counters: four(counters)?,
+            exported: four(exported)?,
         };
     }
     Some((decimal(closed)?, periods))
+}
+
+/// Four counters.
+fn four(fields: &[&[u8]]) -> Option<[u32; 4]> {
+    let counters: Option<Vec<u32>> = fields.iter().map(|field| decimal(field)).collect();
+    counters?.try_into().ok()
 }
 
 /// The state of the fields that `dump` writes.
@@ -282,7 +299,11 @@ fn state(fields: &[&[u8]]) -> Option<Meter> {
     let (link, fields) = fields.split_last()?;
     let (fields, kept) = fields.split_at_checked(fields.len().checked_sub(ARCHIVE)?)?;
     let (closed, periods) = archive(kept)?;
-    let [mode, count, mark, held, serial, account, password, attempts, clock @ .., c1, c2, c3, c4, tables, speed, place, edition, total] =
+    let (fields, behind) = fields.split_at_checked(fields.len().checked_sub(TOLD)?)?;
+    let [speed, place, edition, total, decimals, exported @ .., exported_total] = behind else {
+        return None;
+    };
+    let [mode, count, mark, held, serial, account, password, attempts, clock @ .., c1, c2, c3, c4, tables] =
         fields
     else {
         return None;
@@ -306,11 +327,14 @@ fn state(fields: &[&[u8]]) -> Option<Meter> {
         clock: clock_of(clock)?,
         counters: [decimal(c1)?, decimal(c2)?, decimal(c3)?, decimal(c4)?],
         total: decimal(total)?,
+        exported: four(exported)?,
+        exported_total: decimal(exported_total)?,
         tables: rows,
         closed,
         periods,
         link: decimal(link)?,
         edition: decimal(edition)?,
+        decimals: decimal(decimals)?,
     })
 }
 
@@ -355,6 +379,14 @@ pub fn dump(meter: &Meter) -> String {
             meter.speed, meter.place, meter.edition, meter.total
         ),
     );
+    let [x1, x2, x3, x4] = meter.exported;
+    put(
+        &mut line,
+        format_args!(
+            " {} {x1} {x2} {x3} {x4} {}",
+            meter.decimals, meter.exported_total
+        ),
+    );
     put(&mut line, format_args!(" {}", meter.closed));
     for period in meter.periods {
         let Period {
@@ -363,12 +395,16 @@ pub fn dump(meter: &Meter) -> String {
             day,
             hour,
             minute,
-            counters: [c1, c2, c3, c4],
+            counters,
+            exported,
         } = period;
         put(
             &mut line,
-            format_args!(" {year} {month} {day} {hour} {minute} {c1} {c2} {c3} {c4}"),
+            format_args!(" {year} {month} {day} {hour} {minute}"),
         );
+        for counter in [counters, exported].as_flattened() {
+            put(&mut line, format_args!(" {counter}"));
+        }
     }
     put(&mut line, format_args!(" {}", meter.link));
     line

@@ -18,6 +18,7 @@ pub mod answer {
     pub const DONE: u8 = 1;
     pub const FIELD: u8 = 9;
     pub const NO_EDITION: u8 = 16;
+    pub const NO_DECIMALS: u8 = 18;
     pub const SHORT_ROOM: u8 = 19;
     pub const NO_BLOCK: u8 = 22;
     pub const WRONG_BCC: u8 = 23;
@@ -139,6 +140,9 @@ pub enum Command<'a> {
     ReadAccount,
     ReadTotal,
     ReadZone(u8),
+    /// What went out of an EQM meter.
+    ReadTotalOut,
+    ReadZoneOut(u8),
     /// Edition and number.
     ReadTable(u8, u8),
     WriteClock(Clock),
@@ -168,7 +172,7 @@ pub fn characters(command: &Command) -> Option<Vec<u8>> {
         Command::SignOnTo(serial) | Command::SignOnWired(serial) => serial_rule(serial),
         Command::Confirm(speed, choice) => b"05".contains(speed) && b"0167".contains(choice),
         Command::Password(password) => digits(password, 8),
-        Command::ReadZone(zone) => (1..=4).contains(zone),
+        Command::ReadZone(zone) | Command::ReadZoneOut(zone) => (1..=4).contains(zone),
         Command::ReadTable(edition, table) => has_table(*edition, *table),
         Command::WriteClock(clock) => clock.real(),
         Command::WriteAccount(account) => account_rule(account),
@@ -195,6 +199,8 @@ pub fn characters(command: &Command) -> Option<Vec<u8>> {
         Command::ReadAccount => framed("R1", "K()"),
         Command::ReadTotal => framed("R1", "E0()"),
         Command::ReadZone(zone) => framed("R1", &format!("E{zone}()")),
+        Command::ReadTotalOut => framed("R1", "G0()"),
+        Command::ReadZoneOut(zone) => framed("R1", &format!("G{zone}()")),
         Command::ReadTable(_, table) => framed("R1", &format!("Z({table:02})")),
         Command::WriteClock(c) => {
             let date = format!("{:02}-{:02}-{:04}", c.day, c.month, c.year);
@@ -443,6 +449,17 @@ pub fn value_counter(value: &[u8]) -> Option<u32> {
     Some(number(&written[..6])? * 1000 + number(&written[7..])?)
 }
 
+/// `eeeeee.ee*kWh`, `eeeee.eee*kWh` or `eeee.eeee*kWh`, by the decimals, 2, 3 or 4, to units of the
+/// last place.
+pub fn value_eqm(decimals: u8, value: &[u8]) -> Option<u32> {
+    let whole = 8 - usize::from(decimals);
+    let written = value.strip_suffix(b"*kWh")?;
+    if written.len() != 9 || written[whole] != b'.' {
+        return None;
+    }
+    number(&[&written[..whole], &written[whole + 1..]].concat())
+}
+
 /// The kinds of value that are read back.
 #[derive(Clone, Copy, Debug, PartialEq, Eq)]
 pub enum Kind {
@@ -453,10 +470,12 @@ pub enum Kind {
     Time,
     Period,
     Counter,
+    /// An EQM counter, with its decimals.
+    Eqm(u8),
 }
 
 impl Kind {
-    pub const ALL: [Kind; 7] = [
+    pub const ALL: [Kind; 10] = [
         Kind::Serial,
         Kind::Account,
         Kind::Row,
@@ -464,6 +483,9 @@ impl Kind {
         Kind::Time,
         Kind::Period,
         Kind::Counter,
+        Kind::Eqm(2),
+        Kind::Eqm(3),
+        Kind::Eqm(4),
     ];
 
     /// How many numbers or characters a value of this kind is read to.
@@ -473,7 +495,7 @@ impl Kind {
             Kind::Row => 24,
             Kind::Date | Kind::Time => 3,
             Kind::Period => 5,
-            Kind::Counter => 1,
+            Kind::Counter | Kind::Eqm(_) => 1,
         }
     }
 }
@@ -482,6 +504,10 @@ impl Kind {
 pub fn value(kind: Kind, value: &[u8]) -> (u8, Vec<u32>) {
     let numbers = |characters: &[u8]| characters.iter().map(|&c| c.into()).collect();
     let read = match kind {
+        Kind::Eqm(decimals) if !(2..=4).contains(&decimals) => {
+            return (answer::NO_DECIMALS, vec![0]);
+        }
+        Kind::Eqm(decimals) => value_eqm(decimals, value).map(|units| vec![units]),
         Kind::Serial => value_serial(value).map(|serial| numbers(&serial)),
         Kind::Account => value_account(value).map(|account| numbers(&account)),
         Kind::Row => value_row(value).map(|row| numbers(&row)),
@@ -504,6 +530,7 @@ pub fn value(kind: Kind, value: &[u8]) -> (u8, Vec<u32>) {
 pub struct Period {
     pub closed: Clock,
     pub counters: [u32; 4],
+    pub exported: [u32; 4],
 }
 
 /// The registers that a data block tells of.
@@ -512,7 +539,10 @@ pub struct Registers {
     pub serial: [u8; 10],
     pub account: [u8; 10],
     pub clock: Clock,
+    /// The decimals of an EQM meter, or 0, and then nothing is exported.
+    pub decimals: u8,
     pub counters: [u32; 4],
+    pub exported: [u32; 4],
     /// 24 rows, or 25 of edition 2.
     pub tables: Vec<[u8; 24]>,
     /// The newest first; a block has them only where it was asked for with '6'.
@@ -522,16 +552,50 @@ pub struct Registers {
 impl Registers {
     /// The sum of the four counters as it is shown.
     pub fn total(&self) -> u32 {
-        let sum: u64 = self.counters.iter().map(|&wh| u64::from(wh)).sum();
-        (sum % 1_000_000_000) as u32
+        self.sum(&self.counters)
     }
 
-    /// The data block's 33 data sets, or 34 of edition 2, and five more for each period, address and
-    /// value.
+    /// The same of what went out.
+    pub fn total_out(&self) -> u32 {
+        self.sum(&self.exported)
+    }
+
+    fn sum(&self, counters: &[u32; 4]) -> u32 {
+        let end = match self.decimals {
+            0 => 1_000_000_000,
+            _ => 100_000_000,
+        };
+        let sum: u64 = counters.iter().map(|&count| u64::from(count)).sum();
+        (sum % end) as u32
+    }
+
+    /// A counter in its family's form.
+    fn kwh(&self, count: u32) -> String {
+        let (whole, behind) = match self.decimals {
+            0 => (6, 3),
+            decimals => (8 - usize::from(decimals), usize::from(decimals)),
+        };
+        let one = 10_u32.pow(behind as u32);
+        format!("{:0whole$}.{:0behind$}*kWh", count / one, count % one)
+    }
+
+    /// The directions that this family shows, each by the first part of its addresses.
+    fn shown_ways<'a>(
+        &self,
+        counters: &'a [u32; 4],
+        exported: &'a [u32; 4],
+    ) -> Vec<(&'static str, &'a [u32; 4])> {
+        match self.decimals {
+            0 => vec![("15", counters)],
+            _ => vec![("1", counters), ("2", exported)],
+        }
+    }
+
+    /// The data block's 33 data sets, or 34 of edition 2, five more of an EQM meter, and five more for
+    /// each period, or nine, address and value.
     pub fn data_sets(&self) -> Vec<(String, String)> {
         let text = |characters: &[u8]| String::from_utf8_lossy(characters).into_owned();
         let date = |c: &Clock| format!("{:02}-{:02}-{:02}", c.year - 2000, c.month, c.day);
-        let kwh = |wh: u32| format!("{:06}.{:03}*kWh", wh / 1000, wh % 1000);
         let c = &self.clock;
         let time = format!("{:02}:{:02}:{:02}", c.hour, c.minute, c.second);
         let mut sets = vec![
@@ -540,19 +604,24 @@ impl Registers {
             ("0.9.1".to_string(), time),
             ("0.0.0".to_string(), text(&self.account)),
         ];
-        for (zone, &wh) in self.counters.iter().enumerate() {
-            sets.push((format!("15.8.{}", zone + 1), kwh(wh)));
+        for (name, counters) in self.shown_ways(&self.counters, &self.exported) {
+            for (zone, &count) in counters.iter().enumerate() {
+                sets.push((format!("{name}.8.{}", zone + 1), self.kwh(count)));
+            }
+            sets.push((format!("{name}.8.0"), self.kwh(self.sum(counters))));
         }
-        sets.push(("15.8.0".to_string(), kwh(self.total())));
         for (place, row) in self.tables.iter().enumerate() {
             sets.push((format!("131.0.{:02}", place + 1), text(row)));
         }
-        for (place, Period { closed, counters }) in self.periods.iter().enumerate() {
+        for (place, period) in self.periods.iter().enumerate() {
             let kk = format!("{:02}", place + 1);
+            let closed = &period.closed;
             let time = format!("{:02}:{:02}", closed.hour, closed.minute);
             sets.push((format!("0.1.2*{kk}"), date(closed) + " " + &time));
-            for (zone, &wh) in counters.iter().enumerate() {
-                sets.push((format!("15.8.{}*{kk}", zone + 1), kwh(wh)));
+            for (name, counters) in self.shown_ways(&period.counters, &period.exported) {
+                for (zone, &count) in counters.iter().enumerate() {
+                    sets.push((format!("{name}.8.{}*{kk}", zone + 1), self.kwh(count)));
+                }
             }
         }
         sets
@@ -620,7 +689,9 @@ mod tests {
                 minute: 59,
                 second: 58,
             },
+            decimals: 0,
             counters: [1_500, 999_999_999, 0, 123_456_789],
+            exported: [0; 4],
             tables: (0..24)
                 .map(|t| std::array::from_fn(|h| b'1' + ((t + h) % 4) as u8))
                 .collect(),
@@ -684,6 +755,8 @@ mod tests {
         assert!(text(Command::ReadAccount).starts_with(b"\x01R1\x02K()\x03"));
         assert!(text(Command::ReadTotal).starts_with(b"\x01R1\x02E0()\x03"));
         assert!(text(Command::ReadZone(4)).starts_with(b"\x01R1\x02E4()\x03"));
+        assert!(text(Command::ReadTotalOut).starts_with(b"\x01R1\x02G0()\x03"));
+        assert!(text(Command::ReadZoneOut(4)).starts_with(b"\x01R1\x02G4()\x03"));
         assert!(text(Command::ReadTable(1, 7)).starts_with(b"\x01R1\x02Z(07)\x03"));
         assert!(text(Command::ReadTable(2, 25)).starts_with(b"\x01R1\x02Z(25)\x03"));
         assert!(
@@ -723,6 +796,7 @@ mod tests {
         assert!(refused(Command::Password(b"1234567")));
         assert!(refused(Command::Password(b"1234567a")));
         assert!(refused(Command::ReadZone(0)) && refused(Command::ReadZone(5)));
+        assert!(refused(Command::ReadZoneOut(0)) && refused(Command::ReadZoneOut(5)));
         assert!(refused(Command::ReadTable(1, 0)) && refused(Command::ReadTable(1, 25)));
         assert!(refused(Command::ReadTable(2, 0)) && refused(Command::ReadTable(2, 26)));
         assert!(refused(Command::WriteAccount(b"Kiln-7 Abc")));
@@ -865,6 +939,7 @@ mod tests {
         let first = Period {
             closed: clock(2024, 3, 1),
             counters: [1, 20, 300, 4_000],
+            exported: [0; 4],
         };
         registers.periods = vec![first; 12];
         registers.periods[11].closed = Clock {
@@ -884,6 +959,80 @@ mod tests {
         assert_eq!(read("0.1.2*12"), (1, 89, &b"23-04-30 23:59"[..]));
         assert_eq!(read("15.8.4*12"), (1, 93, &b"000004.000*kWh"[..]));
         assert_eq!(read("0.1.2*13"), (27, 93, &b""[..]));
+    }
+
+    #[test]
+    fn an_eqm_block_has_ten_lines_of_energy() {
+        for (decimals, first, second) in [
+            (2, "000015.00*kWh", "999999.99*kWh"),
+            (3, "00001.500*kWh", "99999.999*kWh"),
+            (4, "0000.1500*kWh", "9999.9999*kWh"),
+        ] {
+            let mut registers = sample();
+            registers.decimals = decimals;
+            registers.counters = [1_500, 99_999_999, 0, 12_345_678];
+            registers.exported = [0, 0, 99_999_999, 2];
+            registers.periods = vec![Period {
+                closed: clock(2024, 3, 1),
+                counters: [1, 20, 300, 1_500],
+                exported: [5, 60, 1_500, 99_999_999],
+            }];
+            let data = registers.data();
+            let read = |address: &str| {
+                let found = find(&data, address.as_bytes());
+                assert_eq!(found.answer, answer::DONE, "{address}");
+                let value = &data[found.value_start..][..found.value_length];
+                (
+                    found.count,
+                    String::from_utf8(value.to_vec()).unwrap(),
+                    value_eqm(decimals, value),
+                )
+            };
+            assert_eq!(read("1.8.1"), (5, first.into(), Some(1_500)));
+            assert_eq!(read("1.8.2"), (6, second.into(), Some(99_999_999)));
+            assert_eq!(read("1.8.0").0, 9);
+            assert_eq!(read("1.8.0").2, Some(12_347_177));
+            assert_eq!(read("2.8.3"), (12, second.into(), Some(99_999_999)));
+            assert_eq!((read("2.8.0").0, read("2.8.0").2), (14, Some(1)));
+            assert_eq!(read("131.0.01").0, 15);
+            assert_eq!(read("0.1.2*01").0, 39);
+            assert_eq!(read("1.8.4*01"), (43, first.into(), Some(1_500)));
+            assert_eq!(read("2.8.1*01").2, Some(5));
+            assert_eq!(read("2.8.4*01"), (47, second.into(), Some(99_999_999)));
+            assert_eq!(block(&data).len(), 1_163 + 226);
+        }
+    }
+
+    #[test]
+    fn eqm_values_in_their_form_alone() {
+        for (decimals, value) in [
+            (2, b"000015.00*kWh"),
+            (3, b"00001.500*kWh"),
+            (4, b"0000.1500*kWh"),
+        ] {
+            for other in 0..=255 {
+                let read = match other {
+                    _ if other == decimals => (1, vec![1_500]),
+                    2..=4 => (25, vec![0]),
+                    _ => (18, vec![0]),
+                };
+                assert_eq!(super::value(Kind::Eqm(other), value), read);
+            }
+        }
+        for bad in [
+            &b"00001,500*kWh"[..],
+            b"0000.1500*kW",
+            b"00001.500*kWhh",
+            b"000001.500*kWh",
+            b"0001.500*kWh",
+            b"00001.5 0*kWh",
+            b"-0001.500*kWh",
+            b"00001.500 kWh",
+            b"",
+        ] {
+            assert_eq!(super::value(Kind::Eqm(3), bad), (25, vec![0]));
+            assert_eq!(super::value(Kind::Eqm(5), bad), (18, vec![0]));
+        }
     }
 
     #[test]

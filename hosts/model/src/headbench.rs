@@ -5,7 +5,7 @@ use crate::card;
 use crate::head::{self, answer, Clock, Command, Kind};
 use crate::mercury::{self, Read};
 use crate::post;
-use crate::session::{self, fact, work, Heard, Session, Told};
+use crate::session::{self, fact, work, Heard, Meters, Session, Told};
 use std::io::{self, BufRead, Write};
 
 /// The most room that is lent. Nothing that a line can ask for is longer than the line, so in any
@@ -33,8 +33,12 @@ impl Bench {
         }
         let words: Vec<&[u8]> = line.split(|&byte| byte == b' ').collect();
         match words[..] {
-            [b"session", edition, start, access, ref work @ ..] => {
-                self.start(decimal(edition)?, start, access, work)
+            [b"session", edition, decimals, start, access, ref work @ ..] => {
+                let meters = Meters {
+                    edition: decimal(edition)?,
+                    decimals: decimal(decimals)?,
+                };
+                self.start(meters, start, access, work)
             }
             [b"reply", reply] => {
                 let (reply, mut out) = (hex(reply)?, [FILLING; head::COMMAND_ROOM]);
@@ -53,7 +57,7 @@ impl Bench {
     /// A session started; one that is refused leaves none.
     fn start(
         &mut self,
-        edition: u8,
+        meters: Meters,
         start: &[u8],
         access: &[u8],
         given: &[&[u8]],
@@ -73,7 +77,8 @@ impl Bench {
             _ => return None,
         };
         let told = Told {
-            edition,
+            edition: meters.edition,
+            decimals: meters.decimals,
             named,
             serial: &serial,
             access,
@@ -92,7 +97,7 @@ impl Bench {
 fn read_of(word: &[u8]) -> Option<[u8; 2]> {
     match word {
         [b'T' | b'L' | b'K'] => Some([word[0], 0]),
-        [b'E' | b'Z', number @ ..] => Some([word[0], decimal(number)?]),
+        [b'E' | b'G' | b'Z', number @ ..] => Some([word[0], decimal(number)?]),
         _ => None,
     }
 }
@@ -121,6 +126,10 @@ pub fn answer(line: &[u8]) -> Option<String> {
 fn call(words: &[&[u8]]) -> Option<String> {
     match words[..] {
         [b"build", name, room, ref fields @ ..] => build(name, room, fields),
+        [b"value", b"eqm", decimals, value] => {
+            let (number, read) = head::value(Kind::Eqm(decimal(decimals)?), &hex(value)?);
+            Some(format!("{number} {}", read[0]))
+        }
         [b"value", kind, value] => value_of(kind, value),
         [b"check", edition, text] => {
             let (number, place) = post::check(decimal(edition)?, &hex(text)?);
@@ -225,6 +234,10 @@ fn build(name: &[u8], room: &[u8], fields: &[&[u8]]) -> Option<String> {
             0 => Command::ReadTotal,
             zone => Command::ReadZone(zone),
         },
+        (b"out", [zone]) => match decimal(zone)? {
+            0 => Command::ReadTotalOut,
+            zone => Command::ReadZoneOut(zone),
+        },
         (b"table", [edition, table]) => Command::ReadTable(decimal(edition)?, decimal(table)?),
         (b"setclock", [year, month, day, hour, minute, second]) => Command::WriteClock(Clock {
             year: decimal(year)?,
@@ -324,6 +337,11 @@ mod tests {
             ("build close 63", "19 0 -"),
             ("build close 64 00", "error"),
             ("build energy 64 5", "9 0 -"),
+            ("build out 64 0", "1 10 81d2b182473028a90314"),
+            ("build out 64 5", "9 0 -"),
+            ("build out 63 5", "19 0 -"),
+            ("build out 64", "error"),
+            ("build out 64 256", "error"),
             ("build serial 64 -", "9 0 -"),
             ("build serial 0 -", "19 0 -"),
             (
@@ -376,6 +394,12 @@ mod tests {
             ("find - -", "27 0 0 0 0 0 0"),
             ("find 42", "error"),
             ("value counter 3030303030312e3530302a6b5768", "1 1500"),
+            ("value eqm 3 30303030312e3530302a6b5768", "1 1500"),
+            ("value eqm 2 30303030312e3530302a6b5768", "25 0"),
+            ("value eqm 0 30303030312e3530302a6b5768", "18 0"),
+            ("value eqm 5 -", "18 0"),
+            ("value eqm 256 -", "error"),
+            ("value eqm 3", "error"),
             ("value date 32342d30322d3239", "1 2024 2 29"),
             ("value time 32333a35393a3630", "25 0 0 0"),
             (
@@ -441,23 +465,23 @@ mod tests {
         played(&[
             ("quiet", "error"),
             ("reply 06", "error"),
-            ("session 1 any open reads L", "1 0 af3f218d0a"),
+            ("session 1 0 any open reads L", "1 0 af3f218d0a"),
             (IDENTIFIED, "next 2 063035b18d0a"),
-            ("session 1 any open reads X", "error"),
+            ("session 1 0 any open reads X", "error"),
             (ASKED, "next 3 8150b18228a903e1"),
             ("reply 06", "next 4 81d2b182cc28a903af"),
             ("reply 06", "wrong 4 -"),
             ("reply 95", "wrong 4 -"),
             ("quiet", "wrong 4 -"),
             (
-                &format!("session 1 {} open reads Z24 E0", &serial[..20]),
+                &format!("session 1 0 {} open reads Z24 E0", &serial[..20]),
                 "1 0 af3fb1b233a0b43536b7b83930218d0a",
             ),
             ("reply 95", "nak 1 -"),
-            ("session 1 any open reads Z24 E0", "1 0 af3f218d0a"),
+            ("session 1 0 any open reads Z24 E0", "1 0 af3f218d0a"),
             ("quiet", "silence 1 -"),
             ("reply 06", "silence 1 -"),
-            ("session 1 any open reads", "28 0 -"),
+            ("session 1 0 any open reads", "28 0 -"),
             ("quiet", "error"),
         ]);
     }
@@ -468,7 +492,7 @@ mod tests {
         let frame = format!("81d7b1825a2830b1bb{}a90306", "b1".repeat(24));
         played(&[
             (
-                &format!("session 1 any 3230333034303530 post {line}210d0a"),
+                &format!("session 1 0 any 3230333034303530 post {line}210d0a"),
                 "1 0 af3f218d0a",
             ),
             (IDENTIFIED, "next 2 063035b18d0a"),
@@ -485,31 +509,39 @@ mod tests {
     fn sessions_refused() {
         let many = " T".repeat(33);
         for (asked, told) in [
-            (&format!("session 1 any open reads{many}")[..], "29 0 -"),
-            (&format!("session 1 - open reads{}", &many[2..]), "9 0 -"),
-            ("session 1 any open post 31333132", "20 3 -"),
-            ("session 1 any open post -", "20 0 -"),
-            ("session 1 any open reads E5", "9 0 -"),
-            ("session 1 any open reads Z0", "9 0 -"),
-            ("session 1 any open reads E255", "9 0 -"),
-            ("session 1 any open reads E256", "error"),
-            ("session 1 any open reads E", "error"),
-            ("session 1 any open reads T0", "error"),
-            ("session 1 any open reads G1", "error"),
-            ("session 1 any open reads t", "error"),
-            ("session 1 any - reads T", "9 0 -"),
-            ("session 1 any open post", "error"),
-            ("session 1 any open post - -", "error"),
-            ("session 1 any open", "error"),
-            ("session 1 any open T", "error"),
-            ("session 1 1 open reads T", "error"),
-            ("session any open reads T", "error"),
-            ("session 2 any open reads Z25", "1 0 af3f218d0a"),
-            ("session 1 any open reads Z25", "9 0 -"),
-            ("session 2 any open reads Z26", "9 0 -"),
-            ("session 3 any open reads", "16 0 -"),
-            ("session 256 any open reads T", "error"),
-            ("session 1 any open reads ", "error"),
+            (&format!("session 1 0 any open reads{many}")[..], "29 0 -"),
+            (&format!("session 1 0 - open reads{}", &many[2..]), "9 0 -"),
+            ("session 1 0 any open post 31333132", "20 3 -"),
+            ("session 1 0 any open post -", "20 0 -"),
+            ("session 1 0 any open reads E5", "9 0 -"),
+            ("session 1 0 any open reads Z0", "9 0 -"),
+            ("session 1 0 any open reads E255", "9 0 -"),
+            ("session 1 0 any open reads E256", "error"),
+            ("session 1 0 any open reads E", "error"),
+            ("session 1 0 any open reads T0", "error"),
+            ("session 1 0 any open reads G1", "9 0 -"),
+            ("session 1 0 any open reads t", "error"),
+            ("session 1 0 any - reads T", "9 0 -"),
+            ("session 1 0 any open post", "error"),
+            ("session 1 0 any open post - -", "error"),
+            ("session 1 0 any open", "error"),
+            ("session 1 0 any open T", "error"),
+            ("session 1 0 1 open reads T", "error"),
+            ("session 1 any open reads T", "error"),
+            ("session 2 0 any open reads Z25", "1 0 af3f218d0a"),
+            ("session 1 0 any open reads Z25", "9 0 -"),
+            ("session 2 0 any open reads Z26", "9 0 -"),
+            ("session 3 0 any open reads", "16 0 -"),
+            ("session 256 0 any open reads T", "error"),
+            ("session 1 256 any open reads T", "error"),
+            ("session 1 2 any open reads G0 G4 E0", "1 0 af3f218d0a"),
+            ("session 1 4 any open reads G5", "9 0 -"),
+            ("session 1 4 any open reads G", "error"),
+            ("session 1 4 any open reads G256", "error"),
+            ("session 1 1 any open reads", "18 0 -"),
+            ("session 1 5 any open post -", "18 0 -"),
+            ("session 3 5 any open reads", "16 0 -"),
+            ("session 1 0 any open reads ", "error"),
             ("quiet 1", "error"),
             ("reply", "error"),
         ] {

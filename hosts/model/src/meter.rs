@@ -15,23 +15,31 @@ pub const NAK: u8 = 0x15;
 pub const PLACES: usize = 63;
 /// The least room of a reply buffer.
 pub const ROOM: usize = 4_096;
-/// The greatest pulse in Wh.
+/// The greatest pulse, of the last place that a counter shows.
 pub const PULSE_MOST: u32 = 1_000_000;
-/// Counters and their sum are taken modulo this.
+/// Counters and their sum are taken modulo this, in document 01's family.
 pub const COUNTER_END: u32 = 1_000_000_000;
+/// The same in the EQM family: eight digits in all.
+pub const EQM_END: u32 = 100_000_000;
 /// The number of a slice that is no frame.
 pub const NO_FRAME: u8 = 17;
 /// Characters of the data block of edition 1; a table more adds a line.
 pub const BLOCK: usize = 1_063;
 const TABLE_LINE: usize = 36;
+/// An EQM meter has ten lines of 22 where another has five of 24.
+const EQM_LINES: usize = 100;
 /// The number of an edition that there is not.
 pub const NO_EDITION: u8 = 16;
+/// The number of decimals that there are not.
+pub const NO_DECIMALS: u8 = 18;
 /// Rows that there is room for.
 pub const ROWS: usize = 25;
 /// The most closed periods that are kept.
 pub const PERIODS: usize = 12;
 /// Characters that a closed period adds to the block.
 pub const PERIOD_LINES: usize = 134;
+/// The same of an EQM meter.
+pub const EQM_PERIOD_LINES: usize = 226;
 
 pub const LISTENING: u8 = 0;
 pub const CONFIRMATION: u8 = 1;
@@ -58,6 +66,13 @@ pub struct Clock {
     pub second: u8,
 }
 
+/// Which way energy went.
+#[derive(Clone, Copy, Debug, PartialEq, Eq)]
+pub enum Way {
+    In,
+    Out,
+}
+
 /// A closed period: when it was closed, without the second, and the counters as they stood.
 #[derive(Clone, Copy, Debug, Default, PartialEq, Eq)]
 pub struct Period {
@@ -67,6 +82,8 @@ pub struct Period {
     pub hour: u8,
     pub minute: u8,
     pub counters: [u32; 4],
+    /// Energy that went out; zeros in document 01's family.
+    pub exported: [u32; 4],
 }
 
 /// Everything the meter remembers. Any values can stand here; `well_formed` tells the good ones.
@@ -89,6 +106,9 @@ pub struct Meter {
     pub counters: [u32; 4],
     /// The four added up, as it is kept.
     pub total: u32,
+    /// Energy that went out, and its total; zeros in document 01's family.
+    pub exported: [u32; 4],
+    pub exported_total: u32,
     /// The 25th is of edition 2; of edition 1 it holds zeros.
     pub tables: [[u8; 24]; ROWS],
     /// How many periods are kept.
@@ -99,6 +119,8 @@ pub struct Meter {
     pub link: u8,
     /// Which edition it is, for life.
     pub edition: u8,
+    /// Its family, for life: the decimals of an EQM meter, 2, 3 or 4, or 0 for document 01's.
+    pub decimals: u8,
 }
 
 /// What a call gives back beside the state and the buffer.
@@ -255,8 +277,8 @@ impl Clock {
 }
 
 impl Period {
-    /// A real date in 2000 to 2099 with hour and minute, and counters within their range.
-    pub fn is_good(&self) -> bool {
+    /// A real date in 2000 to 2099 with hour and minute.
+    pub fn has_moment(&self) -> bool {
         let closed = Clock {
             year: self.year,
             month: self.month,
@@ -265,7 +287,7 @@ impl Period {
             minute: self.minute,
             second: 0,
         };
-        closed.is_real() && self.counters.iter().all(|&counter| counter < COUNTER_END)
+        closed.is_real()
     }
 }
 
@@ -316,11 +338,14 @@ impl Meter {
             clock: Clock::FIRST,
             counters: [0; 4],
             total: 0,
+            exported: [0; 4],
+            exported_total: 0,
             tables: rows(24),
             closed: 0,
             periods: [Period::default(); PERIODS],
             link: OPTICAL,
             edition: 1,
+            decimals: 0,
         }
     }
 
@@ -341,23 +366,54 @@ impl Meter {
             clock,
             link,
             edition,
+            decimals,
             ..Meter::blank()
         };
         let Some(tables) = tables_of(edition) else {
             return (NO_EDITION, Meter::blank());
         };
+        if !meter.has_family() {
+            return (NO_DECIMALS, Meter::blank());
+        }
         meter.tables = rows(tables.into());
         meter.enter(LISTENING);
-        match decimals {
-            0 if meter.facts_good() => (1, meter),
-            0 => (15, Meter::blank()),
-            _ => (18, Meter::blank()),
+        match meter.facts_good() {
+            true => (1, meter),
+            false => (15, Meter::blank()),
         }
     }
 
     /// Whether it is of an edition that there is.
     pub fn has_edition(&self) -> bool {
         tables_of(self.edition).is_some()
+    }
+
+    /// Whether its decimals are those of some family.
+    fn has_family(&self) -> bool {
+        matches!(self.decimals, 0 | 2 | 3 | 4)
+    }
+
+    /// The directions that it counts.
+    fn ways(&self) -> &'static [Way] {
+        match self.decimals {
+            0 => &[Way::In],
+            _ => &[Way::In, Way::Out],
+        }
+    }
+
+    /// What its counters and totals stay below.
+    pub fn counter_end(&self) -> u32 {
+        match self.decimals {
+            0 => COUNTER_END,
+            _ => EQM_END,
+        }
+    }
+
+    /// Whether these are counters of a direction: those of one that is not counted are zeros.
+    fn counters_good(&self, way: Way, counters: &[u32; 4]) -> bool {
+        let counted = self.ways().contains(&way);
+        let end = if counted { self.counter_end() } else { 1 };
+        counters.iter().all(|&counter| counter < end)
     }
 
     /// How many tables it has.
@@ -419,8 +475,11 @@ impl Meter {
             && self.facts_good()
             && self.attempts <= 3
             && (self.speed == self.rest() || self.speed == 5 && self.mode > CONFIRMATION)
-            && self.counters.iter().all(|&counter| counter < COUNTER_END)
-            && self.total == total_of(&self.counters)
+            && self.has_family()
+            && self.counters_good(Way::In, &self.counters)
+            && self.counters_good(Way::Out, &self.exported)
+            && self.total == total_of(&self.counters, self.counter_end())
+            && self.exported_total == total_of(&self.exported, self.counter_end())
             && self.tables_good()
             && self.archive_good()
     }
@@ -436,7 +495,11 @@ impl Meter {
     fn archive_good(&self) -> bool {
         let closed = usize::from(self.closed);
         closed <= PERIODS
-            && self.periods[..closed].iter().all(Period::is_good)
+            && self.periods[..closed].iter().all(|period| {
+                period.has_moment()
+                    && self.counters_good(Way::In, &period.counters)
+                    && self.counters_good(Way::Out, &period.exported)
+            })
             && self.periods[closed..]
                 .iter()
                 .all(|unused| *unused == Period::default())
@@ -460,6 +523,7 @@ impl Meter {
             hour,
             minute,
             counters: self.counters,
+            exported: self.exported,
         };
         if usize::from(self.closed) < PERIODS {
             self.closed += 1;
@@ -755,7 +819,10 @@ impl Meter {
             b"T()" => self.time_line() + &self.date_line(),
             b"L()" => self.serial_line(),
             b"K()" => self.account_line(),
-            [b'E', n @ b'0'..=b'4', b'(', b')'] => self.energy_line(n - b'0'),
+            [b'E', n @ b'0'..=b'4', b'(', b')'] => self.energy_line(Way::In, n - b'0'),
+            [b'G', n @ b'0'..=b'4', b'(', b')'] if self.ways().contains(&Way::Out) => {
+                self.energy_line(Way::Out, n - b'0')
+            }
             [b'Z', b'(', xx @ .., b')'] if xx.len() == 2 => {
                 self.table_line(self.table_named(xx).ok_or(9)?)
             }
@@ -816,13 +883,40 @@ impl Meter {
         format!("0.0.0({})\r\n", text(&self.account))
     }
 
-    /// Zone 1 to 4, or 0 for the sum of the four.
-    fn energy_line(&self, zone: u8) -> String {
-        let wh = match zone {
-            0 => u64::from(self.total),
-            _ => u64::from(self.counters[usize::from(zone) - 1]),
+    /// The first part of a line's address.
+    fn name(&self, way: Way) -> &'static str {
+        match (self.decimals, way) {
+            (0, _) => "15",
+            (_, Way::In) => "1",
+            (_, Way::Out) => "2",
+        }
+    }
+
+    /// A counter as its family shows it: `eeeeee.eee*kWh`, or eight digits with the decimals' point.
+    fn energy_text(&self, count: u32) -> String {
+        let (digits, behind) = match self.decimals {
+            0 => (format!("{count:09}"), 3),
+            decimals => (format!("{count:08}"), usize::from(decimals)),
         };
-        format!("15.8.{zone}({})\r\n", energy_text(wh))
+        let (whole, rest) = digits.split_at(digits.len() - behind);
+        format!("{whole}.{rest}*kWh")
+    }
+
+    /// Zone 1 to 4 of a direction, or 0 for its total.
+    fn energy_line(&self, way: Way, zone: u8) -> String {
+        let (counters, total) = match way {
+            Way::In => (&self.counters, self.total),
+            Way::Out => (&self.exported, self.exported_total),
+        };
+        let count = match zone {
+            0 => total,
+            _ => counters[usize::from(zone) - 1],
+        };
+        format!(
+            "{}.8.{zone}({})\r\n",
+            self.name(way),
+            self.energy_text(count)
+        )
     }
 
     /// The lines of the period at a place, which is named from 01 on.
@@ -834,14 +928,21 @@ impl Meter {
             hour,
             minute,
             counters,
+            exported,
         } = self.periods[place];
         let kk = place + 1;
         let yy = year % 100;
         let mut lines =
             format!("0.1.2*{kk:02}({yy:02}-{month:02}-{day:02} {hour:02}:{minute:02})\r\n");
-        for (zone, &wh) in counters.iter().enumerate() {
-            let shown = energy_text(wh.into());
-            lines += &format!("15.8.{}*{kk:02}({shown})\r\n", zone + 1);
+        for &way in self.ways() {
+            let counters = match way {
+                Way::In => counters,
+                Way::Out => exported,
+            };
+            for (zone, &count) in counters.iter().enumerate() {
+                let (name, shown) = (self.name(way), self.energy_text(count));
+                lines += &format!("{name}.8.{}*{kk:02}({shown})\r\n", zone + 1);
+            }
         }
         lines
     }
@@ -852,7 +953,19 @@ impl Meter {
 
     /// Characters of the data block.
     pub fn block_length(&self) -> usize {
-        BLOCK + TABLE_LINE * (self.table_count() - 24)
+        let energy = match self.decimals {
+            0 => 0,
+            _ => EQM_LINES,
+        };
+        BLOCK + energy + TABLE_LINE * (self.table_count() - 24)
+    }
+
+    /// Characters that each of its closed periods adds.
+    pub fn period_length(&self) -> usize {
+        match self.decimals {
+            0 => PERIOD_LINES,
+            _ => EQM_PERIOD_LINES,
+        }
     }
 
     /// The data block, BCC included.
@@ -875,8 +988,10 @@ impl Meter {
         lines += &self.date_line();
         lines += &self.time_line();
         lines += &self.account_line();
-        for zone in [1, 2, 3, 4, 0] {
-            lines += &self.energy_line(zone);
+        for &way in self.ways() {
+            for zone in [1, 2, 3, 4, 0] {
+                lines += &self.energy_line(way, zone);
+            }
         }
         for table in 0..self.table_count() {
             lines += &self.table_line(table);
@@ -949,12 +1064,13 @@ impl Meter {
         }
     }
 
-    /// Energy used, counted in the zone that the clock and the tables name.
-    pub fn pulse(&mut self, wh: u32) -> Answer {
+    /// Energy of a direction, in units of the last place, counted in the zone that the clock and the
+    /// tables name. What its family does not count is refused like a pulse that is too great.
+    pub fn pulse(&mut self, way: Way, units: u32) -> Answer {
         if !self.has_edition() {
             return Answer::turned_away(NO_EDITION);
         }
-        if wh > PULSE_MOST {
+        if units > PULSE_MOST || !self.ways().contains(&way) {
             return Answer::turned_away(13);
         }
         if !self.well_formed() {
@@ -968,9 +1084,14 @@ impl Meter {
             _ => month,
         };
         let zone = self.tables[table - 1][usize::from(self.clock.hour)] - b'1';
-        let counter = &mut self.counters[usize::from(zone)];
-        *counter = (*counter + wh) % COUNTER_END;
-        self.total = total_of(&self.counters);
+        let end = self.counter_end();
+        let (counters, total) = match way {
+            Way::In => (&mut self.counters, &mut self.total),
+            Way::Out => (&mut self.exported, &mut self.exported_total),
+        };
+        let counter = &mut counters[usize::from(zone)];
+        *counter = (*counter + units) % end;
+        *total = total_of(counters, end);
         Answer {
             number: 1,
             speed: self.speed,
@@ -987,15 +1108,10 @@ fn rows(count: usize) -> [[u8; 24]; ROWS] {
     rows
 }
 
-/// What the total of these counters is.
-pub fn total_of(counters: &[u32; 4]) -> u32 {
-    let sum: u64 = counters.iter().map(|&wh| u64::from(wh)).sum();
-    (sum % u64::from(COUNTER_END)) as u32
-}
-
-/// `eeeeee.eee*kWh`.
-fn energy_text(wh: u64) -> String {
-    format!("{:06}.{:03}*kWh", wh / 1000, wh % 1000)
+/// What the total of these counters is, where counting starts again at an end.
+pub fn total_of(counters: &[u32; 4], end: u32) -> u32 {
+    let sum: u64 = counters.iter().map(|&count| u64::from(count)).sum();
+    (sum % u64::from(end)) as u32
 }
 
 /// A line of the wired link: a letter and a serial.

@@ -18,6 +18,7 @@ pub mod answer {
     pub const DONE: u8 = 1;
     pub const FIELD: u8 = 9;
     pub const NO_EDITION: u8 = 16;
+    pub const NO_DECIMALS: u8 = 18;
     pub const SHORT_ROOM: u8 = 19;
     pub const NO_POST: u8 = 20;
     pub const NO_READS: u8 = 28;
@@ -53,12 +54,15 @@ pub struct Session {
     pub sent: u8,
     pub fact: u8,
     pub edition: u8,
+    pub decimals: u8,
 }
 
 /// What a session is told at its start.
 #[derive(Clone, Copy, Debug)]
 pub struct Told<'a> {
     pub edition: u8,
+    /// The family: 0, or an EQM meter's decimals.
+    pub decimals: u8,
     pub named: u8,
     pub serial: &'a [u8],
     pub access: u8,
@@ -84,16 +88,32 @@ pub struct Heard {
     pub length: usize,
 }
 
-/// The command of one read, by its letter and number; nothing for a letter that asks for nothing.
+/// The meters that are called: their edition, and their family.
+#[derive(Clone, Copy, Debug, PartialEq, Eq)]
+pub struct Meters {
+    pub edition: u8,
+    pub decimals: u8,
+}
+
+/// Whether some family has these decimals.
+fn family(decimals: u8) -> bool {
+    matches!(decimals, 0 | 2 | 3 | 4)
+}
+
+/// The command of one read, by its letter and number; nothing for a letter that asks for nothing, or
+/// for what these meters do not count.
 /// Whether the number is one that the command takes is the command's own rule.
-pub fn asked(edition: u8, letter: u8, number: u8) -> Option<Command<'static>> {
+pub fn asked(meters: Meters, letter: u8, number: u8) -> Option<Command<'static>> {
     match (letter, number) {
         (b'T', _) => Some(Command::ReadClock),
         (b'L', _) => Some(Command::ReadSerial),
         (b'K', _) => Some(Command::ReadAccount),
         (b'E', 0) => Some(Command::ReadTotal),
         (b'E', zone) => Some(Command::ReadZone(zone)),
-        (b'Z', table) => Some(Command::ReadTable(edition, table)),
+        (b'G', _) if meters.decimals == 0 => None,
+        (b'G', 0) => Some(Command::ReadTotalOut),
+        (b'G', zone) => Some(Command::ReadZoneOut(zone)),
+        (b'Z', table) => Some(Command::ReadTable(meters.edition, table)),
         _ => None,
     }
 }
@@ -105,12 +125,13 @@ fn read_at(given: &[u8], place: usize) -> [u8; READ] {
 }
 
 /// The message of a place of some work; nothing where it can't be built.
-fn work_message(edition: u8, kind: u8, given: &[u8], place: usize) -> Option<Vec<u8>> {
+fn work_message(meters: Meters, kind: u8, given: &[u8], place: usize) -> Option<Vec<u8>> {
+    let edition = meters.edition;
     let wire = |command: Command| Some(line::wires(&head::characters(&command)?));
     match kind {
         work::READS => {
             let [letter, number] = read_at(given, place);
-            wire(asked(edition, letter, number)?)
+            wire(asked(meters, letter, number)?)
         }
         work::POST => {
             // A line is one that makes a post alone.
@@ -159,6 +180,9 @@ fn enter(access: u8, password: &[u8]) -> Option<Vec<u8>> {
 fn looked_at(told: &Told, room: usize) -> Result<Vec<Vec<u8>>, (u8, usize)> {
     let (reads, post) = (told.kind == work::READS, told.kind == work::POST);
     let highest = post::tables_of(told.edition).ok_or((answer::NO_EDITION, 0))?;
+    if !family(told.decimals) {
+        return Err((answer::NO_DECIMALS, 0));
+    }
     if room < head::COMMAND_ROOM {
         return Err((answer::SHORT_ROOM, 0));
     }
@@ -183,8 +207,12 @@ fn messages(told: &Told) -> Option<Vec<Vec<u8>>> {
         sign_on(told.named, told.serial)?,
         enter(told.access, told.password)?,
     ];
+    let meters = Meters {
+        edition: told.edition,
+        decimals: told.decimals,
+    };
     for place in 0..count_of(told.kind, told.work)? {
-        messages.push(work_message(told.edition, told.kind, told.work, place)?);
+        messages.push(work_message(meters, told.kind, told.work, place)?);
     }
     Some(messages)
 }
@@ -209,6 +237,7 @@ pub fn start(session: &mut Session, told: &Told, out: &mut [u8]) -> Started {
         session.password.copy_from_slice(told.password);
     }
     session.edition = told.edition;
+    session.decimals = told.decimals;
     session.named = told.named;
     session.access = told.access;
     session.work = told.kind;
@@ -224,6 +253,14 @@ pub fn start(session: &mut Session, told: &Told, out: &mut [u8]) -> Started {
 }
 
 impl Session {
+    /// The meters that it calls.
+    pub fn meters(&self) -> Meters {
+        Meters {
+            edition: self.edition,
+            decimals: self.decimals,
+        }
+    }
+
     /// The number of its last message, B0.
     pub fn last(&self) -> u8 {
         self.count.saturating_add(BESIDE)
@@ -246,7 +283,8 @@ impl Session {
             work::POST => 1..=highest,
             _ => return false,
         };
-        told(self.named, &self.serial)
+        family(self.decimals)
+            && told(self.named, &self.serial)
             && told(self.access, &self.password)
             && (self.work == work::READS || self.access == 1)
             && counted.contains(&self.count)
@@ -265,7 +303,7 @@ impl Session {
             _ if number == self.last() => wire(Command::SignOff),
             _ => {
                 let place = usize::from(number - BESIDE);
-                work_message(self.edition, self.work, given, place)
+                work_message(self.meters(), self.work, given, place)
             }
         }
     }
@@ -281,7 +319,7 @@ impl Session {
             sent if sent == self.last() || self.work == work::POST => reply == [ACK],
             sent => {
                 let [letter, number] = read_at(given, usize::from(sent - BESIDE));
-                tells(self.edition, letter, number, reply)
+                tells(self.meters(), letter, number, reply)
             }
         }
     }
@@ -349,7 +387,7 @@ impl Session {
 }
 
 /// Whether a reply is a block with just the lines that a read asks for, in their form.
-pub fn tells(edition: u8, letter: u8, number: u8, reply: &[u8]) -> bool {
+pub fn tells(meters: Meters, letter: u8, number: u8, reply: &[u8]) -> bool {
     let mut stripped = vec![0; reply.len()];
     if head::strip(reply, &mut stripped).0 != head::answer::DONE {
         return false;
@@ -368,14 +406,25 @@ pub fn tells(edition: u8, letter: u8, number: u8, reply: &[u8]) -> bool {
         }
         b'L' => line_of(data, "C.1.0").is_some_and(|value| head::value_serial(value).is_some()),
         b'K' => line_of(data, "0.0.0").is_some_and(|value| head::value_account(value).is_some()),
-        b'E' if number <= 4 => line_of(data, &format!("15.8.{shown}"))
+        b'E' if number <= 4 && meters.decimals == 0 => line_of(data, &format!("15.8.{shown}"))
             .is_some_and(|value| head::value_counter(value).is_some()),
-        b'Z' if post::tables_of(edition).is_some_and(|highest| (1..=highest).contains(&number)) => {
+        b'E' if number <= 4 => eqm_line(data, &format!("1.8.{shown}"), meters.decimals),
+        b'G' if number <= 4 && meters.decimals != 0 => {
+            eqm_line(data, &format!("2.8.{shown}"), meters.decimals)
+        }
+        b'Z' if post::tables_of(meters.edition)
+            .is_some_and(|highest| (1..=highest).contains(&number)) =>
+        {
             line_of(data, &format!("131.0.{shown:0>2}"))
                 .is_some_and(|value| head::value_row(value).is_some())
         }
         _ => false,
     }
+}
+
+/// Whether this is the line of an EQM counter with these decimals.
+fn eqm_line(line: &[u8], address: &str, decimals: u8) -> bool {
+    line_of(line, address).is_some_and(|value| head::value_eqm(decimals, value).is_some())
 }
 
 /// What stands between the brackets of a line with this address.

@@ -64,11 +64,26 @@ impl Chance {
     }
 
     pub fn counter(&mut self) -> u32 {
-        let size = 10usize.pow(self.between(0, 9) as u32);
+        self.counter_of(0)
+    }
+
+    /// A counter of a family: of up to nine digits, or up to eight.
+    pub fn counter_of(&mut self, decimals: u8) -> u32 {
+        let digits = if decimals == 0 { 9 } else { 8 };
+        let size = 10usize.pow(self.between(0, digits) as u32);
         match self.below(8) {
             0 => 0,
-            1 => 999_999_999,
+            1 => 10_u32.pow(digits as u32) - 1,
             _ => self.below(size) as u32,
+        }
+    }
+
+    /// Four counters of what came in, and four of what went out.
+    fn counters_of(&mut self, decimals: u8) -> [[u32; 4]; 2] {
+        let both = [(); 2].map(|()| std::array::from_fn(|_| self.counter_of(decimals)));
+        match decimals {
+            0 => [both[0], [0; 4]],
+            _ => both,
         }
     }
 
@@ -79,26 +94,37 @@ impl Chance {
         self.registers_closed(count)
     }
 
-    /// Registers of either edition with so many closed periods.
+    /// Registers of either edition and any family with so many closed periods.
     pub fn registers_closed(&mut self, count: usize) -> Registers {
+        let decimals = self.one_of(&[0, 0, 0, 2, 3, 4]);
+        self.registers_of(decimals, count)
+    }
+
+    /// The same of one family.
+    pub fn registers_of(&mut self, decimals: u8, count: usize) -> Registers {
         let rows = self.one_of(&[24, 25]);
+        let [counters, exported] = self.counters_of(decimals);
         Registers {
             serial: self.texts(DIGITS),
             account: self.texts(ACCOUNT),
             clock: self.real_clock(),
-            counters: std::array::from_fn(|_| self.counter()),
+            decimals,
+            counters,
+            exported,
             tables: (0..rows).map(|_| self.texts(ZONES)).collect(),
-            periods: (0..count).map(|_| self.period()).collect(),
+            periods: (0..count).map(|_| self.period(decimals)).collect(),
         }
     }
 
-    fn period(&mut self) -> Period {
+    fn period(&mut self, decimals: u8) -> Period {
+        let [counters, exported] = self.counters_of(decimals);
         Period {
             closed: Clock {
                 second: 0,
                 ..self.real_clock()
             },
-            counters: std::array::from_fn(|_| self.counter()),
+            counters,
+            exported,
         }
     }
 

@@ -7,7 +7,7 @@ use crate::words::{
 };
 use model::bench::Event;
 use model::line::{character, wires, ETX, SOH};
-use model::meter::{Clock, Meter, PULSE_MOST, ROOM, WIRED};
+use model::meter::{Clock, Meter, Way, PULSE_MOST, ROOM, WIRED};
 
 #[derive(Clone, Copy, Debug, PartialEq, Eq)]
 pub enum Write {
@@ -30,6 +30,9 @@ pub enum Mistake {
     WritesTwice,
     KeepsOnTheWire,
     TakesTable25,
+    CountsOutAsIn,
+    CountsOutOfNone,
+    AnswersNoG,
 }
 
 /// What was told so far, and how matters stand: mode, failed passwords, and the bytes said since
@@ -75,13 +78,27 @@ impl History {
                     self.write(write);
                 }
             }
-            Event::Pulse { wh } if wh <= PULSE_MOST => drop(self.book.pulse(wh)),
-            Event::Pulse { .. } => {}
+            Event::Pulse { way, units } => self.pulse(way, units),
             Event::PowerUp => {
                 self.failed = 0;
                 self.anew(0);
             }
         }
+    }
+
+    /// A pulse that is too great, or out of a meter that counts nothing out, has not happened.
+    fn pulse(&mut self, way: Way, units: u32) {
+        let counts_out = self.eqm() || self.mistake == Mistake::CountsOutOfNone;
+        if units > PULSE_MOST || (way == Way::Out && !counts_out) {
+            return;
+        }
+        let as_in = !self.eqm() || self.mistake == Mistake::CountsOutAsIn;
+        let way = if as_in { Way::In } else { way };
+        self.book.pulse(way, units);
+    }
+
+    fn eqm(&self) -> bool {
+        self.book.decimals != 0
     }
 
     fn happens(&self, room: usize) -> bool {
@@ -154,7 +171,8 @@ impl History {
             return self.entered(frame);
         }
         let highest = self.highest();
-        let mut taken = asks(frame, highest);
+        let out = self.eqm() && self.mistake != Mistake::AnswersNoG;
+        let mut taken = asks(frame, highest, out);
         if self.mode == 4 || self.mistake == Mistake::TakesInReadOnly {
             if let Some(write) = write_in(frame, highest, self.mistake) {
                 self.write(write);
@@ -244,10 +262,13 @@ fn characters(bytes: &[u8]) -> Vec<u8> {
     bytes.iter().map(|byte| byte & 0x7F).collect()
 }
 
-/// A question that may be asked.
-fn asks(frame: &[u8], highest: usize) -> bool {
+/// A question that may be asked, of a meter that counts what goes out or of another.
+fn asks(frame: &[u8], highest: usize, out: bool) -> bool {
     let registers = ["T()", "L()", "K()"].map(String::from).into_iter();
-    let energies = (0..5).map(|zone| format!("E{zone}()"));
+    let letters = if out { "EG" } else { "E" };
+    let energies = letters
+        .chars()
+        .flat_map(|letter| (0..5).map(move |zone| format!("{letter}{zone}()")));
     let tables = (1..=highest).map(|table| format!("Z({table:02})"));
     let mut all = registers.chain(energies).chain(tables);
     all.any(|data| says(frame, &read(data.as_bytes())))

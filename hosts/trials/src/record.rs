@@ -31,6 +31,7 @@ fn period_of(period: &model::meter::Period) -> Period {
             minute: period.minute,
         },
         zones: period.counters,
+        exported: period.exported,
     }
 }
 
@@ -40,8 +41,8 @@ pub fn record_of(meter: &model::meter::Meter) -> Meter {
         attempts: meter.attempts,
         speed: meter.speed,
         receiver: Receiver {
-            held: meter.held,
             count: meter.count,
+            held: meter.held,
             mark: meter.mark,
             place: meter.place,
         },
@@ -52,7 +53,7 @@ pub fn record_of(meter: &model::meter::Meter) -> Meter {
                 kind: Kind {
                     edition: meter.edition,
                     link: meter.link,
-                    ..Kind::default()
+                    decimals: meter.decimals,
                 },
             },
             account: meter.account,
@@ -60,6 +61,10 @@ pub fn record_of(meter: &model::meter::Meter) -> Meter {
             counters: Counters {
                 zones: meter.counters,
                 total: meter.total,
+            },
+            exported: Counters {
+                zones: meter.exported,
+                total: meter.exported_total,
             },
             tables: meter.tables,
             archive: Archive {

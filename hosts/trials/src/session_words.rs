@@ -4,16 +4,17 @@ use crate::chance::Chance;
 use crate::head_words::ZONES;
 use model::head::{block, line, on_the_wire, Registers};
 use model::post::{tables_of, text_of, Table};
-use model::session::{work, Session};
+use model::session::{work, Meters, Session};
 
-/// A good read of a meter of an edition.
-pub fn read(chance: &mut Chance, edition: u8) -> [u8; 2] {
-    match chance.weighed(&[2, 2, 2, 4, 6]) {
+/// A good read of these meters.
+pub fn read(chance: &mut Chance, meters: Meters) -> [u8; 2] {
+    match chance.weighed(&[2, 2, 2, 4, 6, 4]) {
         0 => [b'T', without_use(chance)],
         1 => [b'L', without_use(chance)],
         2 => [b'K', without_use(chance)],
         3 => [b'E', chance.between(0, 4) as u8],
-        _ if edition == 2 && chance.one_in(8) => [b'Z', 25],
+        5 if meters.decimals != 0 => [b'G', chance.between(0, 4) as u8],
+        _ if meters.edition == 2 && chance.one_in(8) => [b'Z', 25],
         _ => [b'Z', chance.between(1, 24) as u8],
     }
 }
@@ -27,8 +28,8 @@ fn without_use(chance: &mut Chance) -> u8 {
 }
 
 /// So many good reads.
-pub fn reads(chance: &mut Chance, edition: u8, count: usize) -> Vec<u8> {
-    (0..count).flat_map(|_| read(chance, edition)).collect()
+pub fn reads(chance: &mut Chance, meters: Meters, count: usize) -> Vec<u8> {
+    (0..count).flat_map(|_| read(chance, meters)).collect()
 }
 
 /// A post of so many lines, with tables up to the highest.
@@ -50,8 +51,9 @@ pub fn post(chance: &mut Chance, highest: u8, count: usize) -> Vec<u8> {
 /// One read of a list spoilt.
 pub fn spoil_a_read(chance: &mut Chance, reads: &mut [u8]) {
     let at = chance.below(reads.len() / 2) * 2;
-    let spoilt = match chance.below(6) {
+    let spoilt = match chance.below(7) {
         0 => [b'E', chance.between(5, 255) as u8],
+        6 => [b'G', chance.one_of(&[5, 6, 255])],
         1 => [b'Z', chance.one_of(&[0, 25, 26, 255])],
         2 => [chance.one_of(b"GPWRBtlkez\0"), chance.below(5) as u8],
         3 => [chance.byte(), chance.byte()],
@@ -64,13 +66,17 @@ pub fn spoil_a_read(chance: &mut Chance, reads: &mut [u8]) {
 /// The lines that a read asks for, of these registers.
 fn lines(registers: &Registers, [letter, number]: [u8; 2]) -> Vec<u8> {
     let sets = registers.data_sets();
+    // Behind the energy that came in stand five lines of what went out, or none.
+    let out = if registers.decimals == 0 { 0 } else { 5 };
     let places = match letter {
         b'T' => vec![2, 1],
         b'L' => vec![0],
         b'K' => vec![3],
         b'E' if number == 0 => vec![8],
         b'E' => vec![3 + usize::from(number)],
-        _ => vec![8 + usize::from(number)],
+        b'G' if number == 0 => vec![8 + out],
+        b'G' => vec![3 + out + usize::from(number)],
+        _ => vec![8 + out + usize::from(number)],
     };
     let shown = places.into_iter().map(|place| &sets[place]);
     shown
@@ -95,26 +101,33 @@ pub fn right(chance: &mut Chance, session: &Session, given: &[u8]) -> Vec<u8> {
         2 => password_ask(),
         sent if sent == 3 || sent == session.last() || session.work == work::POST => vec![0x06],
         sent => match given.chunks(2).nth(usize::from(sent) - 4) {
-            Some(&[letter, number]) if asks(session.edition, letter, number) => {
-                on_the_wire(&block(&lines(&registers(chance), [letter, number])))
+            Some(&[letter, number]) if asks(session.meters(), letter, number) => {
+                let shown = registers(chance, session.decimals);
+                on_the_wire(&block(&lines(&shown, [letter, number])))
             }
             _ => vec![0x06],
         },
     }
 }
 
-/// Registers with a row for every table that can be asked for.
-fn registers(chance: &mut Chance) -> Registers {
-    let mut registers = chance.registers();
+/// Registers of a family, with a row for every table that can be asked for.
+fn registers(chance: &mut Chance, decimals: u8) -> Registers {
+    // A record may say decimals that no meter has; then nothing is right.
+    let decimals = match decimals {
+        2..=4 => decimals,
+        _ => 0,
+    };
+    let mut registers = chance.registers_of(decimals, 0);
     registers.tables.resize_with(25, || chance.texts(ZONES));
     registers
 }
 
-fn asks(edition: u8, letter: u8, number: u8) -> bool {
+fn asks(meters: Meters, letter: u8, number: u8) -> bool {
     match letter {
         b'T' | b'L' | b'K' => true,
         b'E' => number <= 4,
-        b'Z' => tables_of(edition).is_some_and(|highest| (1..=highest).contains(&number)),
+        b'G' => number <= 4 && meters.decimals != 0,
+        b'Z' => tables_of(meters.edition).is_some_and(|highest| (1..=highest).contains(&number)),
         _ => false,
     }
 }
@@ -125,21 +138,29 @@ fn near(chance: &mut Chance, session: &Session, given: &[u8]) -> Vec<u8> {
         .chunks(2)
         .nth(usize::from(session.sent).saturating_sub(4));
     let read = match asked {
-        Some(&[letter, number]) if asks(session.edition, letter, number) => [letter, number],
-        _ => read(chance, session.edition),
+        Some(&[letter, number]) if asks(session.meters(), letter, number) => [letter, number],
+        _ => read(chance, session.meters()),
     };
-    let mut data = lines(&registers(chance), read);
-    match chance.below(8) {
+    // At times in another family's form.
+    let any = chance.one_of(&[0, 2, 3, 4]);
+    let decimals = chance.one_of(&[session.decimals, session.decimals, session.decimals, any]);
+    let mut data = lines(&registers(chance, decimals), read);
+    let all = Meters {
+        edition: 2,
+        decimals,
+    };
+    match chance.below(9) {
+        8 => {}
         0 => data.extend(b"!\r\n"),
         1 => data = [&data[..], &data].concat(),
         2 if read[0] == b'T' => data.rotate_left(17),
         3 => {
-            let other = self::read(chance, 2);
-            data.extend(lines(&registers(chance), other));
+            let other = self::read(chance, all);
+            data.extend(lines(&registers(chance, decimals), other));
         }
         4 => {
-            let other = self::read(chance, 2);
-            data = lines(&registers(chance), other);
+            let other = self::read(chance, all);
+            data = lines(&registers(chance, decimals), other);
         }
         5 => {
             // Another number, month, hour or zone: a digit changed.

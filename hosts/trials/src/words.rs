@@ -2,7 +2,8 @@
 
 use crate::chance::Chance;
 use model::meter::{
-    bcc, days_in_month, total_of, Clock, Meter, Period, ETX, PERIODS, PLACES, SOH, STX, WIRED,
+    bcc, days_in_month, total_of, Clock, Meter, Period, COUNTER_END, EQM_END, ETX, PERIODS, PLACES,
+    SOH, STX, WIRED,
 };
 
 /// SOH, command, STX and data if there are any, ETX and the true BCC.
@@ -97,14 +98,56 @@ pub fn digits<const N: usize>(chance: &mut Chance) -> [u8; N] {
     [0; N].map(|_| chance.one_of(b"0123456789"))
 }
 
-/// A counter, often near its end.
-pub fn counter(chance: &mut Chance) -> u32 {
+/// Decimals that some family has: document 01's as often as all others.
+pub fn family(chance: &mut Chance) -> u8 {
+    chance.one_of(&[0, 0, 0, 2, 3, 4])
+}
+
+/// A counter of a family, often near its end.
+pub fn counter(chance: &mut Chance, decimals: u8) -> u32 {
+    let end = match decimals {
+        0 => COUNTER_END,
+        _ => EQM_END,
+    };
     match chance.below(4) {
-        0 => 999_999_999 - chance.below(2_000_000) as u32,
-        1 => 999_999_999 - chance.below(3) as u32,
+        0 => end - 1 - chance.below(2_000_000) as u32,
+        1 => end - 1 - chance.below(3) as u32,
         2 => chance.below(2_000) as u32,
-        _ => chance.below(1_000_000_000) as u32,
+        _ => chance.below(end as usize) as u32,
     }
+}
+
+/// Four counters of what came in.
+pub fn counters(chance: &mut Chance, decimals: u8) -> [u32; 4] {
+    [(); 4].map(|()| counter(chance, decimals))
+}
+
+/// Four counters of what went out, which document 01's family has none of.
+pub fn exported(chance: &mut Chance, decimals: u8) -> [u32; 4] {
+    match decimals {
+        0 => [0; 4],
+        _ => counters(chance, decimals),
+    }
+}
+
+/// The same of another family: counters and periods in its ranges.
+pub fn of_family(chance: &mut Chance, mut meter: Meter, decimals: u8) -> Meter {
+    meter.decimals = decimals;
+    meter.counters = counters(chance, decimals);
+    meter.exported = exported(chance, decimals);
+    for place in 0..usize::from(meter.closed).min(PERIODS) {
+        meter.periods[place].counters = counters(chance, decimals);
+        meter.periods[place].exported = exported(chance, decimals);
+    }
+    totalled(meter)
+}
+
+/// The same with the totals of its counters.
+pub fn totalled(mut meter: Meter) -> Meter {
+    let end = meter.counter_end();
+    meter.total = total_of(&meter.counters, end);
+    meter.exported_total = total_of(&meter.exported, end);
+    meter
 }
 
 /// A moment, often the last of its month, year or century.
@@ -159,8 +202,8 @@ pub fn midnight(chance: &mut Chance) -> Clock {
     around
 }
 
-/// A closed period.
-pub fn period(chance: &mut Chance) -> Period {
+/// A closed period of a meter of some family.
+pub fn period(chance: &mut Chance, decimals: u8) -> Period {
     let Clock {
         year,
         month,
@@ -175,7 +218,8 @@ pub fn period(chance: &mut Chance) -> Period {
         day,
         hour,
         minute,
-        counters: [(); 4].map(|()| counter(chance)),
+        counters: counters(chance, decimals),
+        exported: exported(chance, decimals),
     }
 }
 
@@ -186,7 +230,7 @@ pub fn close_some(chance: &mut Chance, meter: &mut Meter) {
     meter.closed = count as u8;
     meter.periods = [Period::default(); PERIODS];
     for place in 0..count {
-        meter.periods[place] = period(chance);
+        meter.periods[place] = period(chance, meter.decimals);
     }
 }
 
@@ -194,7 +238,7 @@ pub fn close_some(chance: &mut Chance, meter: &mut Meter) {
 pub fn break_periods(chance: &mut Chance, meter: &mut Meter) {
     let place = chance.below(PERIODS);
     let broken = &mut meter.periods[place];
-    match chance.below(8) {
+    match chance.below(9) {
         0 => meter.closed = chance.one_of(&[13, 14, 128, 255]),
         1 => meter.closed = (place as u8 + 1 + meter.closed) % 13,
         2 => broken.year = chance.one_of(&[1, 1999, 2000, 2099, 2100, 65_535]),
@@ -202,12 +246,20 @@ pub fn break_periods(chance: &mut Chance, meter: &mut Meter) {
         4 => broken.day = chance.one_of(&[0, 1, 28, 29, 30, 31, 32, 255]),
         5 => broken.hour = chance.one_of(&[1, 23, 24, 255]),
         6 => broken.minute = chance.one_of(&[1, 59, 60, 255]),
-        _ => {
-            let wh = chance.one_of(&[1, 999_999_999, 1_000_000_000, u32::MAX]);
-            broken.counters[chance.below(4)] = wh;
-        }
+        7 => broken.counters[chance.below(4)] = chance.one_of(&ENDS),
+        _ => broken.exported[chance.below(4)] = chance.one_of(&ENDS),
     }
 }
+
+/// Numbers around the ends of counters.
+pub const ENDS: [u32; 6] = [
+    1,
+    99_999_999,
+    100_000_000,
+    999_999_999,
+    1_000_000_000,
+    u32::MAX,
+];
 
 /// A good state in some mode, its receiver empty.
 pub fn state(chance: &mut Chance, mode: u8) -> Meter {
@@ -224,13 +276,11 @@ pub fn state(chance: &mut Chance, mode: u8) -> Meter {
     if chance.percent(10) {
         meter.serial = *b"0000000000";
     }
-    for zone in 0..4 {
-        meter.counters[zone] = counter(chance);
-    }
-    meter.total = total_of(&meter.counters);
     for table in 0..24 {
         meter.tables[table] = row(chance);
     }
+    let decimals = family(chance);
+    let mut meter = of_family(chance, meter, decimals);
     close_some(chance, &mut meter);
     of_some_edition(chance, meter)
 }
@@ -292,11 +342,12 @@ fn table(chance: &mut Chance) -> usize {
     }
 }
 
-/// Read data in document 01's form.
+/// Read data in document 01's form, or request [10]'s.
 pub fn good_read(chance: &mut Chance) -> Vec<u8> {
-    match chance.below(4) {
+    match chance.below(6) {
         0 => chance.pick::<[u8]>(&[b"T()", b"L()", b"K()"]).to_vec(),
         1 => format!("E{}()", chance.below(5)).into_bytes(),
+        2 => format!("G{}()", chance.below(5)).into_bytes(),
         _ => format!("Z({:02})", table(chance)).into_bytes(),
     }
 }
@@ -309,7 +360,8 @@ pub fn bad_read(chance: &mut Chance) -> Vec<u8> {
         b"E5()", b"E9()", b"E/()", b"E:()", b"E01()", b"E1", b"E1(1)", b"e1()", b"Z()", b"Z(00)",
         b"Z(25)", b"Z(26)", b"Z(30)", b"Z(99)", b"Z(1)", b"Z(001)", b"Z(1a)", b"Z(a1)", b"Z(/1)",
         b"Z(0:)", b"Z(01", b"Z[01]", b"z(01)", b"Z(01)(02)", b"F()", b"P()", b"U()", b"()", b"(T)",
-        b"Z(-1)", b"Z( 1)", b"Z(1 )", b"Z(24)0", b"T())", b"T)(", b"Z(2;)", b"Z(07;)",
+        b"Z(-1)", b"Z( 1)", b"Z(1 )", b"Z(24)0", b"T())", b"T)(", b"Z(2;)", b"Z(07;)", b"G()",
+        b"G5()", b"G9()", b"G/()", b"G:()", b"G01()", b"G1", b"G1(1)", b"g1()", b"F1()", b"H0()",
     ];
     match chance.below(3) {
         0 => printables(chance, 8),

@@ -1,11 +1,24 @@
 -- `replies::data_block` meets its contract: STX, the data, and then closed. Assumes nothing.
+use mathlib.Core.List.{[], _∷_}
 use native.Mathlib.Omega.{arith}
-use Rattle.frames.proofs.Sealing.{blocking}
+use Rattle.text.proofs.Writing.{length-stored}
+use Rattle.state.specs.WellFormed.{familyIn}
+use Rattle.frames.proofs.Sealing.{blocking, block-length}
 use Rattle.replies.specs.Block.{blockData}
-use Rattle.replies.proofs.Sizes.{content-long, put-at}
+use Rattle.replies.proofs.Sizes.{content-long, directions-most}
 use borrow.Author.Needs.{needs}
 use Rattle.replies.proofs.data_block.Statement.{statement}
 use Rattle.replies.proofs.data_block.Tie as tie
+
+seal-requires : tie.Need-seal-requires
+seal-requires c κs =
+    let start = c .before .before .before .before .before .before .before .before .before .before .before in
+    let a = start .args in
+    let first = c .before .before .before .before .before .before .before .put .ensures in
+    let shown = c .before .before .before .put-block .ensures in
+    let long = content-long (a .tables) (a .g) (start .pre .0) in
+    let most = directions-most (familyIn (a .g)) in
+    (omega (arith, first .0, shown .0), rw (shown .1, length-stored (c .before .before .before .before .before .before .before .put .last .0) (c .before .before .before .before .before .before .before .put .result) (blockData (a .tables) (a .g)), first .1, length-stored (a .buf .now) 0 (2 ∷ [])) (omega (arith, first .0, shown .0, long, most, start .pre .0 .few, start .pre .1)))
 
 returns : tie.Need-returns
 returns c =
@@ -18,9 +31,9 @@ returns c =
     let shown = c6 .put-block .ensures in
     let shut = c .before .before .seal .ensures in
     let long = content-long (a .tables) (a .g) (start .pre .0) in (
-      omega (arith, first .0, shown .0, shut .0),
-      blocking (a .buf .now) (blockData (a .tables) (a .g)) _ _ _ _ _ (omega (arith, long, start .pre .0 .few, start .pre .1)) (first .0) (first .1) (put-at _ _ _ _ (shown .0) long) (shown .1) (shut .1),
+      omega (arith, first .0, shown .0, shut .0, block-length (blockData (a .tables) (a .g))),
+      blocking (a .buf .now) (blockData (a .tables) (a .g)) _ _ _ _ _ (omega (arith, long, directions-most (familyIn (a .g)), start .pre .0 .few, start .pre .1)) (first .0) (first .1) (shown .0) (shown .1) (shut .1),
     )
 
 pub data-block-spec : {M : Type 1} → statement M
-data-block-spec = tie.close (tie.spec (λ c. search needs) (λ c κs. search needs) (λ c κs. search needs) (λ c κs. search needs) (λ c. search needs) returns)
+data-block-spec = tie.close (tie.spec (λ c. search needs) (λ c κs. search needs) (λ c κs. search needs) seal-requires (λ c. search needs) returns)

@@ -26,7 +26,11 @@ returns-5 c = rw (c .before .enum-told3 .given .1, c .end4 .ensures)
 
 returns-6 : tie.Need-returns-6
 unfolding heardOf
-returns-6 c = rw (c .before .enum-told4 .given .1, c .end5 .ensures)
+returns-6 c = rw (c .before .before .e3 .given .1, c .end5 .ensures)
+
+returns-7 : tie.Need-returns-7
+unfolding heardOf
+returns-7 c = rw (c .before .enum-told4 .given .1, c .end6 .ensures)
 
 pub hear-or-leave-spec : {M : Type 1} → statement M
-hear-or-leave-spec = tie.close (tie.spec (λ c. search needs) (λ c κs. search needs) (λ c. search needs) (λ c κs. search needs) (λ c. search needs) (λ c κs. search needs) (λ c. search needs) (λ c κs. search needs) (λ c. search needs) (λ c κs. search needs) (λ c. search needs) (λ c κs. search needs) returns returns-2 returns-3 returns-4 returns-5 returns-6)
+hear-or-leave-spec = tie.close (tie.spec (λ c. search needs) (λ c κs. search needs) (λ c. search needs) (λ c κs. search needs) (λ c. search needs) (λ c κs. search needs) (λ c. search needs) (λ c κs. search needs) (λ c. search needs) (λ c κs. search needs) (λ c. search needs) (λ c κs. search needs) (λ c. search needs) (λ c κs. search needs) returns returns-2 returns-3 returns-4 returns-5 returns-6 returns-7)

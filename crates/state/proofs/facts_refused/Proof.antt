@@ -8,13 +8,13 @@ returns : tie.Need-returns
 unfolding factsRefused
 returns c =
     let asked = c .before .before in
-    rw (← asked .before .is-edition .ensures, asked .if1 .taken, ← c .before .decimals-good .ensures, c .if2 .taken)
+    rw (← asked .before .is-edition .ensures, asked .if1 .taken, ← c .before .is-family .ensures, c .if2 .taken)
 
 returns-2 : tie.Need-returns-2
 unfolding factsRefused
 returns-2 c =
     let asked = c .before .before in
-    rw (← asked .before .is-edition .ensures, asked .if1 .taken, ← c .before .decimals-good .ensures, c .if2 .left)
+    rw (← asked .before .is-edition .ensures, asked .if1 .taken, ← c .before .is-family .ensures, c .if2 .left)
 
 returns-3 : tie.Need-returns-3
 unfolding factsRefused

@@ -9,12 +9,15 @@ use Rattle.tariff.proofs.count.Tie as tie
 grow-requires : tie.Need-grow-requires
 grow-requires c κs =
     let start = c .before .before .before in
-    (rw (c .before .zone-place .ensures) (counter-small (start .args .c) (start .pre .0) (start .args .zone .0)), start .pre .1)
+    let ends = start .pre .0 in
+    let small = counter-small (start .args .end) (start .args .c) (ends .0) (start .pre .1 .0) (start .args .zone .0) in
+    ((rw (c .before .zone-place .ensures) small, ends .1), start .pre .1 .1)
 
 grow-requires-2 : tie.Need-grow-requires-2
 grow-requires-2 c κs =
     let start = c .before .before .before .before .before in
-    (total-small (start .args .c) (start .pre .0), start .pre .1)
+    let ends = start .pre .0 in
+    ((total-small (start .args .end) (start .args .c) (ends .0) (start .pre .1 .0), ends .1), start .pre .1 .1)
 
 returns : tie.Need-returns
 unfolding counted

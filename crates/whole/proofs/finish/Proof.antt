@@ -9,7 +9,7 @@ use Rattle.whole.proofs.finish.Tie as tie
 act-requires : tie.Need-act-requires
 act-requires c κs =
     let entry = c .before .before .before .before .before in
-    (rw (c .before .with-receiver .ensures, c .before .before .fill .ensures) (entry .pre .1 .0), told-fits _ _ (entry .pre .1 .1) (omega arith))
+    (rw (c .before .with-receiver .ensures, c .before .before .fill .ensures) (entry .pre .1 .0), told-fits _ _ _ (entry .pre .1 .1) (omega arith))
 
 returns : tie.Need-returns
 returns c =

@@ -1,7 +1,7 @@
 //! The speed of what the head builds, and of the values that it reads back: the proved library
 //! beside Rust by hand, in one run, on the same fields.
 
-use ::model::head::{self as model, Clock, Command, COMMAND_ROOM};
+use ::model::head::{self as model, Clock, Command, Kind, COMMAND_ROOM};
 use benchmark::fast_builders as fast;
 use benchmark::fast_values as values;
 use benchmark::turns::{compared, medians, show};
@@ -32,6 +32,9 @@ const VALUES: [&[u8]; 7] = [
     b"23:05:09",
     b"24-03-01 00:00",
 ];
+
+/// A value of an EQM meter of three decimals.
+const EQM: &[u8] = b"12345.678*kWh";
 
 fn write_clock(c: &Clock, out: &mut [u8]) -> (u8, usize) {
     let rest = [c.month, c.day, c.hour, c.minute, c.second];
@@ -139,12 +142,21 @@ fn builders_equal() -> bool {
     let rooms = || 0..=COMMAND_ROOM + 1;
     let plain = built(Command::SignOn, fast::sign_on, library::sign_on)
         && built(Command::Close, fast::close, library::close)
-        && built(Command::ReadTotal, fast::read_total, library::read_total);
+        && built(Command::ReadTotal, fast::read_total, library::read_total)
+        && built(
+            Command::ReadTotalOut,
+            fast::read_total_out,
+            library::read_total_out,
+        );
     let zones = bytes().all(|zone| {
         built(
             Command::ReadZone(zone),
             |out| fast::read_zone(zone, out),
             |out| library::read_zone(zone, out),
+        ) && built(
+            Command::ReadZoneOut(zone),
+            |out| fast::read_zone_out(zone, out),
+            |out| library::read_zone_out(zone, out),
         )
     });
     let dates = (1999..=2101).all(|year| {
@@ -236,6 +248,15 @@ fn read_equal(value: &[u8]) -> bool {
         )
 }
 
+/// The same of an EQM meter's value, whatever its decimals are said to be.
+fn eqm_equal(value: &[u8]) -> bool {
+    (0..=255).all(|decimals| {
+        let (number, read) = model::value(Kind::Eqm(decimals), value);
+        let hand = values::eqm(decimals, value);
+        hand == (number, read[0]) && library::value_eqm(decimals, value) == hand
+    })
+}
+
 /// Every value with every byte at every place; every pair of digits at every place; every date.
 fn values_equal() -> bool {
     let pairs = |value: &[u8]| {
@@ -259,11 +280,23 @@ fn values_equal() -> bool {
         let kwh = format!("{:06}.{:03}*kWh", wh / 1000, wh % 1000);
         read_equal(kwh.as_bytes())
     });
+    let eqm = ["123456.78*kWh", "12345.678*kWh", "1234.5678*kWh"]
+        .iter()
+        .all(|value| all_like(value.as_bytes(), eqm_equal));
+    let units = (0..100_000_000).step_by(99_991).all(|units| {
+        (2..=4).all(|decimals| {
+            let digits = format!("{units:08}");
+            let (whole, part) = digits.split_at(8 - decimals);
+            eqm_equal(format!("{whole}.{part}*kWh").as_bytes())
+        })
+    });
     VALUES
         .iter()
         .all(|value| all_like(value, read_equal) && pairs(value))
         && dates
         && counters
+        && eqm
+        && units
 }
 
 /// The median times of a command built.
@@ -307,7 +340,7 @@ fn main() -> ExitCode {
     let (serial, password) = (black_box(SERIAL), black_box(PASSWORD));
     let (account, row, clock) = (black_box(ACCOUNT), black_box(ROW), black_box(CLOCK));
     let (speed, choice, edition) = (black_box(b'5'), black_box(b'1'), black_box(2));
-    let (zone, table) = (black_box(3), black_box(17));
+    let (zone, table, decimals) = (black_box(3), black_box(17), black_box(3));
     let [a_serial, an_account, a_row, a_counter, a_date, a_time, a_period] = VALUES;
     show([
         ("sign-on", builds(fast::sign_on, library::sign_on)),
@@ -352,6 +385,17 @@ fn main() -> ExitCode {
             ),
         ),
         (
+            "read the exported total",
+            builds(fast::read_total_out, library::read_total_out),
+        ),
+        (
+            "read an exported zone",
+            builds(
+                |out| fast::read_zone_out(zone, out),
+                |out| library::read_zone_out(zone, out),
+            ),
+        ),
+        (
             "read a table",
             builds(
                 |out| fast::read_table(edition, table, out),
@@ -391,6 +435,14 @@ fn main() -> ExitCode {
         (
             "a counter's",
             reads(a_counter, values::counter, library::value_counter),
+        ),
+        (
+            "a counter's of an EQM meter",
+            reads(
+                EQM,
+                |value| values::eqm(decimals, value),
+                |value| library::value_eqm(decimals, value),
+            ),
         ),
         ("a date's", reads(a_date, values::date, library::value_date)),
         ("a time's", reads(a_time, values::time, library::value_time)),

@@ -96,7 +96,14 @@ fn main() -> ExitCode {
     let (longest, saturday, short) = (card(&all[..24]), card(&all), card(&[3, 25]));
     assert_eq!((longest.len(), saturday.len()), (685, library::LONGEST));
     let meter = Meter::blank();
-    let equal = all_equal([&longest, &saturday], &short, &meter);
+    let mut two = Meter {
+        edition: 2,
+        ..meter.clone()
+    };
+    two.tables[24] = [b'1'; 24];
+    let equal = [&meter, &two]
+        .iter()
+        .all(|meter| all_equal([&longest, &saturday], &short, meter));
     if let Some(status) = compared("card", equal) {
         return status;
     }
@@ -133,16 +140,19 @@ fn main() -> ExitCode {
             },
         )
     };
-    let record = record_of(&meter);
-    let write = medians(
-        &mut [0; 1024],
-        |out| {
-            black_box(fast_write(black_box(&meter), black_box(out)));
-        },
-        |out| {
-            black_box(library::write(black_box(&record), black_box(out)));
-        },
-    );
+    let write = |meter: &Meter| {
+        let record = record_of(meter);
+        assert_eq!(fast_write(meter, &mut [0; 1024]).0, 1);
+        medians(
+            &mut [0; 1024],
+            |out| {
+                black_box(fast_write(black_box(meter), black_box(out)));
+            },
+            |out| {
+                black_box(library::write(black_box(&record), black_box(out)));
+            },
+        )
+    };
     show([
         ("check, longest card of edition 1", check(1, &longest)),
         ("check, longest card of edition 2", check(2, &saturday)),
@@ -152,6 +162,7 @@ fn main() -> ExitCode {
         ),
         ("read, longest card of edition 1", read(1, &longest)),
         ("read, longest card of edition 2", read(2, &saturday)),
-        ("write, the record checked", write),
+        ("write, edition 1, the record checked", write(&meter)),
+        ("write, edition 2, the record checked", write(&two)),
     ])
 }

@@ -25,7 +25,9 @@ fn registers() -> Registers {
             minute: 59,
             second: 58,
         },
+        decimals: 0,
         counters: [1_500, 999_999_999, 0, 123_456_789],
+        exported: [0; 4],
         tables: (0..24)
             .map(|table| std::array::from_fn(|hour| b'1' + ((7 * table + 3 * hour) % 4) as u8))
             .collect(),

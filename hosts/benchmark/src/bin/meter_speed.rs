@@ -4,12 +4,11 @@
 use benchmark::fast_meter;
 use benchmark::turns::only_compares;
 use dirgemist::meter::{self as library, Event};
-use model::meter::{
-    bcc, total_of, with_parity, Answer, Clock, Meter, Period, BLOCK, PERIODS, PERIOD_LINES, ROOM,
-};
+use model::meter::{bcc, with_parity, Answer, Clock, Meter, Period, Way, PERIODS, ROOM};
 use std::hint::black_box;
 use std::time::Instant;
 use trials::record::record_of;
+use trials::words::totalled;
 
 /// Batches; the median counts. They are short, so that whatever else the machine does spoils few.
 const BATCHES: usize = 401;
@@ -25,6 +24,8 @@ trait Side {
     fn character(&mut self, byte: u8, buffer: &mut [u8]) -> Answer;
     /// A second goes by on the last of a month, just before midnight; the clock is put back.
     fn midnight(&mut self) -> u8;
+    /// Energy goes out.
+    fn out(&mut self, units: u32) -> u8;
     /// Waits for the LF of a confirmation whose first five characters are these.
     fn wait(&mut self, held: &[u8; 5]);
 }
@@ -45,6 +46,10 @@ impl Side for ByHand {
         let number = fast_meter::tick(&mut self.0).number;
         self.0.clock = before;
         number
+    }
+
+    fn out(&mut self, units: u32) -> u8 {
+        fast_meter::pulse(&mut self.0, Way::Out, units).number
     }
 
     fn wait(&mut self, held: &[u8; 5]) {
@@ -76,6 +81,10 @@ impl Side for library::Meter {
         number
     }
 
+    fn out(&mut self, units: u32) -> u8 {
+        self.meet(Event::PulseOut(units), &mut []).number
+    }
+
     fn wait(&mut self, held: &[u8; 5]) {
         self.mode = 1;
         self.receiver.count = 5;
@@ -83,16 +92,20 @@ impl Side for library::Meter {
     }
 }
 
-/// A meter with something in every register.
-fn meter(mode: u8) -> Meter {
+/// A meter of a family with something in every register.
+fn meter_of(mode: u8, decimals: u8) -> Meter {
     let mut meter = Meter::blank();
     meter.mode = mode;
     meter.speed = if mode < 2 { 0 } else { 5 };
     meter.serial = *b"1234567890";
     meter.account = *b"Kiln_7 old";
     meter.password = *b"20304050";
-    meter.counters = [999_999_999, 1_500, 23_456_789, 400];
-    meter.total = total_of(&meter.counters);
+    meter.decimals = decimals;
+    meter.counters = [meter.counter_end() - 1, 1_500, 23_456_789, 400];
+    if decimals != 0 {
+        meter.exported = [7, 99_999_999, 0, 65_536];
+    }
+    meter = totalled(meter);
     meter.clock = Clock {
         year: 2024,
         month: 2,
@@ -113,9 +126,14 @@ fn meter(mode: u8) -> Meter {
             hour: 0,
             minute: 0,
             counters: meter.counters.map(|wh| wh / (place as u32 + 1)),
+            exported: meter.exported.map(|units| units / (place as u32 + 1)),
         };
     }
     meter
+}
+
+fn meter(mode: u8) -> Meter {
+    meter_of(mode, 0)
 }
 
 /// A frame on the wire.
@@ -217,8 +235,10 @@ fn send(side: &mut impl Side, held: &[u8; 5], length: usize, buffer: &mut [u8]) 
 }
 
 /// Nanoseconds for the call that sends the data block, with or without the closed periods.
-fn block(held: &[u8; 5], length: usize) -> (f64, f64) {
-    let start = meter(1);
+fn block(held: &[u8; 5], decimals: u8) -> (f64, f64) {
+    let start = meter_of(1, decimals);
+    let periods = if held[3] == b'6' { PERIODS } else { 0 };
+    let length = start.block_length() + periods * start.period_length();
     let (mut rust, mut library) = (ByHand::of(&start), library::Meter::of(&start));
     let (mut one, mut other) = ([0xAA; ROOM], [0xAA; ROOM]);
     let times = medians(
@@ -245,6 +265,27 @@ fn closing() -> (f64, f64) {
         || {
             for _ in 0..TURNS {
                 assert_eq!(black_box(black_box(&mut library).midnight()), 1);
+            }
+        },
+    );
+    assert_eq!(library, record_of(&rust.0));
+    times
+}
+
+/// Nanoseconds for a pulse out of an EQM meter.
+fn pulse_out() -> (f64, f64) {
+    let start = meter_of(4, 3);
+    let (mut rust, mut library) = (ByHand::of(&start), library::Meter::of(&start));
+    let times = medians(
+        TURNS as usize,
+        || {
+            for _ in 0..TURNS {
+                assert_eq!(black_box(black_box(&mut rust).out(black_box(1_000))), 1);
+            }
+        },
+        || {
+            for _ in 0..TURNS {
+                assert_eq!(black_box(black_box(&mut library).out(black_box(1_000))), 1);
             }
         },
     );
@@ -294,14 +335,11 @@ fn main() {
         ("a character of table writes", stream(&writes)),
         ("a character of mixed frames", stream(&mixed)),
         ("a table write that comes whole", whole(&writes)),
-        (
-            "the call that sends the data block",
-            block(b"\x06050\r", BLOCK),
-        ),
-        (
-            "the same with twelve periods",
-            block(b"\x06056\r", BLOCK + PERIODS * PERIOD_LINES),
-        ),
+        ("the call that sends the data block", block(b"\x06050\r", 0)),
+        ("the same with twelve periods", block(b"\x06056\r", 0)),
+        ("the data block of an EQM meter", block(b"\x06050\r", 3)),
+        ("the same with twelve periods", block(b"\x06056\r", 3)),
+        ("a pulse out of an EQM meter", pulse_out()),
         ("the tick that closes a month", closing()),
         ("the total for a display", display()),
     ];

@@ -42,11 +42,15 @@ fn right(session: &Session, work: &[u8]) -> Vec<u8> {
         2 => b"\x01P0\x02(0000)\x03\x60".to_vec(),
         n if n > 3 && n < session.count + 4 && session.work == 0 => {
             let n = work[read + 1];
+            let (whole, part) = "01234567".split_at(8 - usize::from(session.decimals));
+            let energy = format!("{whole}.{part}*kWh");
             let data = match work[read] {
                 b'T' => [line("0.9.1", "23:59:58"), line("0.9.2", "28-02-29")].concat(),
                 b'L' => line("C.1.0", "123 4567890"),
                 b'K' => line("0.0.0", "Kiln_7 old"),
-                b'E' => line(&format!("15.8.{n}"), "000123.456*kWh"),
+                b'E' if session.decimals == 0 => line(&format!("15.8.{n}"), "000123.456*kWh"),
+                b'E' => line(&format!("1.8.{n}"), &energy),
+                b'G' => line(&format!("2.8.{n}"), &energy),
                 _ => line(&format!("131.0.{n:02}"), "123412341234123412341234"),
             };
             block(&data)
@@ -70,16 +74,17 @@ fn same_start(told: &Told, room: usize) -> bool {
 }
 
 /// A session of the right replies, and at each message every reply that is hurt, other work, a
-/// small buffer, and each byte of the record hurt; its start with every edition, and with the work
-/// cut and hurt. Nothing where the sides differ somewhere.
+/// small buffer, and each byte of the record hurt; its start with every edition and family, and with
+/// the work cut and hurt. Nothing where the sides differ somewhere.
 fn same(told: &Told) -> Option<()> {
     let mut out = [0; MESSAGE_ROOM];
     let (started, mut session) = told.start(&mut out);
     let see = |right: bool| right.then_some(());
     see(started.number == DONE)?;
-    for edition in 0..=255 {
-        let told = told.of(edition);
-        see(same_start(&told, MESSAGE_ROOM) && same_start(&told, 63))?;
+    for number in 0..=255 {
+        for told in [told.of(number), told.eqm(number)] {
+            see(same_start(&told, MESSAGE_ROOM) && same_start(&told, 63))?;
+        }
     }
     for cut in 0..told.work.len() {
         let work = &told.work[..cut];
@@ -138,6 +143,10 @@ fn same(told: &Told) -> Option<()> {
                 },
                 Session {
                     edition: value,
+                    ..session
+                },
+                Session {
+                    decimals: value,
                     ..session
                 },
                 Session {
@@ -208,9 +217,19 @@ fn main() -> ExitCode {
     let posting_two = Told::post(&saturday).to(SERIAL).with(PASSWORD).of(2);
     let any = Told::reads(b"E\0K\0");
     let last = Told::reads(b"Z\x19").of(2);
-    let equal = [&reading, &posting, &posting_two, &any, &last]
-        .iter()
-        .all(|told| same(told).is_some());
+    let eqm = Told::reads(b"E\0G\0G\x04K\0").eqm(3);
+    let eqm_two = Told::reads(b"G\x01Z\x19").eqm(4).of(2);
+    let equal = [
+        &reading,
+        &posting,
+        &posting_two,
+        &any,
+        &last,
+        &eqm,
+        &eqm_two,
+    ]
+    .iter()
+    .all(|told| same(told).is_some());
     if let Some(status) = compared("session", equal) {
         return status;
     }
@@ -220,6 +239,7 @@ fn main() -> ExitCode {
         ("start, longest post of edition 2", starts(&posting_two)),
         ("identification heard, confirmation", replies(&reading, 1)),
         ("a row heard, the next read", replies(&reading, 10)),
+        ("an EQM counter heard, the next read", replies(&eqm, 5)),
         ("ACK heard, the next row written", replies(&posting, 10)),
     ])
 }

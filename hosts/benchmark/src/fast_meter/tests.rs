@@ -1,13 +1,13 @@
 //! The fast meter and the model side by side: answers, buffers and states must be equal.
 
 use super::*;
-use model::meter::total_of;
 use trials::chance::Chance;
+use trials::words;
 
 struct Pair {
     fast: Meter,
     slow: Meter,
-    numbers: [usize; 16],
+    numbers: [usize; 17],
 }
 
 impl Pair {
@@ -47,8 +47,10 @@ impl Pair {
                 self.same(fast, slow, "power-up");
             }
             1 => {
-                let wh = [0, 1, 999_999, 1_000_000, 1_000_001, u32::MAX][chance.below(6)];
-                let (fast, slow) = (pulse(&mut self.fast, wh), self.slow.pulse(wh));
+                let units = [0, 1, 999_999, 1_000_000, 1_000_001, u32::MAX][chance.below(6)];
+                let way = chance.one_of(&[Way::In, Way::Out]);
+                let fast = pulse(&mut self.fast, way, units);
+                let slow = self.slow.pulse(way, units);
                 self.same(fast, slow, "pulse");
             }
             _ => {
@@ -85,53 +87,22 @@ fn framed(command: &[u8], data: Option<&[u8]>) -> Vec<u8> {
     frame
 }
 
+/// Of any edition, link and family.
 fn state(chance: &mut Chance, mode: u8) -> Meter {
-    let mut meter = Meter::blank();
-    meter.mode = mode;
-    meter.serial = meter.serial.map(|_| chance.one_of(b"0123456789"));
-    meter.account = meter.account.map(|_| chance.one_of(b"09AZaz _"));
-    meter.password = meter.password.map(|_| chance.one_of(b"0123456789"));
-    meter.attempts = chance.below(4) as u8;
-    if mode >= 2 {
-        meter.speed = chance.one_of(&[0, 5]);
-    }
-    meter.counters = meter.counters.map(|_| match chance.below(2) {
-        0 => chance.below(1_000_000_000) as u32,
-        _ => 999_999_999 - chance.below(5) as u32,
-    });
-    meter.total = total_of(&meter.counters);
-    for row in &mut meter.tables[..24] {
-        *row = row.map(|_| chance.one_of(b"1234"));
-    }
-    let year = 2000 + chance.below(100) as u16;
-    let month = 1 + chance.below(12) as u8;
-    meter.clock = Clock {
-        year,
-        month,
-        day: model::meter::days_in_month(year, month) - chance.below(2) as u8,
-        hour: 23,
-        minute: 59,
-        second: 58 + chance.below(2) as u8,
-    };
-    let any = chance.below(PERIODS + 1);
-    meter.closed = chance.one_of(&[0, 1, PERIODS, any]) as u8;
-    for place in 0..usize::from(meter.closed) {
-        meter.periods[place] = Period {
-            year: 2000 + chance.below(100) as u16,
-            month: 1 + chance.below(12) as u8,
-            day: 1 + chance.below(28) as u8,
-            hour: chance.below(24) as u8,
-            minute: chance.below(60) as u8,
-            counters: [(); 4].map(|()| chance.below(1_000_000_000) as u32),
-        };
-    }
-    meter
+    let meter = words::state(chance, mode);
+    words::on_some_link(chance, meter)
 }
 
 /// What leads on in this mode, or nearly.
 fn message(chance: &mut Chance, meter: &Meter) -> Vec<u8> {
     let serial = &meter.serial;
     match meter.mode {
+        0 if meter.link == WIRED => match chance.below(4) {
+            0 => words::wired_line(b'A', b"0000000000"),
+            1 => words::wired_line(b'A', b"1234567890"),
+            2 => b"/?!\r\n".to_vec(),
+            _ => words::wired_line(b'A', serial),
+        },
         0 => match chance.below(5) {
             0 => b"/?!\r\n".to_vec(),
             1 => b"/?000 0000000!\r\n".to_vec(),
@@ -139,7 +110,10 @@ fn message(chance: &mut Chance, meter: &Meter) -> Vec<u8> {
             2 => [b"/", &[b'x'; 40][..26 + chance.below(8)], b"\n"].concat(),
             _ => [b"/?", &serial[..3], b" ", &serial[3..], b"!\r\n"].concat(),
         },
-        1 => vec![ACK, b'0', b'5', chance.one_of(b"0111726"), CR, LF],
+        1 => {
+            let speed = chance.one_of(b"05555");
+            vec![ACK, b'0', speed, chance.one_of(b"0111726"), CR, LF]
+        }
         2 => match chance.below(5) {
             0 => framed(b"P1", Some(b"()")),
             1 => framed(b"P1", Some(b"(1234567a)")),
@@ -152,7 +126,8 @@ fn message(chance: &mut Chance, meter: &Meter) -> Vec<u8> {
 
 fn command(chance: &mut Chance) -> Vec<u8> {
     let table = chance.below(27);
-    match chance.below(12) {
+    match chance.below(13) {
+        12 => framed(b"R1", Some(&[b'G', chance.one_of(b"012345"), b'(', b')'])),
         0 => framed(b"R1", Some(b"T()")),
         1 => framed(b"R1", Some(b"L()")),
         2 => framed(b"R1", Some(b"K()")),
@@ -198,7 +173,20 @@ fn command(chance: &mut Chance) -> Vec<u8> {
 /// One field of a state is given any value.
 fn spoil(chance: &mut Chance, meter: &mut Meter) {
     let byte = chance.byte();
-    match chance.below(20) {
+    match chance.below(27) {
+        20 => meter.edition = byte % 4,
+        21 => meter.link = byte % 4,
+        22 => meter.decimals = byte % 6,
+        23 => meter.exported[chance.below(4)] = chance.one_of(&words::ENDS),
+        24 => {
+            meter.exported[chance.below(4)] = chance.one_of(&words::ENDS);
+            *meter = words::totalled(meter.clone());
+        }
+        25 => meter.exported_total = meter.exported_total.wrapping_add(u32::from(byte % 3)),
+        26 => {
+            meter.counters[chance.below(4)] = chance.one_of(&words::ENDS);
+            *meter = words::totalled(meter.clone());
+        }
         0 => meter.mode = byte % 8,
         1 => meter.count = byte % 80,
         2 => meter.held[chance.below(PLACES)] = byte,
@@ -221,7 +209,8 @@ fn spoil(chance: &mut Chance, meter: &mut Meter) {
         16 => meter.closed = byte % 15,
         17 | 18 => {
             let period = &mut meter.periods[chance.below(PERIODS)];
-            match byte % 6 {
+            match byte % 7 {
+                6 => period.exported[chance.below(4)] = chance.one_of(&words::ENDS),
                 0 => period.year = 1998 + u16::from(byte % 104),
                 1 => period.month = byte % 20,
                 2 => period.day = byte % 34,
@@ -240,7 +229,7 @@ fn equal_on_random_events() {
     let mut pair = Pair {
         fast: Meter::blank(),
         slow: Meter::blank(),
-        numbers: [0; 16],
+        numbers: [0; 17],
     };
     for step in 0..10_000 {
         if step % 16 == 0 {
@@ -276,7 +265,7 @@ fn equal_on_random_events() {
             }
         }
     }
-    for number in 0..15 {
+    for number in (0..15).chain([16]) {
         assert!(pair.numbers[number] > 0, "number {number} never came");
     }
 }
@@ -330,10 +319,11 @@ fn data_block_of_any_state() {
     for _ in 0..200 {
         let meter = state(&mut chance, 0);
         let mut buffer = [0xAA; ROOM];
-        assert_eq!(data_block(&meter, &mut buffer), BLOCK);
+        let length = data_block(&meter, &mut buffer);
+        assert_eq!(length, meter.block_length());
         let block: Vec<u8> = meter.data_block().iter().map(|&c| parity(c)).collect();
-        assert_eq!(buffer[..BLOCK], block);
-        assert!(buffer[BLOCK..].iter().all(|&byte| byte == 0xAA));
+        assert_eq!(buffer[..length], block);
+        assert!(buffer[length..].iter().all(|&byte| byte == 0xAA));
         let length = block_with_periods(&meter, &mut buffer);
         let block = meter.block_with_periods();
         let block: Vec<u8> = block.iter().map(|&c| parity(c)).collect();

@@ -135,7 +135,7 @@ fn fifteen_hundred_wh_in_zone_one() {
 fn first_day_of_2000_is_a_saturday() {
     let mut meter = Meter::blank();
     meter.tables[12][0] = b'3';
-    assert_eq!(meter.pulse(7).number, 1);
+    assert_eq!(meter.pulse(Way::In, 7).number, 1);
     assert_eq!(meter.counters, [0, 0, 7, 0]);
 }
 
@@ -144,7 +144,7 @@ fn counter_rolls_over() {
     let mut meter = Meter::blank();
     meter.counters[0] = 999_999_999;
     meter.total = 999_999_999;
-    assert_eq!(meter.pulse(1).number, 1);
+    assert_eq!(meter.pulse(Way::In, 1).number, 1);
     assert_eq!(meter, Meter::blank());
 }
 
@@ -155,7 +155,7 @@ fn another_total_is_malformed() {
         meter.counters = [999_999_999, 2, 30, 400];
         meter.total = total;
         let before = meter.clone();
-        assert_eq!((meter.pulse(1).number, meter), (14, before));
+        assert_eq!((meter.pulse(Way::In, 1).number, meter), (14, before));
     }
 }
 
@@ -415,8 +415,8 @@ fn refusals_come_in_their_order() {
     assert_eq!(broken.silence(&mut small).number, 12);
     assert_eq!(broken.character(0x81, &mut large).number, 14);
     assert_eq!(broken.silence(&mut large).number, 14);
-    assert_eq!(broken.pulse(1_000_001).number, 13);
-    assert_eq!(broken.pulse(1_000_000).number, 14);
+    assert_eq!(broken.pulse(Way::In, 1_000_001).number, 13);
+    assert_eq!(broken.pulse(Way::In, 1_000_000).number, 14);
     assert_eq!(broken.tick().number, 14);
     assert_eq!(broken.power_up().number, 14);
     assert_eq!(broken, kept);
@@ -521,6 +521,7 @@ fn period_of(meter: &Meter) -> Period {
         hour: clock.hour,
         minute: clock.minute,
         counters: meter.counters,
+        exported: meter.exported,
     }
 }
 
@@ -825,7 +826,7 @@ fn saturdays_have_table_25_and_sundays_stay() {
             if edition == 1 {
                 meter.tables[24] = [0; 24];
             }
-            assert_eq!(meter.pulse(7).number, 1);
+            assert_eq!(meter.pulse(Way::In, 7).number, 1);
             assert_eq!(meter.counters, [0, 0, 7, 0], "{edition} on {day}");
         }
     }
@@ -846,7 +847,7 @@ fn another_edition_comes_before_all_else() {
         assert_eq!(meter.silence(&mut []), none);
         assert_eq!(meter.tick(), none);
         assert_eq!(meter.power_up(), none);
-        assert_eq!(meter.pulse(u32::MAX), none);
+        assert_eq!(meter.pulse(Way::In, u32::MAX), none);
         assert_eq!(meter, kept);
         let facts = (*b"123456789a", *b"Kiln_7 old", *b"20304050");
         let made = Meter::new(facts.0, facts.1, facts.2, Clock::FIRST, [edition, 9, 9]);
@@ -860,7 +861,13 @@ fn the_factory_looks_at_edition_then_decimals_then_facts() {
         let clock = Clock::FIRST;
         Meter::new(*b"1234567890", *b"Kiln_7 old", *b"20304050", clock, kind)
     };
-    assert_eq!(made([2, 9, 1]), (18, Meter::blank()));
+    for decimals in 0..=255 {
+        let good = [0, 2, 3, 4].contains(&decimals);
+        let number = if good { 15 } else { 18 };
+        assert_eq!(made([2, 9, decimals]), (number, Meter::blank()));
+        assert_eq!(made([0, 9, decimals]), (16, Meter::blank()));
+        assert_eq!(made([2, WIRED, decimals]).0, if good { 1 } else { 18 });
+    }
     assert_eq!(made([2, 9, 0]), (15, Meter::blank()));
     let (number, meter) = made([2, WIRED, 0]);
     assert_eq!((number, meter.tables), (1, [[b'1'; 24]; 25]));
@@ -880,5 +887,470 @@ fn the_row_behind_the_tables_holds_zeros() {
     for zone in [0, b'0', b'5', 255] {
         second.tables[24][23] = zone;
         assert!(!second.well_formed());
+    }
+}
+
+/// An EQM meter of an edition and a link, its counters of either direction different.
+fn eqm_in(mode: u8, decimals: u8) -> Meter {
+    Meter {
+        decimals,
+        counters: [1_500, 0, 99_999_999, 20],
+        total: 1_519,
+        exported: [7, 12_345_678, 0, 99_999_999],
+        exported_total: 12_345_684,
+        ..meter_in(mode)
+    }
+}
+
+#[test]
+fn eqm_counters_have_eight_digits_and_their_decimals() {
+    for (decimals, energy) in [
+        (
+            2,
+            [
+                "000015.00",
+                "000000.00",
+                "999999.99",
+                "000000.20",
+                "000015.19",
+                "000000.07",
+                "123456.78",
+                "000000.00",
+                "999999.99",
+                "123456.84",
+            ],
+        ),
+        (
+            3,
+            [
+                "00001.500",
+                "00000.000",
+                "99999.999",
+                "00000.020",
+                "00001.519",
+                "00000.007",
+                "12345.678",
+                "00000.000",
+                "99999.999",
+                "12345.684",
+            ],
+        ),
+        (
+            4,
+            [
+                "0000.1500",
+                "0000.0000",
+                "9999.9999",
+                "0000.0020",
+                "0000.1519",
+                "0000.0007",
+                "1234.5678",
+                "0000.0000",
+                "9999.9999",
+                "1234.5684",
+            ],
+        ),
+    ] {
+        assert!(eqm_in(LISTENING, decimals).well_formed());
+        let mut lines = String::new();
+        for (place, digits) in energy.iter().enumerate() {
+            let (name, letter) = [("1", 'E'), ("2", 'G')][place / 5];
+            let zone = [1, 2, 3, 4, 0][place % 5];
+            let line = format!("{name}.8.{zone}({digits}*kWh)\r\n");
+            lines += &line;
+            let mut meter = eqm_in(READ_ONLY, decimals);
+            let got = send(&mut meter, &true_frame("R1", &format!("{letter}{zone}()")));
+            assert_eq!(got, (1, 5, block(&line)));
+            assert_eq!(meter, eqm_in(READ_ONLY, decimals));
+        }
+        // All ten lines stand in the block between the account and the first table.
+        let mut meter = eqm_in(CONFIRMATION, decimals);
+        let (_, _, shown) = send(&mut meter, b"\x06050\r\n");
+        let around = format!("0.0.0(Kiln_7 old)\r\n{lines}131.0.01(");
+        let shown = String::from_utf8(shown).unwrap();
+        assert!(shown.contains(&around) && !shown.contains("15.8."));
+        assert_eq!((shown.len(), meter.block_length()), (1_163, 1_163));
+    }
+}
+
+#[test]
+fn all_other_lines_of_an_eqm_meter_are_document_01s() {
+    for decimals in 2..=4 {
+        let mut meter = eqm_in(LISTENING, decimals);
+        let got = send(&mut meter, b"/?!\r\n");
+        assert_eq!(got, (1, 0, b"/ZZZ5SUB-VP01.00*\r\n".to_vec()));
+        for ask in ["T()", "L()", "K()", "Z(07)"] {
+            let ask = true_frame("R1", ask);
+            let (mut one, mut other) = (eqm_in(READ_ONLY, decimals), meter_in(READ_ONLY));
+            assert_eq!(send(&mut one, &ask), send(&mut other, &ask));
+        }
+        for bad in ["E5()", "G5()", "G()", "G1( )", "g1()", "G01()", "G-1()"] {
+            let mut meter = eqm_in(READ_ONLY, decimals);
+            assert_eq!(
+                send(&mut meter, &true_frame("R1", bad)),
+                refused(9),
+                "{bad}"
+            );
+        }
+    }
+    for n in 0..=4 {
+        let mut meter = meter_in(READ_ONLY);
+        let got = send(&mut meter, &true_frame("R1", &format!("G{n}()")));
+        assert_eq!(got, refused(9));
+    }
+}
+
+#[test]
+fn a_pulse_says_its_direction() {
+    for decimals in 2..=4 {
+        // 2024-02-29 is a Thursday, and its hours are all of the first zone.
+        let start = Meter {
+            counters: [99_999_999, 99_999_999, 0, 0],
+            total: 99_999_998,
+            exported: [99_000_000, 0, 0, 1],
+            exported_total: 99_000_001,
+            ..eqm_in(LISTENING, decimals)
+        };
+        assert!(start.well_formed());
+        let mut meter = start.clone();
+        assert_eq!(meter.pulse(Way::In, 1).number, 1);
+        let after = Meter {
+            counters: [0, 99_999_999, 0, 0],
+            total: 99_999_999,
+            ..start.clone()
+        };
+        assert_eq!(meter, after);
+        assert_eq!(meter.pulse(Way::Out, 1_000_000).number, 1);
+        let after = Meter {
+            exported: [0, 0, 0, 1],
+            exported_total: 1,
+            ..after
+        };
+        assert_eq!(meter, after);
+        for way in [Way::In, Way::Out] {
+            assert_eq!(meter.pulse(way, 1_000_001), Answer::turned_away(13));
+            assert_eq!(meter.pulse(way, u32::MAX), Answer::turned_away(13));
+        }
+        assert_eq!(meter, after);
+    }
+}
+
+#[test]
+fn what_a_family_does_not_count_is_refused_first() {
+    let mut meter = meter_in(LISTENING);
+    assert_eq!(meter.pulse(Way::Out, 0), Answer::turned_away(13));
+    assert_eq!(meter, meter_in(LISTENING));
+    meter.attempts = 4;
+    assert_eq!(meter.pulse(Way::Out, 0), Answer::turned_away(13));
+    assert_eq!(meter.pulse(Way::In, 0), Answer::turned_away(14));
+    for decimals in (1..=255).filter(|decimals| !(2..=4).contains(decimals)) {
+        meter.decimals = decimals;
+        assert_eq!(meter.pulse(Way::Out, 0), Answer::turned_away(14));
+        assert_eq!(meter.pulse(Way::Out, 1_000_001), Answer::turned_away(13));
+    }
+    meter.edition = 3;
+    assert_eq!(meter.pulse(Way::Out, u32::MAX), Answer::turned_away(16));
+}
+
+#[test]
+fn families_out_of_range_are_malformed() {
+    for decimals in 0..=255 {
+        let meter = Meter {
+            decimals,
+            ..meter_in(LISTENING)
+        };
+        assert_eq!(meter.well_formed(), [0, 2, 3, 4].contains(&decimals));
+    }
+    let broken = |decimals: u8, change: fn(&mut Meter)| {
+        let mut meter = Meter {
+            decimals,
+            closed: 1,
+            ..meter_in(LISTENING)
+        };
+        meter.periods[0] = period_of(&meter);
+        assert!(meter.well_formed());
+        change(&mut meter);
+        !meter.well_formed()
+    };
+    for decimals in 0..=4 {
+        if decimals == 1 {
+            continue;
+        }
+        let (ours, eqm) = (decimals == 0, decimals != 0);
+        assert_eq!(
+            broken(decimals, |m| {
+                m.counters[3] = 100_000_000;
+                m.total = 100_000_000;
+            }),
+            eqm
+        );
+        assert!(broken(decimals, |m| {
+            m.counters[3] = 1_000_000_000;
+            m.total = 0;
+        }));
+        assert_eq!(
+            broken(decimals, |m| m.periods[0].counters[0] = 100_000_000),
+            eqm
+        );
+        // A sum of eight digits and more.
+        assert_eq!(
+            broken(decimals, |m| {
+                m.counters = [99_999_999, 1, 0, 0];
+                m.total = 100_000_000;
+            }),
+            eqm
+        );
+        assert_eq!(
+            broken(decimals, |m| {
+                m.counters = [99_999_999, 1, 0, 0];
+                m.total = 0;
+            }),
+            ours
+        );
+        assert_eq!(
+            broken(decimals, |m| {
+                m.exported[2] = 1;
+                m.exported_total = 1;
+            }),
+            ours
+        );
+        assert_eq!(broken(decimals, |m| m.periods[0].exported[3] = 1), ours);
+        assert!(broken(decimals, |m| m.exported_total = 1));
+        assert!(broken(decimals, |m| m.exported[2] = 1));
+        assert!(broken(decimals, |m| {
+            m.exported[2] = 100_000_000;
+            m.exported_total = 0;
+        }));
+        assert!(broken(decimals, |m| m.periods[0].exported[3] = 100_000_000));
+        assert!(broken(decimals, |m| m.periods[1].exported[3] = 1));
+    }
+}
+
+#[test]
+fn an_eqm_period_has_eight_counters() {
+    let mut meter = eqm_in(LISTENING, 3);
+    send(&mut meter, b"/C!\r\n");
+    assert_eq!(meter.periods[0], period_of(&eqm_in(LISTENING, 3)));
+    meter.enter(LISTENING);
+    meter.clock = Clock {
+        month: 12,
+        day: 31,
+        hour: 23,
+        minute: 59,
+        second: 59,
+        ..meter.clock
+    };
+    meter.pulse(Way::Out, 1);
+    meter.tick();
+    assert_eq!(meter.closed, 2);
+    assert_eq!(meter.periods[0].exported, [8, 12_345_678, 0, 99_999_999]);
+    meter.enter(CONFIRMATION);
+    let (_, _, shown) = send(&mut meter, b"\x06056\r\n");
+    let end = "0.1.2*01(25-01-01 00:00)\r\n1.8.1*01(00001.500*kWh)\r\n\
+        1.8.2*01(00000.000*kWh)\r\n1.8.3*01(99999.999*kWh)\r\n1.8.4*01(00000.020*kWh)\r\n\
+        2.8.1*01(00000.008*kWh)\r\n2.8.2*01(12345.678*kWh)\r\n2.8.3*01(00000.000*kWh)\r\n\
+        2.8.4*01(99999.999*kWh)\r\n0.1.2*02(24-02-29 08:05)\r\n1.8.1*02(00001.500*kWh)\r\n\
+        1.8.2*02(00000.000*kWh)\r\n1.8.3*02(99999.999*kWh)\r\n1.8.4*02(00000.020*kWh)\r\n\
+        2.8.1*02(00000.007*kWh)\r\n2.8.2*02(12345.678*kWh)\r\n2.8.3*02(00000.000*kWh)\r\n\
+        2.8.4*02(99999.999*kWh)\r\n!\r\n\x03";
+    assert!(shown[..shown.len() - 1].ends_with(end.as_bytes()));
+    assert_eq!(shown.len(), meter.block_length() + 2 * EQM_PERIOD_LINES);
+    // The longest block of all.
+    let mut full = Meter {
+        edition: 2,
+        closed: 12,
+        periods: [meter.periods[0]; 12],
+        mode: CONFIRMATION,
+        ..meter
+    };
+    full.tables[24] = [b'1'; 24];
+    let (number, _, shown) = send(&mut full, b"\x06056\r\n");
+    assert_eq!((number, shown.len()), (1, 1_163 + 36 + 12 * 226));
+}
+
+#[test]
+fn family_edition_and_link_go_together_freely() {
+    for edition in [1, 2] {
+        for link in [OPTICAL, WIRED] {
+            for decimals in [0, 2, 3, 4] {
+                let (number, mut meter) = Meter::new(
+                    *b"1234567890",
+                    *b"Kiln_7 old",
+                    *b"20304050",
+                    Clock::FIRST,
+                    [edition, link, decimals],
+                );
+                assert_eq!(number, 1);
+                assert!(meter.well_formed());
+                assert_eq!((meter.exported, meter.exported_total), ([0; 4], 0));
+                let sign_on: &[u8] = match link {
+                    WIRED => b"/A000.0000000\r\n",
+                    _ => b"/?!\r\n",
+                };
+                assert_eq!(send(&mut meter, sign_on).0, 1);
+                let (_, _, shown) = send(&mut meter, b"\x06050\r\n");
+                assert_eq!(shown.len(), meter.block_length());
+                let longer = if decimals == 0 { 0 } else { 100 };
+                assert_eq!(shown.len(), 1_063 + longer + 36 * usize::from(edition - 1));
+            }
+        }
+    }
+}
+
+/// What can happen to a meter on the wire in the next test.
+enum Happens {
+    Byte(u8),
+    Silence,
+    Tick,
+    PowerUp,
+    Pulse,
+}
+
+/// An event on the wire, derived from the optical link and document 02 [14] alone: number, place, the
+/// characters sent, and the next state. Every speed is 5.
+fn on_the_wire(meter: &Meter, event: &Happens) -> (u8, u8, Vec<u8>, Meter) {
+    let mut twin = Meter {
+        link: OPTICAL,
+        speed: if meter.mode < PASSWORD { 0 } else { 5 },
+        ..meter.clone()
+    };
+    let mut buffer = [0xAA; ROOM];
+    let answer = match event {
+        Happens::Byte(byte) => twin.character(*byte, &mut buffer),
+        Happens::Silence => twin.silence(&mut buffer),
+        Happens::Tick => twin.tick(),
+        Happens::PowerUp => twin.power_up(),
+        Happens::Pulse => twin.pulse(Way::In, 5),
+    };
+    let mut sent: Vec<u8> = buffer[..answer.length].iter().map(|b| b & 0x7F).collect();
+    let mut number = answer.number;
+    let mut next = Meter {
+        link: WIRED,
+        speed: 5,
+        ..twin
+    };
+    let back = |mode: u8| Meter {
+        mode,
+        count: 0,
+        mark: 0,
+        place: 0,
+        held: [0; PLACES],
+        ..meter.clone()
+    };
+    match event {
+        Happens::Byte(0x0A) if meter.mode == LISTENING && meter.count > 0 => {
+            // A line ends: only `/Annn.nnnnnnn` calls, with our serial or with zeros.
+            let called = |serial: &[u8]| {
+                let line = [b"/A", &serial[..3], b".", &serial[3..], b"\r"].concat();
+                meter.mark == 0 && meter.held() == line
+            };
+            let calls = called(&meter.serial) || called(b"0000000000");
+            number = calls.into();
+            next = back(if calls { CONFIRMATION } else { LISTENING });
+            let answered = [b"/g", &meter.serial[..3], b".", &meter.serial[3..], b"\r\n"];
+            sent = if calls { answered.concat() } else { Vec::new() };
+        }
+        Happens::Byte(_)
+            if meter.mode == CONFIRMATION && meter.count == 5 && meter.held[2] != b'5' =>
+        {
+            // The confirmation's digit must be 5.
+            (number, sent, next) = (2, Vec::new(), back(LISTENING));
+        }
+        Happens::Silence if meter.mode == CONFIRMATION => sent.clear(),
+        _ if (3..=11).contains(&number) => {
+            // No reply, and the session is dropped; attempts count as before.
+            sent.clear();
+            next = Meter {
+                attempts: next.attempts,
+                ..back(LISTENING)
+            };
+        }
+        _ => {}
+    }
+    (number, answer.place, sent, next)
+}
+
+#[test]
+fn the_wire_is_the_optical_link_but_for_what_the_page_says() {
+    let mut seed = 14_u64;
+    let mut chance = |most: usize| {
+        seed = seed
+            .wrapping_mul(6_364_136_223_846_793_005)
+            .wrapping_add(1_442_695_040_888_963_407);
+        (seed >> 33) as usize % most
+    };
+    let mut numbers = [0; 12];
+    let mut meter = wired_in(LISTENING);
+    for _ in 0..60_000 {
+        let lines: [&[u8]; 7] = [
+            b"/A123.4567890\r\n",
+            b"/A123.4567890\r\n",
+            b"/A000.0000000\r\n",
+            b"/A123.4567891\r\n",
+            b"/?!\r\n",
+            b"/C!\r\n",
+            b"/g123.4567890\r\n",
+        ];
+        let frames = [
+            true_frame("P1", "()"),
+            true_frame("P1", "(20304050)"),
+            true_frame("P1", "(20304051)"),
+            true_frame("P1", "(2030405)"),
+            true_frame("R1", "E0()"),
+            true_frame("R1", "G0()"),
+            true_frame("R1", "T()"),
+            true_frame("W1", &format!("Z(07;{ALL_ONES})")),
+            true_frame("W1", "K(Kiln-7 old)"),
+            true_frame("X1", "()"),
+            frame("R1", "T()", 0),
+            true_frame("W1", &"x".repeat(59)),
+            true_frame("R1", "T(\x1F)"),
+            b"\x01B0\x03\x71".to_vec(),
+        ];
+        let message = match meter.mode {
+            LISTENING => lines[chance(lines.len())].to_vec(),
+            CONFIRMATION => {
+                let (speed, choice) = (b"50"[chance(9) / 8], b"11106712"[chance(8)]);
+                vec![ACK, b'0', speed, choice, CR, LF]
+            }
+            PASSWORD => frames[[2, 2, 2, 2, 1, 0, 3, 7][chance(8)]].clone(),
+            _ => frames[chance(frames.len())].clone(),
+        };
+        let mut events: Vec<Happens> = message
+            .iter()
+            .map(|&character| Happens::Byte(with_parity(character)))
+            .collect();
+        if chance(6) == 0 {
+            let place = chance(events.len());
+            events[place] = Happens::Byte(chance(256) as u8);
+        }
+        match chance(40) {
+            0 => events.insert(chance(message.len()), Happens::Silence),
+            1 => events.insert(chance(message.len()), Happens::PowerUp),
+            2 => events.insert(chance(message.len()), Happens::Tick),
+            3 => events.push(Happens::Pulse),
+            _ => {}
+        }
+        for event in &events {
+            let wanted = on_the_wire(&meter, event);
+            let mut buffer = [0xAA; ROOM];
+            let answer = match event {
+                Happens::Byte(byte) => meter.character(*byte, &mut buffer),
+                Happens::Silence => meter.silence(&mut buffer),
+                Happens::Tick => meter.tick(),
+                Happens::PowerUp => meter.power_up(),
+                Happens::Pulse => meter.pulse(Way::In, 5),
+            };
+            let (sent, kept) = buffer.split_at(answer.length);
+            let sent: Vec<u8> = sent.iter().map(|b| b & 0x7F).collect();
+            let given = (answer.number, answer.place, sent, meter.clone());
+            assert_eq!(given, wanted);
+            assert!(answer.speed == 5 && kept.iter().all(|&byte| byte == 0xAA));
+            assert!(meter.well_formed());
+            numbers[usize::from(answer.number)] += 1;
+        }
+    }
+    for (number, times) in numbers.iter().enumerate() {
+        assert!(*times > 20, "{number} came {times} times");
     }
 }

@@ -6,9 +6,16 @@ const SERIAL: &[u8; 10] = b"1234567890";
 const PASSWORD: &[u8; 8] = b"20304050";
 const ALL: &[u8] = b"T\0L\0K\0E\0E\x01E\x02E\x03E\x04Z\x01Z\x18";
 
+/// Meters of edition 1 and of document 01's family.
+const OURS: Meters = Meters {
+    edition: 1,
+    decimals: 0,
+};
+
 fn reads(work: &[u8]) -> Told<'_> {
     Told {
         edition: 1,
+        decimals: 0,
         named: 0,
         serial: b"",
         access: 0,
@@ -21,6 +28,7 @@ fn reads(work: &[u8]) -> Told<'_> {
 fn post(text: &[u8]) -> Told<'_> {
     Told {
         edition: 1,
+        decimals: 0,
         named: 1,
         serial: SERIAL,
         access: 1,
@@ -43,6 +51,10 @@ fn meter() -> Meter {
 }
 
 fn meter_of(edition: u8) -> Meter {
+    meter_like(edition, 0)
+}
+
+fn meter_like(edition: u8, decimals: u8) -> Meter {
     let clock = Clock {
         year: 2024,
         month: 2,
@@ -51,7 +63,13 @@ fn meter_of(edition: u8) -> Meter {
         minute: 5,
         second: 9,
     };
-    let (number, meter) = Meter::new(*SERIAL, *b"Kiln_7 old", *PASSWORD, clock, [edition, 1, 0]);
+    let (number, meter) = Meter::new(
+        *SERIAL,
+        *b"Kiln_7 old",
+        *PASSWORD,
+        clock,
+        [edition, 1, decimals],
+    );
     assert_eq!(number, 1);
     meter
 }
@@ -159,6 +177,32 @@ fn each_edition_answers_its_own_head() {
 }
 
 #[test]
+fn an_eqm_meter_is_read_in_its_own_form() {
+    let all = b"E\0E\x01E\x04G\0G\x01G\x02G\x03G\x04T\0Z\x01";
+    for decimals in 2..=4 {
+        for edition in [1, 2] {
+            let told = Told {
+                edition,
+                decimals,
+                ..reads(all)
+            };
+            let (fact, message, messages) = visit(&mut meter_like(edition, decimals), &told);
+            assert_eq!((fact, message, messages.len()), (fact::OVER, 14, 14));
+            // A meter of another family, or of other decimals, is found out at the first energy.
+            for other in [0, 2, 3, 4] {
+                if other != decimals {
+                    let (fact, message, _) = visit(&mut meter_like(edition, other), &told);
+                    assert_eq!((fact, message), (fact::WRONG, 4));
+                }
+            }
+        }
+        // What is exported is nothing to a head that was told of document 01's family.
+        let (fact, message, _) = visit(&mut meter_like(1, decimals), &reads(ALL));
+        assert_eq!((fact, message), (fact::WRONG, 7));
+    }
+}
+
+#[test]
 fn what_stops_it() {
     let text = winter();
     let mut other = meter();
@@ -200,6 +244,25 @@ fn refusals_in_their_order() {
             ..reads(b"")
         };
         assert_eq!(number(&other, 63), (16, 0));
+    }
+    for decimals in (1..=255).filter(|decimals| !(2..=4).contains(decimals)) {
+        let other = Told {
+            decimals,
+            ..reads(b"")
+        };
+        assert_eq!(number(&other, 63), (18, 0));
+        let other = Told {
+            edition: 3,
+            ..other
+        };
+        assert_eq!(number(&other, 63), (16, 0));
+    }
+    for (read, told) in [(b"G\0", 1), (b"G\x04", 1), (b"G\x05", 9), (b"E\x05", 9)] {
+        let eqm = Told {
+            decimals: 4,
+            ..reads(read)
+        };
+        assert_eq!(number(&eqm, 64), (told, 0));
     }
     assert_eq!(number(&reads(b""), 63), (19, 0));
     assert_eq!(number(&reads(b""), 64), (28, 0));
@@ -269,7 +332,7 @@ fn records_that_no_session_reaches() {
     let (good, _) = started(&post(&text));
     assert!(good.reached());
     assert!(!Session::default().reached());
-    let broken: [fn(&mut Session); 16] = [
+    let broken: [fn(&mut Session); 18] = [
         |s| s.serial[3] = 0,
         |s| s.password[3] = b'a',
         |s| s.named = 0,
@@ -286,6 +349,8 @@ fn records_that_no_session_reaches() {
         |s| s.count = 255,
         |s| s.edition = 0,
         |s| s.edition = 3,
+        |s| s.decimals = 1,
+        |s| s.decimals = 5,
     ];
     for spoil in broken {
         let mut session = good;
@@ -329,7 +394,7 @@ fn other_work_gives_its_own_messages_or_none() {
 fn a_reply_has_just_the_lines_that_were_asked_for() {
     let block = |data: &str| head::on_the_wire(&head::block(data.as_bytes()));
     let clock = "0.9.1(23:59:59)\r\n0.9.2(00-02-29)\r\n";
-    assert!(tells(1, b'T', 9, &block(clock)));
+    assert!(tells(OURS, b'T', 9, &block(clock)));
     for other in [
         "0.9.2(00-02-29)\r\n0.9.1(23:59:59)\r\n",
         "0.9.1(23:59:59)\r\n",
@@ -338,20 +403,35 @@ fn a_reply_has_just_the_lines_that_were_asked_for() {
         "0.9.1(23:59:59)\r\n0.9.2(00-02-29)\r\n!\r\n",
         "",
     ] {
-        assert!(!tells(1, b'T', 0, &block(other)), "{other}");
+        assert!(!tells(OURS, b'T', 0, &block(other)), "{other}");
     }
     let energy = "15.8.3(000001.500*kWh)\r\n";
-    assert!(tells(1, b'E', 3, &block(energy)));
-    assert!(!tells(1, b'E', 2, &block(energy)) && !tells(1, b'Z', 3, &block(energy)));
+    assert!(tells(OURS, b'E', 3, &block(energy)));
+    assert!(!tells(OURS, b'E', 2, &block(energy)) && !tells(OURS, b'Z', 3, &block(energy)));
+    for decimals in 2..=4 {
+        let meters = Meters { decimals, ..OURS };
+        let (whole, rest) = "00001500".split_at(8 - usize::from(decimals));
+        let line = |name, zone| block(&format!("{name}.8.{zone}({whole}.{rest}*kWh)\r\n"));
+        assert!(tells(meters, b'E', 3, &line(1, 3)) && tells(meters, b'G', 0, &line(2, 0)));
+        assert!(!tells(meters, b'E', 3, &line(2, 3)) && !tells(meters, b'G', 0, &line(1, 0)));
+        assert!(!tells(meters, b'G', 1, &line(2, 2)) && !tells(meters, b'G', 5, &line(2, 5)));
+        assert!(!tells(meters, b'E', 3, &block(energy)) && !tells(OURS, b'E', 3, &line(1, 3)));
+        assert!(!tells(OURS, b'G', 0, &line(2, 0)));
+        let other = Meters {
+            decimals: decimals % 3 + 2,
+            ..OURS
+        };
+        assert!(!tells(other, b'E', 3, &line(1, 3)));
+    }
     let row = format!("131.0.07({})\r\n", "4".repeat(24));
-    assert!(tells(1, b'Z', 7, &block(&row)) && !tells(1, b'Z', 8, &block(&row)));
-    assert!(tells(1, b'L', 0, &block("C.1.0(123 4567890)\r\n")));
-    assert!(tells(1, b'K', 0, &block("0.0.0(Kiln_7 old)\r\n")));
-    assert!(!tells(1, b'K', 0, &block("0.0.0(Kiln_7 ol)\r\n")));
+    assert!(tells(OURS, b'Z', 7, &block(&row)) && !tells(OURS, b'Z', 8, &block(&row)));
+    assert!(tells(OURS, b'L', 0, &block("C.1.0(123 4567890)\r\n")));
+    assert!(tells(OURS, b'K', 0, &block("0.0.0(Kiln_7 old)\r\n")));
+    assert!(!tells(OURS, b'K', 0, &block("0.0.0(Kiln_7 ol)\r\n")));
     let mut damaged = block(energy);
     damaged[5] ^= 0x80;
-    assert!(!tells(1, b'E', 3, &damaged));
+    assert!(!tells(OURS, b'E', 3, &damaged));
     let mut wrong = block(energy);
     *wrong.last_mut().unwrap() ^= 3;
-    assert!(!tells(1, b'E', 3, &wrong));
+    assert!(!tells(OURS, b'E', 3, &wrong));
 }

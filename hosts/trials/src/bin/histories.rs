@@ -80,6 +80,9 @@ fn wrong_ones(seed: u64) -> Result<usize, String> {
         Mistake::WritesTwice,
         Mistake::KeepsOnTheWire,
         Mistake::TakesTable25,
+        Mistake::CountsOutAsIn,
+        Mistake::CountsOutOfNone,
+        Mistake::AnswersNoG,
     ];
     let script = script(seed, 6 * HISTORY);
     let mut transcript = Vec::new();
@@ -110,6 +113,10 @@ struct Counted {
     /// Dumps and writes of table 25 of edition 2.
     second: u64,
     saturdays: u64,
+    /// Dumps of EQM meters, with something counted out, and with a period that has such a counter.
+    eqm: u64,
+    exported: u64,
+    exported_periods: u64,
 }
 
 impl Counted {
@@ -123,6 +130,11 @@ impl Counted {
         self.locked += u64::from(history.failed == 3);
         self.periods += u64::from(history.book.closed > 0);
         self.second += u64::from(history.book.edition == 2);
+        self.eqm += u64::from(history.book.decimals != 0);
+        self.exported += u64::from(history.book.exported != [0; 4]);
+        let periods = &history.book.periods;
+        let kept = periods.iter().any(|period| period.exported != [0; 4]);
+        self.exported_periods += u64::from(kept);
         self.wired += u64::from(history.mode >= 2 && history.book.link == WIRED);
     }
 
@@ -153,6 +165,12 @@ impl Counted {
             ("dumps in a session on the wired link", self.wired),
             ("dumps of edition 2", self.second),
             ("writes of table 25", self.saturdays),
+            ("dumps of EQM meters", self.eqm),
+            ("dumps with something counted out", self.exported),
+            (
+                "dumps with a period of something counted out",
+                self.exported_periods,
+            ),
         ];
         for (what, count) in reached {
             println!("{what}: {count}");
@@ -221,6 +239,15 @@ fn different(history: &History, meter: &Meter) -> Option<&'static str> {
         ("a table", book.tables == meter.tables),
         ("the clock", book.clock == meter.clock),
         ("a counter", book.counters == meter.counters),
+        ("an exported counter", book.exported == meter.exported),
+        (
+            "a total",
+            book.total == meter.total && book.exported_total == meter.exported_total,
+        ),
+        (
+            "edition, link or decimals",
+            (book.edition, book.link, book.decimals) == (meter.edition, meter.link, meter.decimals),
+        ),
         (
             "a period",
             book.closed == meter.closed && book.periods == meter.periods,
@@ -284,8 +311,9 @@ impl Play {
         let c = fresh.clock;
         let link = self.chance.one_of(&[OPTICAL, OPTICAL, WIRED]);
         let edition = self.chance.one_of(&[1, 2]);
+        let decimals = family(&mut self.chance);
         line += &format!(
-            "{} {} {} {} {} {} {edition} {link} 0",
+            "{} {} {} {} {} {} {edition} {link} {decimals}",
             c.year, c.month, c.day, c.hour, c.minute, c.second
         );
         let (_, meter) = Meter::new(
@@ -293,7 +321,7 @@ impl Play {
             fresh.account,
             fresh.password,
             fresh.clock,
-            [edition, link, 0],
+            [edition, link, decimals],
         );
         self.history = History::new(meter, Mistake::None);
         self.line(&line);
@@ -307,8 +335,9 @@ impl Play {
             }
             1 => self.line("tick"),
             2 => {
-                let wh = self.chance.one_of(&[0, 1, 999, 1_000_000, 1_000_001]);
-                self.line(&format!("pulse {wh}"));
+                let units = self.chance.one_of(&[0, 1, 999, 1_000_000, 1_000_001]);
+                let way = self.chance.one_of(&["", " out"]);
+                self.line(&format!("pulse {units}{way}"));
             }
             3 => {
                 let line = self

@@ -483,6 +483,7 @@ fn for_closed_months(cases: &mut Vec<Case>) {
                 hour: 0,
                 minute: count as u8,
                 counters: [1, 20, 300, 4_000].map(|wh| wh * count as u32),
+                exported: [0; 4],
             };
         }
         meter.closed = count as u8;
@@ -511,6 +512,45 @@ fn for_closed_months(cases: &mut Vec<Case>) {
         let mut damaged = reply.clone();
         damaged[place] ^= 0x80;
         cases.push(readout_of(&damaged, "0.1.2*12"));
+    }
+}
+
+/// Blocks of EQM meters, for the readout: all ten lines of energy, and the longest block of all.
+fn for_eqm_meters(cases: &mut Vec<Case>) {
+    for decimals in 2..=4 {
+        let mut meter = Meter {
+            decimals,
+            edition: 2,
+            counters: [99_999_999, 20, 300, 4_000],
+            exported: [0, 1, 12_345_678, 99_999_999],
+            closed: PERIODS as u8,
+            ..Meter::blank()
+        };
+        meter.tables[24] = [b'1'; HOURS];
+        meter.periods = [Period {
+            year: 2023,
+            month: 4,
+            day: 1,
+            hour: 0,
+            minute: 0,
+            counters: [1, 20, 300, 99_999_999],
+            exported: [99_999_999, 5, 60, 700],
+        }; PERIODS];
+        let reply = head::on_the_wire(&meter.block_with_periods());
+        cases.push(Case {
+            reaches: format!("readout: {decimals} decimals"),
+            ..readout(&reply)
+        });
+        for zone in 0..=4 {
+            for address in [format!("1.8.{zone}"), format!("2.8.{zone}")] {
+                cases.push(Case {
+                    reaches: format!("register: {address} of {decimals} decimals"),
+                    ..readout_of(&reply, &address)
+                });
+            }
+        }
+        let others = ["15.8.0", "1.8.5", "2.8.0*01", "2.8.4*12", "1.8.1*13", "8.2"];
+        cases.extend(others.map(|address| readout_of(&reply, address)));
     }
 }
 
@@ -716,6 +756,12 @@ fn to_reach() -> BTreeSet<String> {
         .chain([22, 23, 24, 25, 26, 27].map(|number| format!("register: {number}")))
         .chain((0..=PERIODS).map(|count| format!("readout: {count} periods")))
         .chain((1..=PERIODS).map(|kk| format!("register: period {kk}")))
+        .chain((2..=4).map(|decimals| format!("readout: {decimals} decimals")))
+        .chain((2..=4).flat_map(|decimals| {
+            (0..=4).flat_map(move |zone| {
+                [1, 2].map(|way| format!("register: {way}.8.{zone} of {decimals} decimals"))
+            })
+        }))
         .chain([1, 20].map(|number| format!("delivering to edition 1: {number}")))
         .chain([1, 20].map(|number| format!("delivering to edition 2: {number}")))
         .chain(STARTED.iter().map(|case| case.3.to_string()))
@@ -743,6 +789,7 @@ fn main() -> ExitCode {
     for_the_readout(&mut cases);
     for_one_register(&mut cases);
     for_closed_months(&mut cases);
+    for_eqm_meters(&mut cases);
     for_the_delivery(&mut cases);
     let reached = Mutex::new(BTreeSet::new());
     let wrong = Mutex::new(Vec::new());

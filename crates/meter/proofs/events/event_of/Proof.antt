@@ -27,7 +27,11 @@ returns-5 c = rw (ne-eqb _ _ (c .before .before .before .before .if1 .left), ne-
 
 returns-6 : tie.Need-returns-6
 unfolding eventOf
-returns-6 c = rw (ne-eqb _ _ (c .before .before .before .before .if1 .left), ne-eqb _ _ (c .before .before .before .if2 .left), ne-eqb _ _ (c .before .before .if3 .left), ne-eqb _ _ (c .before .if4 .left), ne-eqb _ _ (c .if5 .left))
+returns-6 c = let four = c .before .before in rw (ne-eqb _ _ (four .before .before .before .if1 .left), ne-eqb _ _ (four .before .before .if2 .left), ne-eqb _ _ (four .before .if3 .left), ne-eqb _ _ (four .if4 .left), ne-eqb _ _ (c .before .if5 .left), eq-eqb _ _ (c .if6 .taken))
+
+returns-7 : tie.Need-returns-7
+unfolding eventOf
+returns-7 c = let four = c .before .before in rw (ne-eqb _ _ (four .before .before .before .if1 .left), ne-eqb _ _ (four .before .before .if2 .left), ne-eqb _ _ (four .before .if3 .left), ne-eqb _ _ (four .if4 .left), ne-eqb _ _ (c .before .if5 .left), ne-eqb _ _ (c .if6 .left))
 
 pub event-of-spec : {M : Type 1} → statement M
-event-of-spec = tie.close (tie.spec (λ c κs. search needs) returns returns-2 returns-3 returns-4 returns-5 returns-6)
+event-of-spec = tie.close (tie.spec (λ c κs. search needs) returns returns-2 returns-3 returns-4 returns-5 returns-6 returns-7)

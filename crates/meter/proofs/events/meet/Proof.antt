@@ -20,7 +20,7 @@ returns-3 c = (rw (c .before .enum-told2 .given .1, c .pass-second .ensures), rw
 
 returns-4 : tie.Need-returns-4
 unfolding met holding
-returns-4 c = (rw (c .before .before .e2 .given .1, c .take-pulse .ensures), rw (c .before .before .e2 .given .1, pulse-quiet (c .before .before .before .before .before .args .m) _))
+returns-4 c = (rw (c .before .before .e2 .given .1, c .take-pulse .ensures), rw (c .before .before .e2 .given .1, pulse-quiet (c .before .before .before .before .before .args .m) _ _))
 
 returns-5 : tie.Need-returns-5
 unfolding met holding
@@ -28,7 +28,11 @@ returns-5 c = (rw (c .before .enum-told3 .given .1, c .power-up .ensures), rw (c
 
 returns-6 : tie.Need-returns-6
 unfolding met holding
-returns-6 c = (rw (c .before .enum-told4 .given .1, c .unknown .ensures), rw (c .before .enum-told4 .given .1, unknown-quiet (c .before .before .before .before .args .m)))
+returns-6 c = (rw (c .before .before .e3 .given .1, c .take-pulse2 .ensures), rw (c .before .before .e3 .given .1, pulse-quiet (c .before .before .before .before .before .args .m) _ _))
+
+returns-7 : tie.Need-returns-7
+unfolding met holding
+returns-7 c = (rw (c .before .enum-told4 .given .1, c .unknown .ensures), rw (c .before .enum-told4 .given .1, unknown-quiet (c .before .before .before .before .args .m)))
 
 pub meet-spec : {M : Type 1} → statement M
-meet-spec = tie.close (tie.spec (λ c. search needs) (λ c κs. search needs) (λ c. search needs) (λ c κs. search needs) (λ c. search needs) (λ c κs. search needs) (λ c. search needs) (λ c κs. search needs) (λ c. search needs) (λ c κs. search needs) (λ c. search needs) (λ c κs. search needs) (λ c. search needs) returns (λ c. search needs) returns-2 returns-3 returns-4 returns-5 returns-6)
+meet-spec = tie.close (tie.spec (λ c. search needs) (λ c κs. search needs) (λ c. search needs) (λ c κs. search needs) (λ c. search needs) (λ c κs. search needs) (λ c. search needs) (λ c κs. search needs) (λ c. search needs) (λ c κs. search needs) (λ c. search needs) (λ c κs. search needs) (λ c. search needs) (λ c κs. search needs) (λ c. search needs) returns (λ c. search needs) returns-2 returns-3 returns-4 returns-5 returns-6 returns-7)

@@ -26,7 +26,11 @@ returns-5 c = rw (c .enum-told3 .given .1)
 
 returns-6 : tie.Need-returns-6
 unfolding refusal
-returns-6 c = rw (c .enum-told4 .given .1)
+returns-6 c = rw (c .before .before .e3 .given .1, c .pulse-refusal2 .ensures)
+
+returns-7 : tie.Need-returns-7
+unfolding refusal
+returns-7 c = rw (c .enum-told4 .given .1)
 
 pub refusal-of-spec : {M : Type 1} → statement M
-refusal-of-spec = tie.close (tie.spec (λ c. search needs) (λ c κs. search needs) (λ c. search needs) (λ c κs. search needs) (λ c. search needs) (λ c. search needs) (λ c κs. search needs) (λ c. search needs) (λ c. search needs) returns returns-2 returns-3 returns-4 returns-5 returns-6)
+refusal-of-spec = tie.close (tie.spec (λ c. search needs) (λ c κs. search needs) (λ c. search needs) (λ c κs. search needs) (λ c. search needs) (λ c. search needs) (λ c κs. search needs) (λ c. search needs) (λ c. search needs) (λ c κs. search needs) (λ c. search needs) returns returns-2 returns-3 returns-4 returns-5 returns-6 returns-7)

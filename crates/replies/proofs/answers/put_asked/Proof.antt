@@ -1,5 +1,6 @@
 -- `replies::answers::put_asked` meets its contract: each case is that of the definition. Assumes nothing.
 use mathlib.Core.Path.{refl, sym, ap, _∙_}
+use mathlib.Core.Bool.{true, false}
 use Prim.Native.Nat.{_+_}
 use native.Mathlib.Omega.{arith}
 use lib.ListN.{length}
@@ -39,16 +40,24 @@ returns-3 c = let c6 = c .before .before .before .before .before .before in let 
     (single (accountSet (a .g .account)) 19 _ _ _ _ (account-line (a .g .account) (start .pre .0 .account)) (e .0) (e .1))
 
 returns-4 : tie.Need-returns-4
-returns-4 c = let c3 = c .before .before .before in let c6 = c3 .before .before .before in let c9 = c6 .before .before .before in let start = c9 in
-    let a = start .args in
+unfolding askedSets
+returns-4 c =
+    let a = c .before .before .before .before .before .before .before .before .before .before .args in
     let e = c .before .before .put-energy-set .ensures in
-    asked-energy (a .g) (a .a) (a .buf .now) (a .at) _ _ _ _ (c6 .a .given .1) (c3 .energy-of .ensures) (e .0) (e .1)
+    asked-energy (a .g) (a .a) (a .buf .now) (a .at) _ _ false _ _ _ (ap (askedSets (a .g)) (c .before .before .before .before .before .before .before .a .given .1)) (c .before .before .before .energy-of .ensures) (e .0) (e .1)
 
 returns-5 : tie.Need-returns-5
-returns-5 c = let c7 = c .before .before .before .before .before .before .before in let c10 = c7 .before .before .before in let start = c10 in
-    let a = start .args in
+unfolding askedSets
+returns-5 c =
+    let a = c .before .before .before .before .before .before .before .before .before .before .args in
+    let e = c .before .before .put-energy-set2 .ensures in
+    asked-energy (a .g) (a .a) (a .buf .now) (a .at) _ _ true _ _ _ (ap (askedSets (a .g)) (c .before .before .before .before .before .before .before .a2 .given .1)) (c .before .before .before .energy-of2 .ensures) (e .0) (e .1)
+
+returns-6 : tie.Need-returns-6
+returns-6 c =
+    let a = c .before .before .before .before .before .before .before .before .before .before .args in
     let e = c .before .before .put-asked-table .ensures in
-    asked-table (a .g) (a .a) (a .buf .now) (a .at) _ _ _ (c7 .a2 .given .1) (e .0) (e .1)
+    asked-table (a .g) (a .a) (a .buf .now) (a .at) _ _ _ (c .before .before .before .before .before .before .before .a3 .given .1) (e .0) (e .1)
 
 pub put-asked-spec : {M : Type 1} → statement M
-put-asked-spec = tie.close (tie.spec (λ c. search needs) (λ c κs. search needs) (λ c. search needs) returns (λ c. search needs) (λ c. search needs) (λ c κs. search needs) (λ c. search needs) returns-2 (λ c. search needs) (λ c. search needs) (λ c κs. search needs) (λ c. search needs) returns-3 (λ c. search needs) (λ c κs. search needs) (λ c κs. search needs) (λ c. search needs) returns-4 (λ c. search needs) (λ c. search needs) (λ c κs. search needs) (λ c. search needs) returns-5)
+put-asked-spec = tie.close (tie.spec (λ c. search needs) (λ c κs. search needs) (λ c. search needs) returns (λ c. search needs) (λ c. search needs) (λ c κs. search needs) (λ c. search needs) returns-2 (λ c. search needs) (λ c. search needs) (λ c κs. search needs) (λ c. search needs) returns-3 (λ c. search needs) (λ c κs. search needs) (λ c κs. search needs) (λ c. search needs) returns-4 (λ c. search needs) (λ c κs. search needs) (λ c κs. search needs) (λ c. search needs) returns-5 (λ c. search needs) (λ c. search needs) (λ c κs. search needs) (λ c. search needs) returns-6)

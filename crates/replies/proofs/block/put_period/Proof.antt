@@ -1,36 +1,50 @@
--- `replies::block::put_period` meets its contract: one line after the other. Assumes nothing.
-use Prim.Native.Nat.{ℕ}
+-- `replies::block::put_period` meets its contract: its time, what came in, and where the family has it what went out behind it. Assumes nothing.
+use mathlib.Core.Path.{sym, _∙_}
+use mathlib.Core.Bool.{true, false}
 use native.Mathlib.Omega.{arith}
-use Rattle.datasets.specs.Sets.{closedSet, keptSet}
-use Rattle.datasets.proofs.Lengths.{closed-line, kept-line}
+use Rattle.datasets.specs.Sets.{closedSet}
+use Rattle.datasets.proofs.Lengths.{closed-line}
 use Rattle.datasets.proofs.Joined.{single, joined}
-use Rattle.replies.specs.Periods.{keptIn, periodSets}
+use Rattle.replies.specs.Periods.{keptSets, periodSets}
+use Rattle.replies.proofs.Sizes.{both-put, came-put}
+use Rattle.replies.proofs.Periods.{kept-most-of}
 use borrow.Author.Needs.{needs}
 use Rattle.replies.proofs.block.put_period.Statement.{statement}
 use Rattle.replies.proofs.block.put_period.Tie as tie
 
+put-kept-requires-2 : tie.Need-put-kept-requires-2
+put-kept-requires-2 c κs =
+    let a = c .before .before .before .before .before .before .before .before .before .before .before .before .before .before .args in
+    omega (arith, c .before .before .before .before .before .before .before .before .before .before .before .before .before .before .pre, c .before .before .before .before .before .before .before .before .before .put-closed-set .ensures .0, c .before .before .before .before .before .put-kept .ensures .0, kept-most-of (a .family) false (a .k) (a .p .zones))
+
 returns : tie.Need-returns
 unfolding periodSets
 returns c =
-    let fourth = c .before .before in
-    let third = fourth .before .before .before .before in
-    let second = third .before .before .before .before in
-    let first = second .before .before .before .before in
-    let timed = first .before .before .before .before in
-    let a = timed .before .before .before .before .args in
-    let e0 = timed .put-closed-set .ensures in
-    let e1 = first .put-kept-set .ensures in
-    let e2 = second .put-kept-set2 .ensures in
-    let e3 = third .put-kept-set3 .ensures in
-    let e4 = fourth .put-kept-set4 .ensures in
-    let k = a .k in
-    let wh : ℕ → ℕ = keptIn (a .p) in
-    let time = single (closedSet k (a .p .closed)) 26 (a .buf .now) (a .at) _ _ (closed-line k (a .p .closed)) (e0 .0) (e0 .1) in
-    let one = joined _ _ _ _ _ _ _ _ time (single (keptSet k 1 (wh 1)) 27 _ _ _ _ (kept-line k 1 (wh 1)) (e1 .0) (e1 .1)) in
-    let two = joined _ _ _ _ _ _ _ _ one (single (keptSet k 2 (wh 2)) 27 _ _ _ _ (kept-line k 2 (wh 2)) (e2 .0) (e2 .1)) in
-    let three = joined _ _ _ _ _ _ _ _ two (single (keptSet k 3 (wh 3)) 27 _ _ _ _ (kept-line k 3 (wh 3)) (e3 .0) (e3 .1)) in
-    let four = joined _ _ _ _ _ _ _ _ three (single (keptSet k 4 (wh 4)) 27 _ _ _ _ (kept-line k 4 (wh 4)) (e4 .0) (e4 .1)) in
-    (omega (arith, e0 .0, e1 .0, e2 .0, e3 .0, e4 .0), four .held)
+    let a = c .before .before .before .before .before .before .before .before .before .before .before .before .before .before .before .before .before .args in
+    let time = c .before .before .before .before .before .before .before .before .before .before .before .before .put-closed-set .ensures in
+    let came = c .before .before .before .before .before .before .before .before .put-kept .ensures in
+    let went = c .before .before .put-kept2 .ensures in
+    let closed = single (closedSet (a .k) (a .p .closed)) 26 (a .buf .now) (a .at) _ _ (closed-line (a .k) (a .p .closed)) (time .0) (time .1) in
+    let both =
+    both-put (a .family) (keptSets (a .family) false (a .k) (a .p .zones)) (keptSets (a .family) true (a .k) (a .p .exported)) _ _ _ _ _ _
+    (sym (c .before .before .before .before .before .is-eqm .ensures) ∙ c .before .before .before .before .if1 .taken) (record { next = came .0; held = came .1 }) (record { next = went .0; held = went .1 }) in
+    let all = joined _ _ _ _ _ _ _ _ closed both in
+    (all .next, all .held)
+
+returns-2 : tie.Need-returns-2
+unfolding periodSets
+returns-2 c =
+    let a = c .before .before .before .before .before .before .before .before .before .before .before .before .before .args in
+    let time = c .before .before .before .before .before .before .before .before .put-closed-set .ensures in
+    let came = c .before .before .before .before .put-kept .ensures in
+    let closed = single (closedSet (a .k) (a .p .closed)) 26 (a .buf .now) (a .at) _ _ (closed-line (a .k) (a .p .closed)) (time .0) (time .1) in
+    let alone =
+    came-put (a .family) (keptSets (a .family) false (a .k) (a .p .zones)) (keptSets (a .family) true (a .k) (a .p .exported)) _ _ _ _
+    (sym (c .before .is-eqm .ensures) ∙ c .if1 .left) (record { next = came .0; held = came .1 }) in
+    let all = joined _ _ _ _ _ _ _ _ closed alone in
+    (all .next, all .held)
 
 pub put-period-spec : {M : Type 1} → statement M
-put-period-spec = tie.close (tie.spec (λ c κs. search needs) (λ c. search needs) (λ c κs. search needs) (λ c. search needs) (λ c κs. search needs) (λ c. search needs) (λ c κs. search needs) (λ c. search needs) (λ c κs. search needs) (λ c. search needs) returns)
+put-period-spec =
+    tie.close
+    (tie.spec (λ c κs. search needs) (λ c κs. search needs) (λ c κs. search needs) put-kept-requires-2 (λ c. search needs) returns (λ c. search needs) returns-2)

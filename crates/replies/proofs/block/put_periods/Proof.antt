@@ -7,22 +7,22 @@ use Rattle.state.specs.Sizes.{periodPlaces}
 use Rattle.text.proofs.Writing.{length-stored}
 use Rattle.datasets.proofs.Joined.{Lines}
 use Rattle.replies.specs.Periods.{archiveSets}
-use Rattle.replies.proofs.Periods.{no-period, next-period}
+use Rattle.replies.proofs.Periods.{period-within, no-period, next-period}
 use borrow.Author.Needs.{needs}
 use Rattle.replies.proofs.block.put_periods.Statement.{statement}
 use Rattle.replies.proofs.block.put_periods.Tie as tie
 
 abbrev Inv-loop : tie.InvT-loop
-Inv-loop buf₀ at count periods i₀ place₀ buf i place =
-    (i ≤ count) × (place ≡ at + i * 134) × (length buf ≡ length buf₀) × Lines buf₀ at (archiveSets 1 (take i periods)) place buf
+Inv-loop buf₀ at count family periods i₀ place₀ buf i place =
+    (i ≤ count) × (place ≤ at + i * 226) × (length buf ≡ length buf₀) × Lines buf₀ at (archiveSets family 1 (take i periods)) place buf
 
 abbrev μ-loop : tie.MeasureT-loop
-μ-loop buf₀ at count periods i₀ place₀ buf i place = count - i
+μ-loop buf₀ at count family periods i₀ place₀ buf i place = count - i
 
 loop-holds : tie.Need-loop-holds Inv-loop μ-loop
 loop-holds c =
     let a = c .before .args in
-    (omega arith, omega arith, refl, no-period (a .t3) (a .buf .now) (a .at))
+    (omega arith, omega arith, refl, no-period (a .family) (a .t3) (a .buf .now) (a .at))
 
 put-period-requires : tie.Need-put-period-requires Inv-loop μ-loop
 put-period-requires c κs =
@@ -40,9 +40,9 @@ loop-again c =
     let places : length (a .t3) ≡ periodPlaces = search needs in
     let there : turn .i < length (a .t3) = omega (arith, places, start .pre .0, taken) in (
       omega (arith, taken),
-      omega (arith, put .0, turn .inv .1),
+      omega (arith, turn .inv .1, period-within (a .family) (a .t3) _ (turn .i) (turn .place) _ (put .0)),
       rw (put .1) (length-stored _ _ _ ∙ turn .inv .2),
-      next-period (a .t3) _ (a .buf .now) (a .at) (turn .i) (turn .place) (turn .buf) _ _ there (turn .inv .3) (put .0) (put .1),
+      next-period (a .family) (a .t3) _ (a .buf .now) (a .at) (turn .i) (turn .place) (turn .buf) _ _ there (turn .inv .3) (put .0) (put .1),
     )
 
 same-length : tie.Need-same-length Inv-loop μ-loop
@@ -52,7 +52,7 @@ returns : tie.Need-returns Inv-loop μ-loop
 returns c =
     let turn = c .before .loop in
     let done : turn .i ≡ c .before .before .before .args .count = omega (arith, turn .inv .0, c .loop-test .left) in
-    (omega (arith, turn .inv .1, done), rw done at (turn .inv .3 .held))
+    (rw done at (turn .inv .3 .next), rw done at (turn .inv .3 .held))
 
 pub put-periods-spec : {M : Type 1} → statement M
 put-periods-spec = tie.close (tie.spec Inv-loop μ-loop loop-holds (λ c. omega arith) (λ c. omega arith) (λ c. omega arith) (λ c. omega arith) put-period-requires (λ c. omega arith) (λ c. omega arith) loop-again same-length returns)

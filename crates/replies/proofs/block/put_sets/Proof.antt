@@ -1,23 +1,30 @@
 -- `replies::block::put_sets` meets its contract: its parts, one after the other. Assumes nothing.
 use native.Mathlib.Omega.{arith}
-use Rattle.replies.proofs.Sizes.{all-put}
+use Rattle.state.specs.WellFormed.{familyIn}
+use Rattle.replies.proofs.Sizes.{directions-long, directions-most, all-put}
 use borrow.Author.Needs.{needs}
 use Rattle.replies.proofs.block.put_sets.Statement.{statement}
 use Rattle.replies.proofs.block.put_sets.Tie as tie
 
+put-tables-requires : tie.Need-put-tables-requires
+put-tables-requires c κs =
+    let a = c .before .before .before .before .before .before .before .before .before .before .before .before .before .before .before .before .before .args in
+    let known = c .before .before .before .before .before .before .before .before .before .before .before .before .before .before .before .before .before .pre in
+    let long = directions-long (familyIn (a .g)) (a .g .counters) (a .g .exported) in
+    (known .0 .rows, (omega (arith, known .1, c .before .before .before .before .before .before .before .before .put-facts .ensures .0, c .before .before .before .before .put-directions .ensures .0, long, directions-most (familyIn (a .g))), known .0 .few))
+
 returns : tie.Need-returns
 returns c =
-    let rows-put = c .before .before in
-    let energies-put = rows-put .before .before .before .before .before in
-    let facts-put = energies-put .before .before .before .before in
-    let start = facts-put .before .before .before .before .before .before .before .before .before in
-    let a = start .args in
-    let facts = facts-put .put-facts .ensures in
-    let energies = energies-put .put-energies .ensures in
-    let rows = rows-put .put-tables .ensures in (
-      omega (arith, facts .0, energies .0, rows .0),
-      all-put (a .tables) (a .g) (a .buf .now) (a .at) _ _ _ _ _ _ (start .pre .0) (facts .0) (facts .1) (energies .0) (energies .1) (rows .0) (rows .1) .held,
-    )
+    let a = c .before .before .before .before .before .before .before .before .before .before .before .before .before .before .before .before .before .before .before .before .args in
+    let facts = c .before .before .before .before .before .before .before .before .before .before .before .put-facts .ensures in
+    let energies = c .before .before .before .before .before .before .before .put-directions .ensures in
+    let rows = c .before .before .put-tables .ensures in
+    let all =
+    all-put (a .tables) (a .g) (a .buf .now) (a .at) _ _ _ _ _ _ (c .before .before .before .before .before .before .before .before .before .before .before .before .before .before .before .before .before .before .before .before .pre .0) (facts .0) (facts .1)
+    (record { next = energies .0; held = energies .1 }) (rows .0) (rows .1) in
+    (all .next, all .held)
 
 pub put-sets-spec : {M : Type 1} → statement M
-put-sets-spec = tie.close (tie.spec (λ c. search needs) (λ c. search needs) (λ c κs. search needs) (λ c κs. search needs) (λ c. search needs) (λ c κs. search needs) (λ c. search needs) returns)
+put-sets-spec =
+    tie.close
+    (tie.spec (λ c. search needs) (λ c. search needs) (λ c κs. search needs) (λ c κs. search needs) (λ c. search needs) put-tables-requires (λ c. search needs) returns)

@@ -43,11 +43,11 @@ returns-2 c =
     let c10 = c9 .before in
     let c14 = c10 .before .before .before .before in
     let a = c14 .args in
-    let t = toldOf (a .edition) (a .named) (a .serial .now) (a .access) (a .password .now) (a .kind) in
+    let t = toldOf (a .edition) (a .decimals) (a .named) (a .serial .now) (a .access) (a .password .now) (a .kind) in
     let all = not-false ((c9 .told-good .result && c7 .told-good2 .result) && a .good) (c6 .if1 .left) in
     let called = rw (c9 .told-good .ensures, c10 .is-digits .ensures) at (and-left (c9 .told-good .result) _ (and-left (c9 .told-good .result && c7 .told-good2 .result) _ all)) in
-    let made : Session = record { serial = c5 .serial-kept .result; password = c4 .password-kept .result; named = a .named; access = a .access; work = a .kind; count = a .count; sent = 1; fact = 0; edition = a .edition } in
-    let ok : goodMessage (tablesOf (a .edition)) (calling made) ≡ true = rw (c5 .serial-kept .ensures, c4 .password-kept .ensures) (call-good t (a .count) called) in
+    let made : Session = record { serial = c5 .serial-kept .result; password = c4 .password-kept .result; named = a .named; access = a .access; work = a .kind; count = a .count; sent = 1; fact = 0; edition = a .edition; decimals = a .decimals } in
+    let ok : goodMessage (tablesOf (a .edition)) (a .decimals) (calling made) ≡ true = rw (c5 .serial-kept .ensures, c4 .password-kept .ensures) (call-good t (a .count) called) in
     let room = c14 .pre in (
       rw (← c10 .is-digits .ensures, ← c9 .told-good .ensures, ← c8 .is-digits2 .ensures, ← c7 .told-good2 .ensures, all, built-long _ _ _ _ _ (c .before .before .call .ensures) room ok, length-map (textOf (calling made)) sent, c5 .serial-kept .ensures, c4 .password-kept .ensures),
       rw (← c10 .is-digits .ensures, ← c9 .told-good .ensures, ← c8 .is-digits2 .ensures, ← c7 .told-good2 .ensures, all, ← c5 .serial-kept .ensures, ← c4 .password-kept .ensures) (built-held _ _ _ _ _ (c .before .before .call .ensures) room ok),

@@ -22,7 +22,7 @@ returns c =
     let a = asked .before .before .before .args .a in
     let few : a .count ≤ periodPlaces = omega (arith, asked .if1 .taken, all .1) in
     let long : length (a .periods) ≡ periodPlaces = sym (all .0) ∙ all .1 in
-    rw (le-leb _ _ few, eq-eqb _ _ long, c10 .four-good .ensures, c5 .four-good2 .ensures, c .four-good3 .ensures) (twelve-good (a .periods) _ (a .count) long)
+    rw (le-leb _ _ few, eq-eqb _ _ long, c10 .four-good .ensures, c5 .four-good2 .ensures, c .four-good3 .ensures) (twelve-good (asked .before .before .before .args .family) (a .periods) _ (a .count) long)
 
 returns-2 : tie.Need-returns-2
 unfolding archiveGood

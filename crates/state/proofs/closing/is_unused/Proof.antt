@@ -6,7 +6,7 @@ use Rattle.state.proofs.closing.is_unused.Tie as tie
 
 returns : tie.Need-returns
 unfolding unused
-returns c = rw (c .before .before .has-no-time .ensures, c .zones-below .ensures)
+returns c = rw (c .before .has-no-time .ensures, c .both-below .ensures)
 
 pub is-unused-spec : {M : Type 1} → statement M
-is-unused-spec = tie.close (tie.spec (λ c κs. search needs) (λ c. search needs) (λ c κs. search needs) returns)
+is-unused-spec = tie.close (tie.spec (λ c κs. search needs) (λ c κs. search needs) returns)

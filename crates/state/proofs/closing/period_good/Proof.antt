@@ -6,7 +6,8 @@ use Rattle.state.proofs.closing.period_good.Tie as tie
 
 returns : tie.Need-returns
 unfolding periodGood
-returns c = rw (c .before .before .is-stamp .ensures, c .zones-good .ensures)
+returns c =
+    rw (c .before .before .before .is-stamp .ensures, c .both-below .ensures, c .before .export-end .ensures .0, c .before .before .counter-end .ensures .0)
 
 pub period-good-spec : {M : Type 1} → statement M
-period-good-spec = tie.close (tie.spec (λ c κs. search needs) (λ c. search needs) (λ c κs. search needs) returns)
+period-good-spec = tie.close (tie.spec (λ c κs. search needs) (λ c κs. search needs) (λ c κs. search needs) (λ c κs. search needs) returns)

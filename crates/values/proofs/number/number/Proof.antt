@@ -6,16 +6,16 @@ use Prim.Native.Nat.{ℕ, _+_, _*_, _-_, _<_, _≤_}
 use native.Mathlib.Omega.{arith}
 use lib.ListN.{length, drop, getD, drop-of-length-le}
 use Rattle.line.proofs.Runs.{left-next}
-use Rattle.text.specs.Decimal.{valueFrom, valueOf}
+use Rattle.text.specs.Decimal.{valueFrom}
 use Rattle.text.proofs.Decimal.{value-grows}
 use Rattle.values.proofs.number.number.Statement.{statement}
 use Rattle.values.proofs.number.number.Tie as tie
 
 abbrev Inv-loop : tie.InvT-loop
-Inv-loop s n₀ i₀ n i = (i ≤ length s) × (valueFrom n (drop i s) ≡ valueOf s)
+Inv-loop before s n₀ i₀ n i = (i ≤ length s) × (valueFrom n (drop i s) ≡ valueFrom before s)
 
 abbrev μ-loop : tie.MeasureT-loop
-μ-loop s n₀ i₀ n i = length s - i
+μ-loop before s n₀ i₀ n i = length s - i
 
 turn : (s : List ℕ) (i n whole : ℕ) → i < length s → valueFrom n (drop i s) ≡ whole → valueFrom (n * 10 + (getD s i 0 - 48)) (drop (i + 1) s) ≡ whole
 unfolding valueFrom
@@ -30,7 +30,6 @@ unfolding valueFrom
 last s i n whole h e = rw (drop-of-length-le s h) at e
 
 loop-holds : tie.Need-loop-holds Inv-loop μ-loop
-unfolding valueOf
 loop-holds c = (omega arith, refl)
 
 mul-n : tie.Need-mul-n Inv-loop μ-loop

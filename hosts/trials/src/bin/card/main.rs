@@ -104,7 +104,7 @@ fn try_meter(
     let (mut ours, mut theirs) = (vec![FILLING; room], vec![FILLING; room]);
     let told = model::write(&meter, &mut ours);
     let got = cards.write(&meter, &mut theirs);
-    reached.written(meter.edition, room, told);
+    reached.written(&meter, room, told);
     if (got, &theirs) != (told, &ours) {
         return Err(format!(
             "write {meter:?} in {room}: {got:?}, and the model {told:?}"
@@ -143,7 +143,7 @@ fn bring(
         tables: from.tables,
         ..before
     };
-    reached.brought(from.edition);
+    reached.brought(from, &to);
     match (number, acknowledged) == (1, usize::from(highest) + 1) && to == wanted {
         true => Ok(()),
         false => Err(format!("brought {from:?}: {acknowledged} acknowledged")),

@@ -1,5 +1,6 @@
 //! What the trial has to have reached.
 
+use crate::Meter;
 use std::collections::BTreeMap;
 
 #[derive(Default)]
@@ -7,7 +8,7 @@ pub struct Reached(BTreeMap<&'static str, u64>);
 
 /// Each has to be met so often at least.
 const OFTEN: u64 = 20;
-const AIMS: [&str; 37] = [
+const AIMS: [&str; 41] = [
     "read: 1",
     "read: 40",
     "read: 41",
@@ -44,6 +45,10 @@ const AIMS: [&str; 37] = [
     "write: room 712 of edition 2",
     "brought to another meter",
     "brought to another meter of edition 2",
+    "brought from an EQM meter",
+    "brought to an EQM meter",
+    "write: 14 for decimals that are none",
+    "write: 14 for exported counters of document 01's family",
     "read: for edition 2",
 ];
 
@@ -118,7 +123,14 @@ impl Reached {
         self.met("place: in a row", in_field > Some(3));
     }
 
-    pub fn written(&mut self, edition: u8, room: usize, (number, _): (u8, usize)) {
+    pub fn written(&mut self, meter: &Meter, room: usize, (number, _): (u8, usize)) {
+        let edition = meter.edition;
+        let none = !matches!(meter.decimals, 0 | 2 | 3 | 4);
+        self.met("write: 14 for decimals that are none", none && number == 14);
+        self.met(
+            "write: 14 for exported counters of document 01's family",
+            meter.decimals == 0 && meter.exported != [0; 4] && number == 14,
+        );
         self.met("write: 1", number == 1);
         self.met("write: 14", number == 14);
         self.met("write: 41", number == 41);
@@ -138,7 +150,10 @@ impl Reached {
         );
     }
 
-    pub fn brought(&mut self, edition: u8) {
+    pub fn brought(&mut self, from: &Meter, to: &Meter) {
+        let edition = from.edition;
+        self.met("brought from an EQM meter", from.decimals != 0);
+        self.met("brought to an EQM meter", to.decimals != 0);
         self.met("brought to another meter", edition == 1);
         self.met("brought to another meter of edition 2", edition == 2);
     }

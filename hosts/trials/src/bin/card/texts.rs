@@ -4,7 +4,7 @@ use model::card::{field, text_of, Card};
 use model::meter::{Meter, PROGRAMMING};
 use model::post::{Row, Table};
 use trials::chance::Chance;
-use trials::words::of_edition_2;
+use trials::words::{family, of_edition_2, of_family, totalled};
 
 const ACCOUNT: &[u8] = b"azAZ09 _mM";
 
@@ -142,11 +142,19 @@ pub fn meter(chance: &mut Chance) -> Meter {
     if chance.percent(50) {
         meter = of_edition_2(meter, row(chance));
     }
-    match chance.below(14) {
+    let decimals = family(chance);
+    meter = of_family(chance, meter, decimals);
+    match chance.below(16) {
+        6 => meter.decimals = chance.one_of(&[1, 5, 255]),
+        7 => {
+            meter.decimals = 0;
+            meter.exported[chance.below(4)] = 1;
+            meter = totalled(meter);
+        }
         0 => meter.mode = 5,
         1 => meter.account[chance.below(10)] = b'-',
         2 => meter.tables[chance.below(24)][chance.below(24)] = chance.one_of(b"05\x00"),
-        3 => meter.total = 1,
+        3 => meter.total ^= 1,
         4 => meter.tables[24] = [chance.one_of(b"05\x01"); 24],
         5 => {
             meter.edition = chance.one_of(&[0, 3, 128, 255]);

@@ -10,7 +10,7 @@ mod reached;
 mod wrong;
 
 use dirgemist::meter as library;
-use model::meter::{Answer, Clock, Meter};
+use model::meter::{Answer, Clock, Meter, Way};
 use play::{play, Facts};
 use proved::Proved;
 use reached::Reached;
@@ -41,8 +41,9 @@ fn ruled(meter: &mut Meter, kind: u8, value: u32, reply: &mut [u8]) -> Answer {
         (0, 0..=255) => meter.character(value as u8, reply),
         (1, _) => meter.silence(reply),
         (2, _) => meter.tick(),
-        (3, _) => meter.pulse(value),
+        (3, _) => meter.pulse(Way::In, value),
         (4, _) => meter.power_up(),
+        (5, _) => meter.pulse(Way::Out, value),
         _ => Answer {
             number: library::NO_EVENT,
             speed: 0,
@@ -65,7 +66,7 @@ fn made(facts: &Facts) -> (u8, Meter) {
         }
         _ => {
             let number = match facts.kind {
-                [1 | 2, _, 0] => 15,
+                [1 | 2, _, 0 | 2 | 3 | 4] => 15,
                 [1 | 2, ..] => 18,
                 _ => 16,
             };
@@ -208,7 +209,7 @@ fn run() -> Result<(), String> {
     println!("firmware: {lines} lines to eight meters on one wire, only the one called answered");
     println!(
         "firmware: {} events, {} of slow sessions, {} with a place, {} cases of closed months ({} \
-         periods closed, {} blocks with periods), {} on the wired link, {} meters made, {} records \
+         periods closed, {} blocks with periods), {} on the wired link, {} cases of EQM meters ({} pulses out), {} meters made, {} records \
          checked, all equal; reached all of {}; answers {}",
         reached.events,
         reached.slow,
@@ -217,6 +218,8 @@ fn run() -> Result<(), String> {
         reached.closed,
         reached.blocks,
         reached.wired,
+        reached.eqm,
+        reached.pulses_out,
         reached.made,
         reached.checks,
         reached::AIMS.len(),

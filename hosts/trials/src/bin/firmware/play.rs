@@ -23,7 +23,7 @@ pub fn play(pair: &mut Pair, seed: u64, events: u64) -> Outcome {
     let chance = &mut Chance::new(seed);
     while pair.reached.events < events {
         let filling = chance.byte();
-        match chance.weighed(&[80, 5, 5, 4, 3, 4, 4, 3, 2, 2, 1, 60, 100]) {
+        match chance.weighed(&[80, 5, 5, 4, 3, 4, 4, 3, 2, 2, 1, 60, 100, 10]) {
             0 => {
                 for character in message(chance, &pair.model) {
                     let damage = u8::from(chance.one_in(400)) << 7;
@@ -45,7 +45,7 @@ pub fn play(pair: &mut Pair, seed: u64, events: u64) -> Outcome {
             3 => broken_record(pair, chance, filling)?,
             4 => {
                 let room = chance.one_of(&[0, 1, 19, 2_000, ROOM - 1]);
-                let kind = chance.below(5) as u8;
+                let kind = chance.below(6) as u8;
                 let value = u32::from(chance.byte());
                 pair.meet(kind, value, room, filling)?;
             }
@@ -60,6 +60,7 @@ pub fn play(pair: &mut Pair, seed: u64, events: u64) -> Outcome {
             }
             11 => hurt_frame(pair, chance, filling)?,
             12 => months(pair, chance, filling)?,
+            13 => both_ways(pair, chance, filling)?,
             _ => {
                 let meter = any_bytes(chance);
                 let kept = std::mem::replace(&mut pair.model, Meter::blank());
@@ -247,16 +248,52 @@ fn ticks(pair: &mut Pair, chance: &mut Chance, filling: u8) -> Outcome {
 
 fn pulses(pair: &mut Pair, chance: &mut Chance, filling: u8) -> Outcome {
     for _ in 0..chance.between(1, 3) {
-        let wh = match chance.below(6) {
+        let kind = chance.one_of(&[3, 5]);
+        let units = match chance.below(6) {
             0 => chance.one_of(&[0, 1_000_000, 1_000_001, u32::MAX]),
             1 => chance.bits() as u32,
             2 => {
-                let counter = chance.one_of(&pair.model.counters);
-                1_000_000_000_u32.saturating_sub(counter).min(1_000_000)
+                // Just up to the roll-over of some zone, when it is near.
+                let counters = match kind {
+                    3 => pair.model.counters,
+                    _ => pair.model.exported,
+                };
+                let end = pair.model.counter_end();
+                end.saturating_sub(chance.one_of(&counters)).min(1_000_000)
             }
             _ => chance.below(1_000_001) as u32,
         };
-        pair.meet(3, wh, chance.one_of(&[0, ROOM]), filling)?;
+        pair.meet(kind, units, chance.one_of(&[0, ROOM]), filling)?;
+    }
+    Ok(())
+}
+
+/// Energy of an EQM meter in either direction, in the zones of any hour; what it then shows.
+fn both_ways(pair: &mut Pair, chance: &mut Chance, filling: u8) -> Outcome {
+    let mode = chance.weighed(&[3, 1, 1, 3, 3]) as u8;
+    let decimals = chance.one_of(&[2, 3, 4]);
+    let mut meter = state(chance, mode);
+    meter = of_family(chance, meter, decimals);
+    meter = on_some_link(chance, meter);
+    pair.put(meter);
+    for _ in 0..chance.between(10, 30) {
+        if chance.one_in(3) {
+            let mut meter = pair.model.clone();
+            meter.clock = clock(chance);
+            pair.put(meter);
+        }
+        pulses(pair, chance, filling)?;
+    }
+    let asked = match mode {
+        1 => confirmation(chance.one_of(b"06")),
+        3 | 4 => {
+            let (letter, zone) = (chance.one_of(b"EG"), chance.one_of(b"012345"));
+            read(&[letter, zone, b'(', b')'])
+        }
+        _ => return Ok(()),
+    };
+    for character in asked {
+        pair.meet(0, with_parity(character).into(), ROOM, filling)?;
     }
     Ok(())
 }
@@ -280,8 +317,8 @@ fn interruption(pair: &mut Pair, chance: &mut Chance, filling: u8) -> Outcome {
 /// A kind or a value of no event.
 fn no_event(chance: &mut Chance) -> (u8, u32) {
     match chance.below(3) {
-        0 => (chance.between(5, 255) as u8, chance.below(300) as u32),
-        1 => (5, chance.bits() as u32),
+        0 => (chance.between(6, 255) as u8, chance.below(300) as u32),
+        1 => (6, chance.bits() as u32),
         _ => {
             let far = chance.bits() as u32 >> 1;
             (0, 256 + chance.one_of(&[0, 0x0A, 0x81, far]))
@@ -291,10 +328,10 @@ fn no_event(chance: &mut Chance) -> (u8, u32) {
 
 /// Any event, in any room.
 fn any_event(pair: &mut Pair, chance: &mut Chance, filling: u8) -> Outcome {
-    let kind = chance.below(6) as u8;
+    let kind = chance.below(7) as u8;
     let value = match kind {
         0 => u32::from(chance.byte()),
-        3 => chance.one_of(&[7, 1_000_000, 1_000_001]),
+        3 | 5 => chance.one_of(&[7, 1_000_000, 1_000_001]),
         _ => chance.bits() as u32,
     };
     let room = chance.one_of(&[0, ROOM - 1, ROOM, ROOM, ROOM, ROOM + 1]);
@@ -323,7 +360,30 @@ fn broken(chance: &mut Chance) -> Meter {
         meter = holding(meter, &frame[..frame.len() - 1], true);
     }
     let odd = chance.byte();
-    match chance.below(33) {
+    match chance.below(41) {
+        33 | 34 => meter.decimals = chance.one_of(&[1, 5, 0, 2, 3, 4, odd]),
+        35 => meter.exported[chance.below(4)] = chance.one_of(&ENDS),
+        36 => {
+            // In range or not, with the total that would be theirs.
+            meter.exported[chance.below(4)] = chance.one_of(&ENDS);
+            meter = totalled(meter);
+        }
+        37 => meter.exported_total = meter.exported_total.wrapping_add(1 + u32::from(odd) % 2),
+        38 => {
+            let sum = meter.exported.iter().copied();
+            meter.exported_total = sum.fold(0, u32::wrapping_add);
+        }
+        39 => {
+            meter.counters[chance.below(4)] = chance.one_of(&ENDS);
+            meter = totalled(meter);
+        }
+        40 => {
+            // Another family with the counters of this one.
+            meter.decimals = chance.one_of(&[0, 2, 3, 4]);
+            if chance.percent(50) {
+                meter = totalled(meter);
+            }
+        }
         22..=29 => meter.mark = 2,
         30 | 31 => meter.edition = chance.one_of(&[0, 3, odd]),
         32 => meter.tables[24] = [chance.one_of(&[0, b'1', b'5', 1]); 24],
@@ -383,6 +443,8 @@ fn any_bytes(chance: &mut Chance) -> Meter {
         },
         counters: [0; 4].map(|_| chance.bits() as u32),
         total: chance.bits() as u32,
+        exported: [0; 4].map(|_| chance.bits() as u32),
+        exported_total: chance.bits() as u32,
         tables: [[0; 24]; 25].map(|row| row.map(|_| chance.byte())),
         closed: chance.byte(),
         periods: [(); PERIODS].map(|()| Period {
@@ -392,9 +454,11 @@ fn any_bytes(chance: &mut Chance) -> Meter {
             hour: chance.byte(),
             minute: chance.byte(),
             counters: [0; 4].map(|_| chance.bits() as u32),
+            exported: [0; 4].map(|_| chance.bits() as u32),
         }),
         link: chance.byte(),
         edition: chance.one_of(&[1, 2, 0, 3]),
+        decimals: chance.byte(),
     }
 }
 
@@ -405,18 +469,27 @@ fn facts(chance: &mut Chance) -> Facts {
         account: account(chance).to_vec(),
         password: digits::<8>(chance).to_vec(),
         clock: clock(chance),
-        kind: [chance.one_of(&[1, 2]), chance.one_of(&[1, 2]), 0],
+        kind: [
+            chance.one_of(&[1, 2]),
+            chance.one_of(&[1, 2]),
+            family(chance),
+        ],
     };
     let odd = chance.byte();
     match chance.below(18) {
         14 => facts.kind[1] = chance.one_of(&[0, 3, odd]),
         15 => facts.kind[0] = chance.one_of(&[0, 3, 255]),
-        16 => facts.kind[2] = chance.one_of(&[1, 5, 255]),
+        16 => {
+            facts.kind[2] = chance.one_of(&[1, 5, 255, odd]);
+            if chance.percent(50) {
+                facts.clock.day = 32;
+            }
+        }
         17 => {
             facts.kind = [
                 chance.one_of(&[0, 1, 2]),
                 chance.one_of(&[1, 3]),
-                chance.one_of(&[0, 1]),
+                chance.one_of(&[0, 1, 4, 5]),
             ]
         }
         0 => facts.serial[chance.below(10)] = odd,

@@ -1,12 +1,12 @@
 //! Counts what the events reached, from the states around them and not from what was meant.
 
 use crate::{Answer, Facts, Meter};
-use model::meter::{data_bits, Period, ACK, BLOCK, OPTICAL, PERIODS, PERIOD_LINES, ROOM, WIRED};
+use model::meter::{data_bits, Period, ACK, BLOCK, OPTICAL, PERIODS, ROOM, WIRED};
 use std::collections::{BTreeMap, BTreeSet};
 use trials::words::wired_line;
 
 /// What must have happened at least once.
-pub const AIMS: [&str; 181] = [
+pub const AIMS: [&str; 230] = [
     "character: 0",
     "character: 1",
     "character: 2",
@@ -34,7 +34,7 @@ pub const AIMS: [&str; 181] = [
     "power-up: 14",
     "no event: 99",
     "character over 255",
-    "kind over 4",
+    "kind over 5",
     "99 before 14",
     "13 before 14",
     "12 before 14",
@@ -188,6 +188,55 @@ pub const AIMS: [&str; 181] = [
     "row 25 of edition 2 with zeros",
     "make of edition 2",
     "make: 16 before 18",
+    "pulse out: 1",
+    "pulse out: 13",
+    "pulse out: 14",
+    "pulse out: 16",
+    "make: 18 before 15",
+    "make of an EQM meter",
+    "make of an EQM meter of edition 2 on the wired link",
+    "half a million cases of EQM meters",
+    "pulse out of document 01's family",
+    "pulse out of document 01's family, malformed: 13 before 14",
+    "pulse out of decimals that are none: 14",
+    "eqm: pulse out of 0",
+    "eqm: pulse out of 1,000,000",
+    "eqm: pulse out of 1,000,001",
+    "eqm: exported zone 1 to 4 counted",
+    "eqm: counter rolls over",
+    "eqm: exported counter rolls over",
+    "eqm: total rolls over",
+    "eqm: exported total rolls over",
+    "eqm: Saturday of edition 2, out",
+    "eqm: block of 2 decimals",
+    "eqm: block of 3 decimals",
+    "eqm: block of 4 decimals",
+    "eqm: block of edition 2",
+    "eqm: block on the wired link",
+    "eqm: block with twelve periods",
+    "eqm: longest block",
+    "eqm: read E0",
+    "eqm: read E1",
+    "eqm: read E2",
+    "eqm: read E3",
+    "eqm: read E4",
+    "eqm: read G0",
+    "eqm: read G1",
+    "eqm: read G2",
+    "eqm: read G3",
+    "eqm: read G4",
+    "eqm: G5 refused",
+    "G refused in document 01's family",
+    "eqm: closed with exported counters that are not 0",
+    "decimals that are none",
+    "exported counter in document 01's family",
+    "exported total in document 01's family",
+    "exported counter of a period in document 01's family",
+    "exported counter of nine digits",
+    "exported total off by one",
+    "exported total not rolled over",
+    "exported counter of a period of nine digits",
+    "counter of nine digits in an EQM meter",
 ];
 
 #[derive(Default)]
@@ -206,8 +255,13 @@ pub struct Reached {
     pub wired: u64,
     /// Events of a good meter of edition 2.
     pub second: u64,
+    /// Energy of either direction, counters shown and periods closed of an EQM meter, what another
+    /// does not count, and records that are no family's.
+    pub eqm: u64,
+    pub pulses_out: u64,
     numbers: BTreeMap<u8, u64>,
     zones: [bool; 4],
+    zones_out: [bool; 4],
     met: BTreeSet<String>,
 }
 
@@ -217,6 +271,7 @@ fn name_of(kind: u8) -> &'static str {
         1 => "silence",
         2 => "tick",
         3 => "pulse",
+        5 => "pulse out",
         _ => "power-up",
     }
 }
@@ -258,7 +313,19 @@ impl Reached {
         let link = facts.kind[1] == OPTICAL || facts.kind[1] == WIRED;
         let [edition, _, decimals] = facts.kind;
         self.when(edition == 2 && number == 1, "make of edition 2");
-        self.when(number == 16 && decimals != 0, "make: 16 before 18");
+        let none = !matches!(decimals, 0 | 2 | 3 | 4);
+        self.when(number == 16 && none, "make: 16 before 18");
+        let bad = !facts.serial.iter().all(u8::is_ascii_digit);
+        self.when(
+            number == 18 && (!link || bad || lengths != (10, 10, 8)),
+            "make: 18 before 15",
+        );
+        let eqm = number == 1 && decimals != 0;
+        self.when(eqm, "make of an EQM meter");
+        self.when(
+            eqm && edition == 2 && facts.kind[1] == WIRED,
+            "make of an EQM meter of edition 2 on the wired link",
+        );
         self.when(!link && number == 15, "make, link that is none");
         self.when(
             facts.kind[1] == WIRED && number == 1,
@@ -301,11 +368,11 @@ impl Reached {
             99 => {
                 self.reach("no event: 99");
                 self.when(kind == 0, "character over 255");
-                self.when(kind > 4, "kind over 4");
+                self.when(kind > 5, "kind over 5");
                 self.when(!good, "99 before 14");
                 return;
             }
-            16 if kind > 4 => self.reach("no event: 16"),
+            16 if kind > 5 => self.reach("no event: 16"),
             number => self.reach(format!("{}: {number}", name_of(kind))),
         }
         self.when(answer.number == 13 && !good, "13 before 14");
@@ -319,6 +386,12 @@ impl Reached {
             self.when(before.mode > 4, "16 before 14");
             return;
         }
+        if kind == 5 {
+            self.out(before, good, answer.number, value);
+        }
+        if good && before.decimals != 0 {
+            self.of_eqm(before, kind, answer, after);
+        }
         if good && before.edition == 2 {
             self.of_edition_2(before, kind, answer, after);
         }
@@ -329,6 +402,153 @@ impl Reached {
             12 | 13 => {}
             14 => self.malformed(before),
             _ => self.happened(before, (kind, value), answer, after),
+        }
+    }
+
+    /// One more case of request [10].
+    fn eqm_case(&mut self) {
+        self.eqm += 1;
+        self.when(self.eqm == 500_000, "half a million cases of EQM meters");
+    }
+
+    /// A pulse out of any meter.
+    fn out(&mut self, before: &Meter, good: bool, number: u8, value: u32) {
+        let ours = before.decimals == 0 && value <= 1_000_000 && number == 13;
+        self.when(ours && good, "pulse out of document 01's family");
+        self.when(
+            ours && !good,
+            "pulse out of document 01's family, malformed: 13 before 14",
+        );
+        let none = !matches!(before.decimals, 0 | 2 | 3 | 4);
+        self.when(
+            none && number == 14,
+            "pulse out of decimals that are none: 14",
+        );
+        if good && before.decimals != 0 {
+            self.when(value == 0, "eqm: pulse out of 0");
+            self.when(value == 1_000_000, "eqm: pulse out of 1,000,000");
+            self.when(value == 1_000_001, "eqm: pulse out of 1,000,001");
+        }
+    }
+
+    fn of_eqm(&mut self, before: &Meter, kind: u8, answer: Answer, after: &Meter) {
+        let rolled = |after: &[u32; 4], before: &[u32; 4]| {
+            after
+                .iter()
+                .zip(before)
+                .any(|(after, before)| after < before)
+        };
+        match kind {
+            0 if before.mode == 1 && answer.length >= before.block_length() => {
+                self.eqm_case();
+                self.reach(format!("eqm: block of {} decimals", before.decimals));
+                let second = before.edition == 2;
+                self.when(second, "eqm: block of edition 2");
+                self.when(before.link == WIRED, "eqm: block on the wired link");
+                let twelve = before.block_length() + 12 * before.period_length();
+                let whole = answer.length == twelve;
+                self.when(whole, "eqm: block with twelve periods");
+                self.when(whole && second, "eqm: longest block");
+            }
+            0 if before.mode > 2 => {
+                if let Some(&[letter @ (b'E' | b'G'), zone, b'(', b')']) = before.held().get(4..8) {
+                    let asked = format!("{}{}", char::from(letter), char::from(zone));
+                    let read = answer.number == 1 && before.held().starts_with(b"\x01R1");
+                    if read {
+                        self.eqm_case();
+                    }
+                    self.when(read, &format!("eqm: read {asked}"));
+                    self.when(answer.number == 9 && asked == "G5", "eqm: G5 refused");
+                }
+            }
+            3 if answer.number == 1 => {
+                self.eqm_case();
+                self.when(
+                    rolled(&after.counters, &before.counters),
+                    "eqm: counter rolls over",
+                );
+                self.when(after.total < before.total, "eqm: total rolls over");
+            }
+            5 if answer.number == 1 => {
+                self.eqm_case();
+                self.pulses_out += 1;
+                self.when(
+                    rolled(&after.exported, &before.exported),
+                    "eqm: exported counter rolls over",
+                );
+                self.when(
+                    after.exported_total < before.exported_total,
+                    "eqm: exported total rolls over",
+                );
+                for zone in 0..4 {
+                    self.zones_out[zone] |= after.exported[zone] != before.exported[zone];
+                }
+                self.when(
+                    self.zones_out == [true; 4],
+                    "eqm: exported zone 1 to 4 counted",
+                );
+                self.when(
+                    before.edition == 2 && before.clock.saturday(),
+                    "eqm: Saturday of edition 2, out",
+                );
+            }
+            _ => {}
+        }
+        let closed = after.periods != before.periods;
+        if closed {
+            self.eqm_case();
+        }
+        self.when(
+            closed && after.periods[0].exported != [0; 4],
+            "eqm: closed with exported counters that are not 0",
+        );
+    }
+
+    /// What of either direction a malformed record has out of its ranges.
+    fn bad_counters(&mut self, meter: &Meter) {
+        let kept = usize::from(meter.closed).min(PERIODS);
+        let periods = &meter.periods[..kept];
+        let sum: u64 = meter.exported.iter().map(|&units| u64::from(units)).sum();
+        let (total, rest) = (u64::from(meter.exported_total), sum % 100_000_000);
+        let over = |counters: &[u32; 4]| counters.iter().any(|&units| units > 99_999_999);
+        match meter.decimals {
+            0 => {
+                self.when(
+                    meter.exported != [0; 4],
+                    "exported counter in document 01's family",
+                );
+                self.when(
+                    meter.exported == [0; 4] && total > 0,
+                    "exported total in document 01's family",
+                );
+                self.when(
+                    periods.iter().any(|period| period.exported != [0; 4]),
+                    "exported counter of a period in document 01's family",
+                );
+            }
+            2..=4 => {
+                self.when(over(&meter.exported), "exported counter of nine digits");
+                self.when(
+                    total + 1 == rest || rest + 1 == total,
+                    "exported total off by one",
+                );
+                self.when(
+                    total == sum && sum != rest,
+                    "exported total not rolled over",
+                );
+                self.when(
+                    periods.iter().any(|period| over(&period.exported)),
+                    "exported counter of a period of nine digits",
+                );
+                self.when(
+                    over(&meter.counters),
+                    "counter of nine digits in an EQM meter",
+                );
+            }
+            _ => {
+                self.eqm_case();
+                self.reach("decimals that are none");
+            }
         }
     }
 
@@ -345,7 +565,7 @@ impl Reached {
                     block && answer.length == before.block_length(),
                     "edition 2: block",
                 );
-                let twelve = before.block_length() + 12 * PERIOD_LINES;
+                let twelve = before.block_length() + 12 * before.period_length();
                 self.when(
                     block && answer.length == twelve,
                     "edition 2: block with twelve periods",
@@ -458,7 +678,7 @@ impl Reached {
             "bad counter",
         );
         let sum: u64 = meter.counters.iter().map(|&wh| u64::from(wh)).sum();
-        let (total, rest) = (u64::from(meter.total), sum % 1_000_000_000);
+        let (total, rest) = (u64::from(meter.total), sum % u64::from(meter.counter_end()));
         self.when(total + 1 == rest || rest + 1 == total, "total off by one");
         self.when(total == sum && sum != rest, "total not rolled over");
         let spare = meter.tables[24];
@@ -481,6 +701,7 @@ impl Reached {
             "bad password",
         );
         self.when(meter.account.contains(&b'-'), "bad account");
+        self.bad_counters(meter);
         self.bad_archive(meter);
     }
 
@@ -558,7 +779,7 @@ impl Reached {
                 if before.mode == 1 && answer.length > 0 && choice {
                     self.blocks += 1;
                     self.month();
-                    let periods = (answer.length - before.block_length()) / PERIOD_LINES;
+                    let periods = (answer.length - before.block_length()) / before.period_length();
                     self.when(periods == 0, "block with no period");
                     self.when(periods == 1, "block with one period");
                     self.when(periods == 12, "block with twelve periods");
@@ -618,6 +839,11 @@ impl Reached {
                     }
                 }
                 self.when(answer.length == BLOCK, "data block sent");
+                let exports = before.held().get(4) == Some(&b'G') && answer.number == 9;
+                self.when(
+                    exports && before.decimals == 0,
+                    "G refused in document 01's family",
+                );
                 let other = before.edition == 1 && answer.number == 9;
                 let table = before.held().get(4..8) == Some(b"Z(25");
                 self.when(other && table, "edition 1: table 25 refused");
@@ -652,7 +878,8 @@ impl Reached {
                 self.when(self.zones == [true; 4], "zone 1 to 4 counted");
                 self.when(after.total < before.total, "total rolls over");
             }
-            _ => self.when(before.attempts > 0, "attempts cleared by power-up"),
+            4 => self.when(before.attempts > 0, "attempts cleared by power-up"),
+            _ => {}
         }
     }
 }

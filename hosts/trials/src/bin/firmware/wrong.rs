@@ -2,7 +2,8 @@
 
 use crate::{library, made, record_of, ruled, Answer, Facts, Firmware, Meter};
 use model::meter::{
-    data_bits, total_of, with_parity, Clock, Period, BLOCK, ETX, NAK, OPTICAL, ROOM, SOH, WIRED,
+    data_bits, total_of, with_parity, Clock, Period, Way, EQM_END, ETX, NAK, OPTICAL, ROOM, SOH,
+    WIRED,
 };
 use trials::words::wired_line;
 
@@ -11,7 +12,7 @@ pub enum Fault {
     TakesAMarkOfTwo,
     MalformedBeforeRoom,
     RoomBeforeThePulse,
-    KindFiveIsATick,
+    KindSixIsATick,
     CharactersModulo256,
     WritesPastTheReply,
     WritesARefusal,
@@ -71,13 +72,29 @@ pub enum Fault {
     ChecksNoRow25,
     MakesNoRow25,
     DecimalsBeforeTheEdition,
+    CountsOutAsIn,
+    CountsOutOfNone,
+    MalformedBeforeThePulseOut,
+    CountsAPulseOutTooMuch,
+    PointOfTwoForThree,
+    RollsOverALateDigit,
+    OneTotalForBoth,
+    KeepsTheTotalOut,
+    AnswersGInDocument01sFamily,
+    AnswersGWithE,
+    ChecksNoFamily,
+    ChecksNoExport,
+    ChecksNoExportOfAPeriod,
+    ClosesFourCounters,
+    FactsBeforeDecimals,
+    MakesOfFiveDecimals,
 }
 
-pub const FAULTS: [Fault; 63] = [
+pub const FAULTS: [Fault; 79] = [
     Fault::TakesAMarkOfTwo,
     Fault::MalformedBeforeRoom,
     Fault::RoomBeforeThePulse,
-    Fault::KindFiveIsATick,
+    Fault::KindSixIsATick,
     Fault::CharactersModulo256,
     Fault::WritesPastTheReply,
     Fault::WritesARefusal,
@@ -137,6 +154,22 @@ pub const FAULTS: [Fault; 63] = [
     Fault::ChecksNoRow25,
     Fault::MakesNoRow25,
     Fault::DecimalsBeforeTheEdition,
+    Fault::CountsOutAsIn,
+    Fault::CountsOutOfNone,
+    Fault::MalformedBeforeThePulseOut,
+    Fault::CountsAPulseOutTooMuch,
+    Fault::PointOfTwoForThree,
+    Fault::RollsOverALateDigit,
+    Fault::OneTotalForBoth,
+    Fault::KeepsTheTotalOut,
+    Fault::AnswersGInDocument01sFamily,
+    Fault::AnswersGWithE,
+    Fault::ChecksNoFamily,
+    Fault::ChecksNoExport,
+    Fault::ChecksNoExportOfAPeriod,
+    Fault::ClosesFourCounters,
+    Fault::FactsBeforeDecimals,
+    Fault::MakesOfFiveDecimals,
 ];
 
 pub struct Wrong {
@@ -189,6 +222,7 @@ impl Wrong {
             hour,
             minute,
             counters: self.meter.counters,
+            exported: self.meter.exported,
         };
         self.meter.closed = (self.meter.closed + 1).min(12);
     }
@@ -236,8 +270,9 @@ impl Wrong {
             Some(Fault::DropsTheNewest) if closed && before.closed == 12 => {
                 meter.periods = before.periods;
             }
+            Some(Fault::ClosesFourCounters) if closed => meter.periods[0].exported = [0; 4],
             Some(Fault::SixIsThePlainBlock)
-                if answer.length > BLOCK && answer.length > before.block_length() =>
+                if before.well_formed() && answer.length > before.block_length() =>
             {
                 for (place, character) in reply.iter_mut().zip(before.data_block()) {
                     *place = with_parity(character);
@@ -255,7 +290,7 @@ impl Wrong {
             return match self.fault {
                 Some(Fault::MalformedForAnEdition) => Err(14),
                 Some(Fault::RoomBeforeTheEdition) if kind < 2 && room < ROOM => Err(12),
-                Some(Fault::NoEventBeforeTheEdition) if kind > 4 => Err(library::NO_EVENT),
+                Some(Fault::NoEventBeforeTheEdition) if kind > 5 => Err(library::NO_EVENT),
                 _ => Ok((kind, value)),
             };
         }
@@ -263,11 +298,17 @@ impl Wrong {
             Some(Fault::MalformedBeforeRoom) if kind < 2 && !good && room < ROOM => Err(14),
             Some(Fault::RoomBeforeThePulse) if kind == 3 && room < 1 => Err(12),
             Some(Fault::TickNeedsRoom) if kind == 2 && room < ROOM => Err(12),
-            Some(Fault::KindFiveIsATick) if kind == 5 => Ok((2, value)),
+            Some(Fault::KindSixIsATick) if kind == 6 => Ok((2, value)),
             Some(Fault::CharactersModulo256) if kind == 0 => Ok((0, value % 256)),
             Some(Fault::CountsAPulseTooMuch) if kind == 3 && value == 1_000_001 => {
                 Ok((3, 1_000_000))
             }
+            Some(Fault::CountsAPulseOutTooMuch) if kind == 5 && value == 1_000_001 => {
+                Ok((5, 1_000_000))
+            }
+            Some(Fault::CountsOutAsIn) if kind == 5 && self.meter.decimals != 0 => Ok((3, value)),
+            Some(Fault::CountsOutOfNone) if kind == 5 && self.meter.decimals == 0 => Ok((3, value)),
+            Some(Fault::MalformedBeforeThePulseOut) if kind == 5 && !good => Err(14),
             _ => Ok((kind, value)),
         }
     }
@@ -290,8 +331,22 @@ impl Firmware for Wrong {
             Some(Fault::MakesOfAnyClock) if given.clock.second == 60 => given.clock.second = 59,
             _ => {}
         }
-        if self.fault == Some(Fault::DecimalsBeforeTheEdition) && given.kind[2] != 0 {
+        let none = !matches!(given.kind[2], 0 | 2 | 3 | 4);
+        if self.fault == Some(Fault::DecimalsBeforeTheEdition) && none {
             given.kind[0] = 1;
+        }
+        if self.fault == Some(Fault::MakesOfFiveDecimals) && given.kind[2] == 5 {
+            given.kind[2] = 4;
+        }
+        if self.fault == Some(Fault::FactsBeforeDecimals) && none {
+            let (number, meter) = made(&Facts {
+                kind: [given.kind[0], given.kind[1], 0],
+                ..given.clone()
+            });
+            if number == 15 {
+                self.meter = meter;
+                return number;
+            }
         }
         let (number, mut meter) = made(&given);
         if self.fault == Some(Fault::MakesNoRow25) {
@@ -317,7 +372,19 @@ impl Firmware for Wrong {
             meter.periods = Meter::blank().periods;
         }
         if self.fault == Some(Fault::ChecksNoTotal) {
-            meter.total = total_of(&meter.counters);
+            meter.total = total_of(&meter.counters, meter.counter_end());
+        }
+        let family = matches!(meter.decimals, 0 | 2 | 3 | 4);
+        if self.fault == Some(Fault::ChecksNoFamily) && !family {
+            meter.decimals = 0;
+        }
+        if self.fault == Some(Fault::ChecksNoExport) && meter.decimals == 0 {
+            (meter.exported, meter.exported_total) = ([0; 4], 0);
+        }
+        if self.fault == Some(Fault::ChecksNoExportOfAPeriod) && meter.decimals == 0 {
+            for period in &mut meter.periods {
+                period.exported = [0; 4];
+            }
         }
         if self.fault == Some(Fault::ChecksNoRow25) && meter.edition == 1 {
             meter.tables[24] = [0; 24];
@@ -389,12 +456,31 @@ impl Firmware for Wrong {
             self.meter.edition = edition;
             self.meter.tables[24] = [if edition == 2 { b'1' } else { 0 }; 24];
         }
+        let point = self.fault == Some(Fault::PointOfTwoForThree) && good && before.decimals == 3;
+        if point {
+            self.meter.decimals = 2;
+        }
+        let exports = frame_ends && before.held().starts_with(b"\x01R1\x02G") && !damaged;
+        let g_as_e = match self.fault {
+            Some(Fault::AnswersGInDocument01sFamily) => exports && before.decimals == 0,
+            Some(Fault::AnswersGWithE) => exports && before.decimals != 0,
+            _ => false,
+        };
+        let mut value = value;
+        if g_as_e && kind == 0 && reply.len() >= ROOM {
+            // The same question with the other letter, which its BCC agrees to.
+            self.meter.held[4] = b'E';
+            value = with_parity((value as u8 & 0x7F) ^ b'E' ^ b'G').into();
+        }
         let sunday = self.fault == Some(Fault::SundayIsASaturday) && kind == 3 && second && good;
         if sunday && on.sunday() {
             let month = usize::from(on.month);
             self.meter.tables[month + 11] = before.tables[24];
         }
         let mut answer = ruled(&mut self.meter, kind, value, reply);
+        if point {
+            self.meter.decimals = 3;
+        }
         if edition != before.edition || sunday {
             self.meter.edition = before.edition;
             let spare = self.meter.tables[24];
@@ -472,19 +558,33 @@ impl Firmware for Wrong {
                 self.meter = before;
                 let hour = self.meter.clock.hour;
                 self.meter.clock.hour = (hour + 1) % 24;
-                answer = self.meter.pulse(value);
+                answer = self.meter.pulse(Way::In, value);
                 self.meter.clock.hour = hour;
             }
             Some(Fault::StopsAtTheEnd) if kind == 3 => {
+                let end = before.counter_end();
                 for (after, before) in self.meter.counters.iter_mut().zip(before.counters) {
                     if *after < before {
-                        *after = 999_999_999;
+                        *after = end - 1;
                     }
                 }
             }
             Some(Fault::KeepsTheTotal) if kind == 3 => self.meter.total = before.total,
             Some(Fault::RunsTheTotalOn) if kind == 3 && self.meter.total < before.total => {
-                self.meter.total += 1_000_000_000;
+                self.meter.total += before.counter_end();
+            }
+            Some(Fault::KeepsTheTotalOut) if kind == 5 => {
+                self.meter.exported_total = before.exported_total;
+            }
+            Some(Fault::OneTotalForBoth) if kind == 5 && answer.number == 1 => {
+                self.meter.total = (before.total + value) % EQM_END;
+            }
+            Some(Fault::RollsOverALateDigit) if before.decimals != 0 => {
+                for (after, before) in self.meter.exported.iter_mut().zip(before.exported) {
+                    if *after < before {
+                        *after += EQM_END;
+                    }
+                }
             }
             Some(Fault::LosesTheLeapDay) if leaps => {
                 self.meter.clock.month = 3;

@@ -71,7 +71,13 @@ fn state(chance: &mut Chance) -> Meter {
         meter = words::holding(meter, &held, chance.percent(20));
     }
     if chance.percent(2) {
-        match chance.below(8) {
+        match chance.below(10) {
+            8 => meter.decimals = chance.one_of(&[1, 5, 255]),
+            9 => {
+                meter.decimals = 0;
+                meter.exported[chance.below(4)] = 7;
+                meter = words::totalled(meter);
+            }
             6 | 7 => meter.edition = chance.one_of(&[0, 3, 255]),
             0 => meter.mode = chance.between(5, 255) as u8,
             1 => meter.attempts = chance.between(4, 255) as u8,

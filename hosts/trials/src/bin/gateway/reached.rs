@@ -8,7 +8,7 @@ pub struct Reached(BTreeMap<&'static str, u64>);
 
 /// Each has to be met so often at least.
 const OFTEN: u64 = 20;
-const AIMS: [&str; 35] = [
+const AIMS: [&str; 41] = [
     "1",
     "1 in mode 2",
     "1 in mode 3",
@@ -32,6 +32,12 @@ const AIMS: [&str; 35] = [
     "1 of edition 2",
     "table 25 of edition 2, done",
     "table 25 of edition 1, 9",
+    "1 of an EQM meter",
+    "E of an EQM meter, done",
+    "G of an EQM meter, done",
+    "G of document 01's family, 9",
+    "14 for decimals that are none",
+    "14 for exported counters of document 01's family",
     "17 in mode 0",
     "17 in mode 1",
     "17 with something held",
@@ -77,6 +83,22 @@ impl Reached {
         let saturday = body.get(4..8) == Some(&b"Z(25".map(Some));
         self.met("table 25 of edition 2, done", saturday && second && done);
         self.met("table 25 of edition 1, 9", saturday && first && number == 9);
+        let eqm = before.decimals != 0;
+        self.met("1 of an EQM meter", done && eqm);
+        let exports = body.get(4) == Some(&Some(b'G'));
+        let energy = body.get(4) == Some(&Some(b'E'));
+        self.met("E of an EQM meter, done", energy && eqm && done);
+        self.met("G of an EQM meter, done", exports && eqm && done);
+        self.met(
+            "G of document 01's family, 9",
+            exports && !eqm && number == 9,
+        );
+        let family = matches!(before.decimals, 0 | 2 | 3 | 4);
+        self.met("14 for decimals that are none", number == 14 && !family);
+        self.met(
+            "14 for exported counters of document 01's family",
+            number == 14 && !eqm && before.exported != [0; 4],
+        );
         self.met("1 in mode 2", done && before.mode == 2);
         self.met("1 in mode 3", done && before.mode == 3);
         self.met("1 in mode 4", done && before.mode == 4);

@@ -6,8 +6,13 @@ use trials::words;
 
 /// A frame for this meter in characters, good more often than not.
 fn characters(chance: &mut Chance, meter: &Meter) -> Vec<u8> {
-    match chance.below(12) {
+    match chance.below(13) {
         0 => words::good_bye(),
+        12 => {
+            let code = [0; 2].map(|_| chance.one_of(b"BPRWbprw0123 ~"));
+            let data = chance.percent(70).then_some(&b"T()"[..]);
+            words::frame(&code, data)
+        }
         1 => words::password(b"()"),
         2 => words::password(&words::bracketed(&meter.password)),
         3 => {

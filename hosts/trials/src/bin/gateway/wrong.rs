@@ -80,7 +80,19 @@ fn emptied(answer: Answer, meter: &mut Meter) {
     }
 }
 
-pub fn wrong() -> [(&'static str, Box<dyn Gateway>); 7] {
+/// Of an EQM meter all energy is asked for with E.
+fn g_is_e(meter: &Meter, frame: &[u8]) -> Vec<u8> {
+    let mut taken = frame.to_vec();
+    let asks = frame.starts_with(&[0x81, 0xD2, 0xB1, 0x82, 0x47]);
+    if let (true, [_, _, _, _, letter, .., check]) = (asks && meter.decimals != 0, &mut taken[..]) {
+        *letter = 0xC5;
+        // The BCC of the other letter: one bit, and the parity with it.
+        *check ^= 0x82;
+    }
+    taken
+}
+
+pub fn wrong() -> [(&'static str, Box<dyn Gateway>); 8] {
     let slices = |before| -> Box<dyn Gateway> {
         Box::new(Wrong {
             before,
@@ -93,6 +105,7 @@ pub fn wrong() -> [(&'static str, Box<dyn Gateway>); 7] {
         ("takes a damaged SOH", slices(damaged_soh)),
         ("leaves what stands behind the frame", slices(first_frame)),
         ("takes 64 bytes at most", slices(at_most_64)),
+        ("answers G with E", slices(g_is_e)),
         (
             "empties the receiver at 17",
             Box::new(Wrong {

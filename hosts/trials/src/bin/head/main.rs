@@ -58,6 +58,8 @@ struct Trial<'h> {
     cases: u64,
     /// Those of closed months: the closing sign-on, '6', addresses with '*', the time of a period.
     months: u64,
+    /// Those of EQM meters: what went out asked for, and values read.
+    eqm: u64,
     /// What the lookups came to.
     reached: Reached,
     /// The head's buffer, and the model's.
@@ -82,6 +84,7 @@ impl<'h> Trial<'h> {
             chance: Chance::new(seed),
             cases: 0,
             months: 0,
+            eqm: 0,
             reached: Reached::default(),
             theirs: Guarded::new(4_096),
             ours: Vec::new(),
@@ -125,6 +128,8 @@ impl<'h> Trial<'h> {
     fn build(&mut self, command: &Command, room: usize) -> Outcome {
         let month = matches!(command, Command::Close | Command::Confirm(_, b'6'));
         self.months += u64::from(month);
+        let out = matches!(command, Command::ReadTotalOut | Command::ReadZoneOut(_));
+        self.eqm += u64::from(out);
         self.lent(
             "build",
             room,
@@ -196,6 +201,7 @@ impl<'h> Trial<'h> {
     fn value(&mut self, kind: Kind, value: &[u8]) -> Outcome {
         self.cases += 1;
         self.months += u64::from(kind == Kind::Period);
+        self.eqm += u64::from(matches!(kind, Kind::Eqm(_)));
         let told = self.head.value(kind, value);
         let ruled = model::value(kind, value);
         if told != ruled {
@@ -233,7 +239,7 @@ const SECTIONS: [(&str, Section); 7] = [
 ];
 
 /// The commands that have no field.
-const BARE: [Command; 8] = [
+const BARE: [Command; 9] = [
     Command::SignOn,
     Command::Close,
     Command::Enter,
@@ -241,6 +247,7 @@ const BARE: [Command; 8] = [
     Command::ReadSerial,
     Command::ReadAccount,
     Command::ReadTotal,
+    Command::ReadTotalOut,
     Command::SignOff,
 ];
 
@@ -271,6 +278,7 @@ fn commands(t: &mut Trial) -> Outcome {
                 Command::Confirm(byte, b'1'),
                 Command::Confirm(byte, b'6'),
                 Command::ReadZone(byte),
+                Command::ReadZoneOut(byte),
                 Command::ReadTable(1, byte),
                 Command::WriteTable(1, byte, &row),
                 Command::ReadTable(2, byte),
@@ -354,7 +362,7 @@ fn any_command(t: &mut Trial) -> Outcome {
         _ => t.chance.between(64, 100),
     };
     let (number, table) = (t.chance.below(40) as u8, t.chance.between(1, 24) as u8);
-    let kind = t.chance.below(10);
+    let kind = t.chance.below(FILLED.len() + 7);
     if kind < FILLED.len() {
         let (filled, made_of, length) = FILLED[kind];
         let mut field = t.chance.text(made_of, length);
@@ -368,13 +376,14 @@ fn any_command(t: &mut Trial) -> Outcome {
         odd => 1 + odd as u8 % 2,
     };
     let row: [u8; 24] = t.chance.texts(ZONES);
-    let command = match kind {
-        4 => BARE[t.chance.below(BARE.len())],
-        5 if t.chance.one_in(2) => Command::Confirm(b'0', t.chance.odd_byte()),
-        5 => Command::Confirm(t.chance.odd_byte(), b'7'),
-        6 => Command::ReadZone(number % 8),
-        7 => Command::ReadTable(edition, number),
-        8 => Command::WriteTable(edition, table, &row),
+    let command = match kind - FILLED.len() {
+        0 => BARE[t.chance.below(BARE.len())],
+        1 if t.chance.one_in(2) => Command::Confirm(b'0', t.chance.odd_byte()),
+        1 => Command::Confirm(t.chance.odd_byte(), b'7'),
+        2 => Command::ReadZone(number % 8),
+        3 => Command::ReadZoneOut(number % 8),
+        4 => Command::ReadTable(edition, number),
+        5 => Command::WriteTable(edition, table, &row),
         _ => Command::WriteClock(t.chance.clock()),
     };
     t.build(&command, room)
@@ -517,7 +526,8 @@ fn broken_inside(t: &mut Trial, good: &[u8]) -> Outcome {
 fn lines(t: &mut Trial) -> Vec<Vec<u8>> {
     let registers = t.chance.registers_closed(1);
     let mut sets = registers.data_sets();
-    sets.drain(11..31);
+    let tables = 4 + energies(registers.decimals);
+    sets.drain(tables + 2..tables + 22);
     let mut lines: Vec<Vec<u8>> = sets
         .iter()
         .map(|(address, value)| model::line(address, value))
@@ -626,9 +636,22 @@ fn hurt_lines(t: &mut Trial, line: &[u8]) -> Outcome {
     Ok(())
 }
 
+/// How many lines of energy stand in a block.
+fn energies(decimals: u8) -> usize {
+    match decimals {
+        0 => 5,
+        _ => 10,
+    }
+}
+
 /// A good value of a kind, and the numbers or characters that made it.
 fn good_value(t: &mut Trial, kind: Kind) -> (Vec<u8>, Vec<u32>) {
-    let registers = t.chance.registers_closed(1);
+    let decimals = match kind {
+        Kind::Eqm(decimals) => decimals,
+        _ => 0,
+    };
+    let registers = t.chance.registers_of(decimals, 1);
+    let zone = t.chance.below(5);
     let wide = |characters: &[u8]| characters.iter().map(|&c| u32::from(c)).collect();
     let c = registers.clock;
     let (place, made) = match kind {
@@ -637,6 +660,20 @@ fn good_value(t: &mut Trial, kind: Kind) -> (Vec<u8>, Vec<u32>) {
         Kind::Time => (2, wide(&[c.hour, c.minute, c.second])),
         Kind::Account => (3, wide(&registers.account)),
         Kind::Counter => (4, vec![registers.counters[0]]),
+        Kind::Eqm(_) => {
+            // A counter or the total, of either direction.
+            let in_order = |counters: [u32; 4], total| [&counters[..], &[total]].concat();
+            match t.chance.one_in(2) {
+                true => {
+                    let shown = in_order(registers.counters, registers.total());
+                    (4 + zone, vec![shown[zone]])
+                }
+                false => {
+                    let shown = in_order(registers.exported, registers.total_out());
+                    (9 + zone, vec![shown[zone]])
+                }
+            }
+        }
         Kind::Row => (9, wide(&registers.tables[0])),
         Kind::Period => {
             let Clock {
@@ -718,6 +755,27 @@ fn values(t: &mut Trial) -> Outcome {
             t.value(kind, &value)?;
         }
     }
+    // Decimals that no meter has, whatever the value.
+    for decimals in 0..=255 {
+        for kind in [Kind::Eqm(2), Kind::Eqm(3), Kind::Eqm(4), Kind::Counter] {
+            let (value, _) = good_value(t, kind);
+            t.value(Kind::Eqm(decimals), &value)?;
+        }
+        t.value(Kind::Eqm(decimals), b"")?;
+    }
+    for _ in 0..400_000 {
+        let decimals = t.chance.one_of(&[2, 3, 4]);
+        let (mut value, _) = good_value(t, Kind::Eqm(decimals));
+        if t.chance.one_in(4) {
+            t.chance.hurt(&mut value);
+        }
+        let read = match t.chance.below(8) {
+            0 => t.chance.byte(),
+            1 => t.chance.one_of(&[1, 2, 3, 4, 5]),
+            _ => decimals,
+        };
+        t.value(Kind::Eqm(read), &value)?;
+    }
     for _ in 0..150_000 {
         let wh = t.chance.counter();
         let counter = format!("{:06}.{:03}*kWh", wh / 1000, wh % 1000);
@@ -759,15 +817,24 @@ fn round_trips(t: &mut Trial) -> Outcome {
                     hex(&sent)
                 ));
             }
+            let decimals = registers.decimals;
+            let (counter, tables) = match decimals {
+                0 => (Kind::Counter, 9),
+                _ => (Kind::Eqm(decimals), 14),
+            };
+            // A period has its time, and four counters or eight.
+            let period = if decimals == 0 { 5 } else { 9 };
             let kind = match place {
                 0 => Kind::Serial,
                 1 => Kind::Date,
                 2 => Kind::Time,
                 3 => Kind::Account,
-                4..=8 => Kind::Counter,
-                _ if place < 9 + registers.tables.len() => Kind::Row,
-                _ if (place - 9 - registers.tables.len()).is_multiple_of(5) => Kind::Period,
-                _ => Kind::Counter,
+                _ if place < tables => counter,
+                _ if place < tables + registers.tables.len() => Kind::Row,
+                _ if (place - tables - registers.tables.len()).is_multiple_of(period) => {
+                    Kind::Period
+                }
+                _ => counter,
             };
             t.value(kind, &read[address.len() + 1..read.len() - 3])?;
             at = step.next;
@@ -831,9 +898,17 @@ enum Fault {
     TakesMinute60,
     KeepsARefusedCounter,
     ZeroCharacters,
+    AsksForWhatCameIn,
+    AsksForZone0Out,
+    PointAnywhere,
+    PointOfTwoForThree,
+    MalformedBeforeDecimals,
+    TakesFiveDecimals,
+    KeepsARefusedEqm,
+    TakesDocument01sCounter,
 }
 
-const FAULTS: [(Fault, Section); 39] = [
+const FAULTS: [(Fault, Section); 47] = [
     (Fault::WritesBeforeItChecks, commands),
     (Fault::FieldBeforeRoom, commands),
     (Fault::BuildsInRoom63, commands),
@@ -873,6 +948,14 @@ const FAULTS: [(Fault, Section); 39] = [
     (Fault::TakesMinute60, values),
     (Fault::KeepsARefusedCounter, values),
     (Fault::ZeroCharacters, values),
+    (Fault::AsksForWhatCameIn, commands),
+    (Fault::AsksForZone0Out, commands),
+    (Fault::PointAnywhere, values),
+    (Fault::PointOfTwoForThree, values),
+    (Fault::MalformedBeforeDecimals, values),
+    (Fault::TakesFiveDecimals, values),
+    (Fault::KeepsARefusedEqm, values),
+    (Fault::TakesDocument01sCounter, values),
 ];
 
 struct Wrong(Fault);
@@ -896,6 +979,14 @@ impl Head for Wrong {
                 if matches!(command, Command::ReadTable(_, 25)) =>
             {
                 return (answer::FIELD, 0)
+            }
+            (Fault::AsksForWhatCameIn, (answer::DONE, _)) => {
+                if let Command::ReadZoneOut(zone) = *command {
+                    return model::build(&Command::ReadZone(zone), out);
+                }
+            }
+            (Fault::AsksForZone0Out, (answer::FIELD, _)) if *command == Command::ReadZoneOut(0) => {
+                return model::build(&Command::ReadTotalOut, out);
             }
             (Fault::RoomBeforeEdition, (answer::NO_EDITION, _)) if out.len() < 64 => {
                 return (answer::SHORT_ROOM, 0)
@@ -1066,6 +1157,23 @@ impl Head for Wrong {
                 (told.0, vec![u32::from(value.len() > 5)])
             }
             (Fault::ZeroCharacters, Kind::Serial, answer::MALFORMED) => (told.0, vec![48; 10]),
+            (Fault::PointAnywhere, Kind::Eqm(2..=4), answer::MALFORMED) => {
+                let read = (2..=4).find_map(|decimals| model::value_eqm(decimals, value));
+                read.map_or(told, |units| (answer::DONE, vec![units]))
+            }
+            (Fault::PointOfTwoForThree, Kind::Eqm(3), _) => model::value(Kind::Eqm(2), value),
+            (Fault::MalformedBeforeDecimals, Kind::Eqm(_), answer::NO_DECIMALS)
+                if !value.ends_with(b"*kWh") =>
+            {
+                (answer::MALFORMED, vec![0])
+            }
+            (Fault::TakesFiveDecimals, Kind::Eqm(5), _) => model::value(Kind::Eqm(4), value),
+            (Fault::KeepsARefusedEqm, Kind::Eqm(2..=4), answer::MALFORMED) => {
+                (told.0, vec![u32::from(value.len() > 5)])
+            }
+            (Fault::TakesDocument01sCounter, Kind::Eqm(2..=4), answer::MALFORMED) => {
+                model::value(Kind::Counter, value)
+            }
             _ => told,
         }
     }
@@ -1098,6 +1206,10 @@ fn run(seed: u64) -> Result<u64, String> {
     println!("head: {:>8} of these of closed months", trial.months);
     if trial.months < 500_000 {
         return Err("too few cases of closed months".into());
+    }
+    println!("head: {:>8} of these of EQM meters", trial.eqm);
+    if trial.eqm < 500_000 {
+        return Err("too few cases of EQM meters".into());
     }
     Ok(trial.cases)
 }

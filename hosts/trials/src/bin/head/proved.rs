@@ -54,6 +54,8 @@ impl Head for Proved {
             Command::ReadAccount => head::read_account(out),
             Command::ReadTotal => head::read_total(out),
             Command::ReadZone(zone) => head::read_zone(zone, out),
+            Command::ReadTotalOut => head::read_total_out(out),
+            Command::ReadZoneOut(zone) => head::read_zone_out(zone, out),
             Command::ReadTable(edition, table) => head::read_table(edition, table, out),
             Command::WriteClock(c) => {
                 head::write_clock(c.year, [c.month, c.day, c.hour, c.minute, c.second], out)
@@ -127,6 +129,10 @@ impl Head for Proved {
             Kind::Counter => {
                 let (number, wh) = head::value_counter(value);
                 (number, vec![wh])
+            }
+            Kind::Eqm(decimals) => {
+                let (number, units) = head::value_eqm(decimals, value);
+                (number, vec![units])
             }
         })
     }

@@ -5,7 +5,7 @@ use model::card::{self, Card};
 use model::head::{block, on_the_wire};
 use model::mercury::{closed, energy};
 use model::post::{tables_of, text_of, Table};
-use model::session::Session;
+use model::session::{Meters, Session};
 use trials::chance::Chance;
 use trials::head_words::{ACCOUNT, ADDRESS, DIGITS, VALUE, ZONES};
 use trials::session_words;
@@ -149,35 +149,63 @@ pub fn fixed() -> Vec<Vec<u8>> {
         "session 1",
         "session 1 any",
         "session any open reads T",
-        "session 0 any open reads",
-        "session 3 any open reads T",
-        "session 256 any open reads T",
-        "session 2 any open reads T",
+        "session 0 0 any open reads",
+        "session 3 0 any open reads T",
+        "session 256 0 any open reads T",
+        "session 2 0 any open reads T",
         "reply af5a5a5a355355422d5650b1b12e3030aa8d0a",
-        "session 2 any open reads Z25",
+        "session 2 0 any open reads Z25",
         "reply af5a5a5a355355422d565030b12e3030aa8d0a",
-        "session 2 any open reads Z26",
-        "session 1 any open",
-        "session 1 any open reads",
+        "session 2 0 any open reads Z26",
+        "session 1 0 any open",
+        "session 1 0 any open reads",
         "quiet",
-        "session 1 any open reads T",
+        "session 1 0 any open reads T",
         "reply af5a5a5a355355422d565030b12e3030aa8d0a",
-        "session 1 any open reads G0",
-        "session 1 any open reads E256",
-        "session 1 any open reads E",
-        "session 1 any open reads E-1",
-        "session 1 any open reads T1",
-        "session 1 any open reads ",
-        "session 1 any open reads T  T",
-        "session 1 any open reads t",
-        "session 1 any open posts -",
-        "session 1 any open post",
-        "session 1 any open post - -",
-        "session 1 any open read T",
-        "session 1 Any open reads T",
-        "session 1 3 open reads T",
-        "session 1 any 3 reads T",
-        "session 1 any open post 3",
+        "session 1 0 any open reads G0",
+        "session 1 2 any open reads G0",
+        "session 1 4 any open reads G4 E4",
+        "session 2 3 any open reads G5",
+        "session 1 3 any open reads G",
+        "session 1 3 any open reads G256",
+        "session 1 1 any open reads",
+        "session 1 5 any open reads G0",
+        "session 3 5 any open reads",
+        "session 1 256 any open reads T",
+        "session 1 -1 any open reads T",
+        "session 1 any open reads T",
+        "build out 64 0",
+        "build out 64 4",
+        "build out 64 5",
+        "build out 63 5",
+        "build out 64 256",
+        "build out 64",
+        "value eqm 2 3030303031352e30302a6b5768",
+        "value eqm 3 30303030312e3530302a6b5768",
+        "value eqm 4 303030302e313530302a6b5768",
+        "value eqm 3 3030303031352e30302a6b5768",
+        "value eqm 1 303030302e313530302a6b5768",
+        "value eqm 0 -",
+        "value eqm 5 -",
+        "value eqm 256 -",
+        "value eqm 3 -",
+        "value eqm 3",
+        "value eqm -",
+        "session 1 0 any open reads E256",
+        "session 1 0 any open reads E",
+        "session 1 0 any open reads E-1",
+        "session 1 0 any open reads T1",
+        "session 1 0 any open reads ",
+        "session 1 0 any open reads T  T",
+        "session 1 0 any open reads t",
+        "session 1 0 any open posts -",
+        "session 1 0 any open post",
+        "session 1 0 any open post - -",
+        "session 1 0 any open read T",
+        "session 1 0 Any open reads T",
+        "session 1 0 3 open reads T",
+        "session 1 0 any 3 reads T",
+        "session 1 0 any open post 3",
         "quiet 1",
         "quiet ",
         "reply",
@@ -188,14 +216,14 @@ pub fn fixed() -> Vec<Vec<u8>> {
         "reply 95",
         "reply 06",
         "quiet",
-        "session 1 - open reads T",
-        "session 1 any - reads T",
+        "session 1 0 - open reads T",
+        "session 1 0 any - reads T",
         "reply 06",
-        "session 1 any open post -",
-        "session 1 any open reads E0 E1 E2 E3 E4 E5",
-        "session 1 any open reads Z1 Z024 Z24 Z25",
-        "session 1 any open reads Z0",
-        "session 1 any open reads Z000000000000000000001 E00",
+        "session 1 0 any open post -",
+        "session 1 0 any open reads E0 E1 E2 E3 E4 E5",
+        "session 1 0 any open reads Z1 Z024 Z24 Z25",
+        "session 1 0 any open reads Z0",
+        "session 1 0 any open reads Z000000000000000000001 E00",
         "reply -",
         "dump",
         "\0",
@@ -204,7 +232,7 @@ pub fn fixed() -> Vec<Vec<u8>> {
     .into();
     // Lists of so many reads, and lists of so many words that a bench has to keep them somewhere.
     for count in [31, 32, 33, 252, 253, 254, 255, 256, 257, 1_000, 131_059] {
-        let mut line = b"session 1 any open reads".to_vec();
+        let mut line = b"session 1 0 any open reads".to_vec();
         line.extend(b" T".repeat(count));
         lines.push(line);
     }
@@ -283,7 +311,8 @@ fn field(chance: &mut Chance, made_of: &[u8], length: usize) -> String {
 
 fn build(chance: &mut Chance) -> String {
     let room = room(chance, 64);
-    let rest = match chance.below(16) {
+    let rest = match chance.below(17) {
+        16 => format!("out {room} {}", short(chance, 0, 5)),
         0 => format!("serial {room} {}", field(chance, DIGITS, 10)),
         15 => format!("wired {room} {}", field(chance, DIGITS, 10)),
         1 => {
@@ -424,17 +453,39 @@ fn value(chance: &mut Chance) -> String {
         ("row", 9),
         ("period", 33),
     ];
+    if chance.one_in(4) {
+        return value_eqm(chance);
+    }
     let (kind, place) = chance.one_of(&kinds);
     let place = match chance.below(12) {
         0 => chance.one_of(&kinds).1,
         _ => place,
     };
-    let (_, value) = chance.registers_closed(1).data_sets().swap_remove(place);
+    let (_, value) = chance.registers_of(0, 1).data_sets().swap_remove(place);
     let mut value = value.into_bytes();
     if chance.percent(40) {
         chance.hurt(&mut value);
     }
     format!("value {kind} {}", hex(&value))
+}
+
+/// A counter of an EQM meter, read with its decimals or with others.
+fn value_eqm(chance: &mut Chance) -> String {
+    let decimals = chance.one_of(&[2, 3, 4]);
+    let place = chance.between(4, 13);
+    let (_, value) = chance
+        .registers_of(decimals, 0)
+        .data_sets()
+        .swap_remove(place);
+    let mut value = value.into_bytes();
+    if chance.percent(30) {
+        chance.hurt(&mut value);
+    }
+    let read = match chance.below(8) {
+        0 => short(chance, 0, 6),
+        _ => usize::from(decimals),
+    };
+    format!("value eqm {read} {}", hex(&value))
 }
 
 /// Tables with rising numbers.
@@ -521,16 +572,18 @@ fn mercury(chance: &mut Chance) -> String {
 }
 
 /// A session with just so many messages of work.
-pub fn session(chance: &mut Chance, edition: u8, kind: &str, count: usize) -> Vec<u8> {
+pub fn session(chance: &mut Chance, meters: Meters, kind: &str, count: usize) -> Vec<u8> {
+    let Meters { edition, decimals } = meters;
     let line = match kind {
         "post" => {
             let highest = tables_of(edition).expect("it is one");
             let text = session_words::post(chance, highest, count);
-            format!("session {edition} any 3230333034303530 post {}", hex(&text))
+            let text = hex(&text);
+            format!("session {edition} {decimals} any 3230333034303530 post {text}")
         }
         _ => {
-            let start = format!("session {edition} any open reads");
-            (0..count).fold(start, |line, _| format!("{line} {}", read(chance, edition)))
+            let start = format!("session {edition} {decimals} any open reads");
+            (0..count).fold(start, |line, _| format!("{line} {}", read(chance, meters)))
         }
     };
     line.into_bytes()
@@ -544,10 +597,10 @@ pub fn right(chance: &mut Chance, session: Option<(&Session, &[u8])>) -> Option<
 }
 
 /// A good read as a line has it.
-fn read(chance: &mut Chance, edition: u8) -> String {
-    let [letter, number] = session_words::read(chance, edition);
+fn read(chance: &mut Chance, meters: Meters) -> String {
+    let [letter, number] = session_words::read(chance, meters);
     let number = match letter {
-        b'E' | b'Z' => number.to_string(),
+        b'E' | b'G' | b'Z' => number.to_string(),
         _ => String::new(),
     };
     format!("{}{number}", char::from(letter))
@@ -562,9 +615,19 @@ fn edition(chance: &mut Chance) -> u8 {
     }
 }
 
+/// Decimals, now and then those of no family.
+fn decimals(chance: &mut Chance) -> u8 {
+    match chance.below(16) {
+        0 => chance.one_of(&[1, 5]),
+        1 => chance.byte(),
+        odd => [0, 0, 2, 3, 4, 0, 3][odd % 7],
+    }
+}
+
 /// A session, mostly one with little to do.
 fn start(chance: &mut Chance) -> String {
-    let edition = edition(chance);
+    let (edition, decimals) = (edition(chance), decimals(chance));
+    let meters = Meters { edition, decimals };
     let start = match chance.below(2) {
         0 => "any".into(),
         _ => field(chance, DIGITS, 10),
@@ -575,7 +638,7 @@ fn start(chance: &mut Chance) -> String {
             _ => field(chance, DIGITS, 8),
         };
         let text = hex(&post(chance));
-        return format!("session {edition} {start} {access} post {text}");
+        return format!("session {edition} {decimals} {start} {access} post {text}");
     }
     let access = match chance.below(2) {
         0 => "open".into(),
@@ -586,13 +649,14 @@ fn start(chance: &mut Chance) -> String {
         1 => chance.between(31, 34),
         _ => chance.between(1, 3),
     };
-    let mut line = format!("session {edition} {start} {access} reads");
+    let mut line = format!("session {edition} {decimals} {start} {access} reads");
     for _ in 0..count {
         line += " ";
         line += &match chance.below(40) {
             0 => format!("E{}", short(chance, 0, 5)),
             1 => format!("Z{}", short(chance, 0, 27)),
-            _ => read(chance, edition),
+            2 => format!("G{}", short(chance, 0, 5)),
+            _ => read(chance, meters),
         };
     }
     line

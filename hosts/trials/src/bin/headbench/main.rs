@@ -6,6 +6,7 @@ mod lines;
 mod reached;
 
 use model::headbench::Bench;
+use model::session::{fact, Meters};
 use reached::Reached;
 use std::process::ExitCode;
 use trials::chance::Chance;
@@ -41,6 +42,11 @@ impl Script<'_> {
     fn line(&mut self, line: &[u8]) {
         let standing = self.bench.session().map(|(session, _)| *session);
         let told = self.bench.answer(line);
+        if let (Some(before), Some((after, work))) = (standing, self.bench.session()) {
+            if line.starts_with(b"reply") && (before.fact, after.fact) == (0, fact::WRONG) {
+                self.reached.wrong(&before, work);
+            }
+        }
         self.reached.line(line, told.as_deref());
         self.reached.around(line, told.as_deref(), standing);
         let played = &mut self.played;
@@ -55,14 +61,19 @@ impl Script<'_> {
 /// Whole sessions, of 1 to 32 reads and of posts of 1 to 24 lines, or to 25 of edition 2.
 fn sessions(script: &mut Script, chance: &mut Chance) {
     let kinds = [
-        (1, "reads", 32),
-        (2, "reads", 32),
-        (1, "post", 24),
-        (2, "post", 25),
+        (1, 0, "reads", 32),
+        (2, 0, "reads", 32),
+        (1, 2, "reads", 32),
+        (2, 3, "reads", 32),
+        (1, 4, "reads", 32),
+        (1, 0, "post", 24),
+        (2, 0, "post", 25),
+        (2, 4, "post", 25),
     ];
-    for (edition, kind, most) in kinds {
+    for (edition, decimals, kind, most) in kinds {
         for count in 1..=most {
-            script.line(&lines::session(chance, edition, kind, count));
+            let meters = Meters { edition, decimals };
+            script.line(&lines::session(chance, meters, kind, count));
             while let Some(line) = lines::right(chance, script.bench.session()) {
                 script.line(&line);
             }

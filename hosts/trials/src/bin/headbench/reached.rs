@@ -17,6 +17,7 @@ const CALLS: &[(&str, &[u8])] = &[
     ("build number", &[1, 19]),
     ("build account", &[1, 19]),
     ("build energy", &[1, 9, 19]),
+    ("build out", &[1, 9, 19]),
     ("build table", &[1, 9, 16, 19]),
     ("build setclock", &[1, 9, 19]),
     ("build setaccount", &[1, 9, 19]),
@@ -26,6 +27,7 @@ const CALLS: &[(&str, &[u8])] = &[
     ("value account", &[1, 25]),
     ("value row", &[1, 25]),
     ("value counter", &[1, 25]),
+    ("value eqm", &[1, 18, 25]),
     ("value date", &[1, 25]),
     ("value time", &[1, 25]),
     ("value period", &[1, 25]),
@@ -38,7 +40,7 @@ const CALLS: &[(&str, &[u8])] = &[
     ("part", &[1, 22, 23]),
     ("next", &[0, 1, 25]),
     ("find", &[1, 25, 27]),
-    ("session", &[1, 9, 16, 20, 28, 29, 30]),
+    ("session", &[1, 9, 16, 18, 20, 28, 29, 30]),
 ];
 
 /// What must have happened beside that.
@@ -61,6 +63,17 @@ const MORE: &[&str] = &[
     "line of the greatest length",
     "line that is one too long",
     "total asked for",
+    "total of what went out asked for",
+    "a value of 2 decimals",
+    "a value of 3 decimals",
+    "a value of 4 decimals",
+    "a value of other decimals",
+    "session: 9 for G in document 01's family",
+    "a session of 2 decimals done",
+    "a session of 3 decimals done",
+    "a session of 4 decimals done",
+    "a wrong reply to E of EQM meters",
+    "a wrong reply to G",
     "table 24",
     "table 25",
     "table 25 of edition 1",
@@ -196,6 +209,21 @@ impl Reached {
             }
             _ => {}
         }
+        if let (Some(session), Some(told)) = (standing, told) {
+            if told.starts_with("done ") && (2..=4).contains(&session.decimals) {
+                self.reach(&format!("a session of {} decimals done", session.decimals));
+            }
+        }
+    }
+
+    /// A reply that was wrong to a question for energy of EQM meters.
+    pub fn wrong(&mut self, session: &Session, work: &[u8]) {
+        let asked = work.get(usize::from(session.sent).wrapping_sub(4) * 2);
+        match asked {
+            Some(b'E') if session.decimals != 0 => self.reach("a wrong reply to E of EQM meters"),
+            Some(b'G') => self.reach("a wrong reply to G"),
+            _ => {}
+        }
     }
 
     fn answered(&mut self, words: &[&str], told: &str) {
@@ -236,6 +264,26 @@ impl Reached {
         }
         match (&call[..], done) {
             ("build energy", true) if rest[1] == "0" => self.reach("total asked for"),
+            ("build out", true) if rest[1] == "0" => {
+                self.reach("total of what went out asked for");
+            }
+            ("value eqm", true) => self.reach(&format!("a value of {} decimals", rest[0])),
+            ("value eqm", false) if told[0] == "25" => {
+                let read = |decimals: &str| {
+                    let line = ["value eqm", decimals, rest[1]].join(" ");
+                    model::headbench::answer(line.as_bytes()).is_some_and(|told| &told[..2] == "1 ")
+                };
+                if ["2", "3", "4"].into_iter().any(read) {
+                    self.reach("a value of other decimals");
+                }
+            }
+            ("session", false)
+                if told[0] == "9"
+                    && rest[0] == "0"
+                    && rest.iter().any(|word| word.starts_with('G')) =>
+            {
+                self.reach("session: 9 for G in document 01's family");
+            }
             ("build table" | "build settable", true) if rest[2] == "24" => self.reach("table 24"),
             ("build table" | "build settable", true) if rest[2] == "25" => self.reach("table 25"),
             ("build table", false) if edition == Some("1") && rest[2] == "25" => {

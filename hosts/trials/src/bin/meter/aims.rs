@@ -313,12 +313,21 @@ impl Aim<'_> {
             ..
         } = facts;
         // Edition, link and decimals, or what stands for them where they are left out.
-        let kind = chance.one_of(&[
-            "", " 1", " 1 1", " 1 2", " 1 2", " 1 2 0", " 1 1 0", " 1 3", " 1 0 0", " 0 2", " 3",
-            " 1 2 1", " 3 2 5", " 1 2 0 0", " 1 256", " 1 2 x",
-        ]);
+        let kind = match chance.below(3) {
+            0 => chance
+                .one_of(&[
+                    "", " 1", " 1 1", " 1 2", " 2", " 2 2", " 1 3", " 1 0 0", " 0 2", " 3",
+                    " 1 2 1", " 3 2 5", " 1 2 0 0", " 1 256", " 1 2 x", " 1 2 256", " 2 3 5",
+                ])
+                .to_string(),
+            _ => {
+                let (edition, link) = (chance.one_of(&[1, 2]), chance.one_of(&[1, 2]));
+                let decimals = chance.one_of(&[0, 2, 2, 3, 3, 4, 4, 1, 5]);
+                format!(" {edition} {link} {decimals}")
+            }
+        };
         self.player
-            .line(new_line(&serial, &account, &password, clock) + kind);
+            .line(new_line(&serial, &account, &password, clock) + &kind);
         self.player.dump();
     }
 
@@ -381,7 +390,18 @@ impl Aim<'_> {
         let mode = chance.below(5) as u8;
         let mut meter = state(chance, mode);
         for _ in 0..chance.one_of(&[1, 1, 1, 2, 4]) {
-            match chance.below(20) {
+            match chance.below(25) {
+                20 => meter.decimals = chance.one_of(&[0, 1, 2, 3, 4, 5, 255]),
+                21 => meter.exported[chance.below(4)] = chance.one_of(&ENDS),
+                22 => {
+                    meter.exported[chance.below(4)] = chance.one_of(&ENDS);
+                    meter = totalled(meter);
+                }
+                23 => meter.exported_total = meter.exported_total.wrapping_add(1),
+                24 => {
+                    meter.counters[chance.below(4)] = chance.one_of(&ENDS);
+                    meter = totalled(meter);
+                }
                 0 => meter.mode = chance.between(5, 255) as u8,
                 1 => meter.count = chance.byte(),
                 2 => meter.held[chance.below(PLACES)] = chance.byte(),
@@ -478,7 +498,8 @@ impl Aim<'_> {
 
     fn pulses(&mut self) {
         for _ in 0..self.chance.between(1, 3) {
-            let wh = match self.chance.weighed(&[10, 15, 8, 3, 2, 40, 5]) {
+            let out = self.chance.percent(50);
+            let units = match self.chance.weighed(&[10, 15, 8, 3, 2, 40, 5]) {
                 0 => 0,
                 1 => 1_000_000,
                 2 => 1_000_001,
@@ -487,11 +508,15 @@ impl Aim<'_> {
                 5 => self.chance.below(1_000_001) as u32,
                 _ => {
                     // Just up to the roll-over of some zone, when it is near.
-                    let counter = self.chance.one_of(&self.player.meter().counters);
-                    1_000_000_000_u32.saturating_sub(counter).min(1_000_000)
+                    let meter = self.player.meter();
+                    let counters = if out { meter.exported } else { meter.counters };
+                    let end = meter.counter_end();
+                    let counter = self.chance.one_of(&counters);
+                    end.saturating_sub(counter).min(1_000_000)
                 }
             };
-            self.player.line(format!("pulse {wh}"));
+            let way = if out { " out" } else { "" };
+            self.player.line(format!("pulse {units}{way}"));
         }
     }
 
@@ -519,7 +544,8 @@ impl Aim<'_> {
     /// A good line spoiled by one byte; now and then it stays a command.
     fn no_command(&mut self) {
         let meter = self.player.meter();
-        let mut line = match self.chance.below(10) {
+        let mut line = match self.chance.below(11) {
+            10 => "pulse 1000 out".into(),
             0 => "dump".into(),
             8 => "card 685".into(),
             9 => "frame 8142300371 4096".into(),

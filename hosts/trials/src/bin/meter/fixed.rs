@@ -33,10 +33,13 @@ struct Shown {
     attempts: u8,
     clock: &'static str,
     counters: &'static str,
+    decimals: u8,
+    /// Counters of what went out.
+    exported: &'static str,
     /// Table and row, where not all '1'.
     row: (usize, &'static str),
     speed: u8,
-    /// The periods, each in nine fields, the newest first.
+    /// The periods, each in nine fields, or of an EQM meter in thirteen, the newest first.
     periods: &'static [&'static str],
 }
 
@@ -52,6 +55,8 @@ const MADE: Shown = Shown {
     attempts: 0,
     clock: "2024 2 29 8 5 9",
     counters: "0 0 0 0",
+    decimals: 0,
+    exported: "0 0 0 0",
     row: (1, ALL_ONES),
     speed: 0,
     periods: &[],
@@ -95,19 +100,29 @@ impl Shown {
             tables += &hex(if table == changed { row } else { ALL_ONES }.bytes());
         }
         tables += &"00".repeat(24);
-        let sum: u64 = self
-            .counters
-            .split(' ')
-            .map(|wh| wh.parse::<u64>().unwrap())
-            .sum();
-        let total = sum % 1_000_000_000;
+        let end = match self.decimals {
+            0 => 1_000_000_000,
+            _ => 100_000_000,
+        };
+        let total = |counters: &str| {
+            let counters = counters
+                .split(' ')
+                .map(|count| count.parse::<u64>().unwrap());
+            counters.sum::<u64>() % end
+        };
+        let (total, out) = (total(self.counters), total(self.exported));
+        let told = format!("{total} {} {} {out}", self.decimals, self.exported);
         let mut periods = self.periods.len().to_string();
         for place in 0..12 {
+            let fields = self.periods.get(place).unwrap_or(&"0 0 0 0 0 0 0 0 0");
             periods += " ";
-            periods += self.periods.get(place).unwrap_or(&"0 0 0 0 0 0 0 0 0");
+            periods += fields;
+            if fields.split(' ').count() == 9 {
+                periods += " 0 0 0 0";
+            }
         }
         format!(
-            "{} {count} {} {held} {} {} {} {} {} {} {tables} {} {} 1 {total} {periods} 1",
+            "{} {count} {} {held} {} {} {} {} {} {} {tables} {} {} 1 {told} {periods} 1",
             self.mode,
             self.mark,
             hex(self.serial.bytes()),
@@ -271,6 +286,7 @@ pub fn all() -> Vec<Played> {
             registers(),
             events(),
             months(),
+            eqm(),
             states(),
             script_rules(),
         ]
@@ -289,9 +305,9 @@ fn by_hand() -> Fixed {
     let taken = "0 5 0 - 0\n".repeat(35) + "1 5 1 06 0";
     let state = format!(
         "4 0 0 {} 31323334353637383930 4b696c6e5f37206f6c64 3230333034303530 0 2024 2 29 8 5 9 \
-         0 0 0 0 {tables} 5 0 1 0 0{} 1",
+         0 0 0 0 {tables} 5 0 1 0 0 0 0 0 0 0 0{} 1",
         "00".repeat(63),
-        " 0 0 0 0 0 0 0 0 0".repeat(12)
+        " 0 0 0 0 0 0 0 0 0 0 0 0 0".repeat(12)
     );
     Fixed::empty("a session byte by byte")
         .line(
@@ -1280,6 +1296,242 @@ fn months() -> Vec<Fixed> {
     ]
 }
 
+/// EQM meters: counters of eight digits in either direction.
+fn eqm() -> Vec<Fixed> {
+    let new = |kind: &str| {
+        format!(
+            "new 31323334353637383930 4b696c6e5f37206f6c64 3230333034303530 2024 2 29 8 5 9 {kind}"
+        )
+    };
+    let counted = Shown {
+        counters: "99999999 2 30 400",
+        exported: "1500 0 0 99999999",
+        ..MADE
+    };
+    let reading = |decimals| Shown {
+        mode: 3,
+        speed: 5,
+        decimals,
+        ..counted
+    };
+    let lines = [
+        "\x02C.1.0(123 4567890)\r\n0.9.2(24-02-29)\r\n0.9.1(08:05:09)\r\n0.0.0(Kiln_7 old)\r\n",
+        "1.8.1(99999.999*kWh)\r\n1.8.2(00000.002*kWh)\r\n1.8.3(00000.030*kWh)\r\n",
+        "1.8.4(00000.400*kWh)\r\n1.8.0(00000.431*kWh)\r\n2.8.1(00001.500*kWh)\r\n",
+        "2.8.2(00000.000*kWh)\r\n2.8.3(00000.000*kWh)\r\n2.8.4(99999.999*kWh)\r\n",
+        "2.8.0(00001.499*kWh)\r\n",
+    ];
+    let mut block = lines.concat();
+    for table in 1..=24 {
+        block += &format!("131.0.{table:02}({ALL_ONES})\r\n");
+    }
+    let period = [
+        "0.1.2*01(24-02-29 08:05)\r\n1.8.1*01(99999.999*kWh)\r\n1.8.2*01(00000.002*kWh)\r\n",
+        "1.8.3*01(00000.030*kWh)\r\n1.8.4*01(00000.400*kWh)\r\n2.8.1*01(00001.500*kWh)\r\n",
+        "2.8.2*01(00000.000*kWh)\r\n2.8.3*01(00000.000*kWh)\r\n2.8.4*01(99999.999*kWh)\r\n",
+    ];
+    let with_period = block.clone() + &period.concat() + "!\r\n\x03\x71";
+    block += "!\r\n\x03\x76";
+    assert_eq!((block.len(), with_period.len()), (1_163, 1_389));
+    let mut scripts = vec![
+        Fixed::empty("the factory looks at edition, decimals and facts")
+            .line(&new("1 1 2"), "1")
+            .dump(Shown {
+                decimals: 2,
+                ..MADE
+            })
+            .line(&new("1 1 1"), "18")
+            .dump(BLANK)
+            .line(&new("1 1 5"), "18")
+            .line(&new("1 1 255"), "18")
+            .line(&new("1 3 5"), "18")
+            .line(&new("1 3 4"), "15")
+            .line(&new("3 3 5"), "16")
+            .line(&new("1 1 256"), "error")
+            .line(&new("1 1 0 0"), "error")
+            .dump(BLANK),
+        Fixed::empty("three decimals, both directions")
+            .set(reading(3))
+            .frame(
+                "\x01R1\x02E0()\x03\x16",
+                1,
+                "\x021.8.0(00000.431*kWh)\r\n\x03\x6A",
+            )
+            .frame(
+                "\x01R1\x02E1()\x03\x17",
+                1,
+                "\x021.8.1(99999.999*kWh)\r\n\x03\x6D",
+            )
+            .frame(
+                "\x01R1\x02G0()\x03\x14",
+                1,
+                "\x022.8.0(00001.499*kWh)\r\n\x03\x6A",
+            )
+            .frame(
+                "\x01R1\x02G1()\x03\x15",
+                1,
+                "\x022.8.1(00001.500*kWh)\r\n\x03\x6A",
+            )
+            .frame(
+                "\x01R1\x02G4()\x03\x10",
+                1,
+                "\x022.8.4(99999.999*kWh)\r\n\x03\x6B",
+            )
+            .frame("\x01R1\x02G5()\x03\x11", 9, NAK)
+            .frame("\x01R1\x02E5()\x03\x13", 9, NAK)
+            .frame("\x01R1\x02G()\x03\x24", 9, NAK)
+            .dump(reading(3)),
+        Fixed::reading("no export in document 01's family")
+            .frame("\x01R1\x02G0()\x03\x14", 9, NAK)
+            .frame("\x01R1\x02G1()\x03\x15", 9, NAK),
+        Fixed::empty("the block has ten lines of energy")
+            .set(Shown {
+                mode: 1,
+                decimals: 3,
+                ..counted
+            })
+            .send("\x06050\r\n", 0, 1, 5, &block),
+        Fixed::empty("a closed period of an EQM meter has eight counters")
+            .set(Shown {
+                decimals: 3,
+                ..counted
+            })
+            .send("/C!\r\n", 0, 1, 0, IDENTIFICATION)
+            .send("\x06056\r\n", 0, 1, 5, &with_period)
+            .dump(Shown {
+                decimals: 3,
+                periods: &["2024 2 29 8 5 99999999 2 30 400 1500 0 0 99999999"],
+                ..counted
+            }),
+        Fixed::empty("a pulse says its direction, and each rolls over on its own")
+            .set(Shown {
+                decimals: 4,
+                counters: "99999999 0 0 5",
+                exported: "99000000 0 0 7",
+                ..MADE
+            })
+            .line("pulse 1", "1 0")
+            .line("pulse 1000000 out", "1 0")
+            .line("pulse 0 out", "1 0")
+            .line("pulse 3", "1 0")
+            .line("pulse 1000001 out", "13 0")
+            .line("pulse 4294967295 out", "13 0")
+            .line("pulse 1000001", "13 0")
+            .dump(Shown {
+                decimals: 4,
+                counters: "3 0 0 5",
+                exported: "0 0 0 7",
+                ..MADE
+            }),
+        Fixed::listening("document 01's family counts nothing out")
+            .line("pulse 0 out", "13 0")
+            .line("pulse 1000001 out", "13 0")
+            .dump(MADE)
+            .kept(
+                Shown {
+                    attempts: 4,
+                    ..MADE
+                },
+                "pulse 1 out",
+                "13 0",
+            )
+            .kept(
+                Shown {
+                    decimals: 1,
+                    ..MADE
+                },
+                "pulse 1 out",
+                "14 0",
+            ),
+    ];
+    for (decimals, first, total, out, total_out) in [
+        (2, "999999.99", "000004.31", "000015.00", "000014.99"),
+        (4, "9999.9999", "0000.0431", "0000.1500", "0000.1499"),
+    ] {
+        scripts.push(
+            Fixed::empty("two decimals, and four")
+                .set(reading(decimals))
+                .frame(
+                    "\x01R1\x02E1()\x03\x17",
+                    1,
+                    &format!("\x021.8.1({first}*kWh)\r\n\x03\x6D"),
+                )
+                .frame(
+                    "\x01R1\x02E0()\x03\x16",
+                    1,
+                    &format!("\x021.8.0({total}*kWh)\r\n\x03\x6A"),
+                )
+                .frame(
+                    "\x01R1\x02G1()\x03\x15",
+                    1,
+                    &format!("\x022.8.1({out}*kWh)\r\n\x03\x6A"),
+                )
+                .frame(
+                    "\x01R1\x02G0()\x03\x14",
+                    1,
+                    &format!("\x022.8.0({total_out}*kWh)\r\n\x03\x6A"),
+                ),
+        );
+    }
+    for (malformed, name) in [
+        (
+            Shown {
+                decimals: 1,
+                ..MADE
+            },
+            "decimals that are none",
+        ),
+        (
+            Shown {
+                decimals: 5,
+                ..MADE
+            },
+            "five decimals",
+        ),
+        (
+            Shown {
+                exported: "0 0 1 0",
+                ..MADE
+            },
+            "an exported counter in document 01's family",
+        ),
+        (
+            Shown {
+                periods: &["2024 2 29 8 5 0 0 0 0 0 0 0 1"],
+                ..MADE
+            },
+            "an exported counter of a period in document 01's family",
+        ),
+        (
+            Shown {
+                decimals: 2,
+                counters: "100000000 0 0 0",
+                ..MADE
+            },
+            "a counter of nine digits",
+        ),
+        (
+            Shown {
+                decimals: 2,
+                exported: "0 0 0 100000000",
+                ..MADE
+            },
+            "an exported counter of nine digits",
+        ),
+        (
+            Shown {
+                decimals: 2,
+                periods: &["2024 2 29 8 5 0 0 0 0 0 0 100000000 0"],
+                ..MADE
+            },
+            "an exported counter of a period of nine digits",
+        ),
+    ] {
+        scripts.push(Fixed::empty(name).kept(malformed, "tick", "14 0"));
+    }
+    scripts
+}
+
 fn states() -> Vec<Fixed> {
     let broken = Shown {
         attempts: 4,
@@ -1396,6 +1648,11 @@ fn script_rules() -> Vec<Fixed> {
         "pulse",
         "pulse -1",
         "pulse 4294967296",
+        "pulse 1 in",
+        "pulse 1 OUT",
+        "pulse out",
+        "pulse 1 out 1",
+        "pulse 4294967296 out",
         "byte",
         "byte AF",
         "byte af 8193",
@@ -1433,10 +1690,14 @@ fn script_rules() -> Vec<Fixed> {
             .line(&spoiled(21, "256"), "error")
             .line(&spoiled(22, "4294967296"), "error")
             .line(&spoiled(23, "256"), "error")
-            .line(&spoiled(24, "65536"), "error")
-            .line(&spoiled(28, "256"), "error")
-            .line(&spoiled(29, "4294967296"), "error")
-            .line(&spoiled(23, "0 0"), "error")
+            .line(&spoiled(24, "4294967296"), "error")
+            .line(&spoiled(28, "4294967296"), "error")
+            .line(&spoiled(29, "256"), "error")
+            .line(&spoiled(30, "65536"), "error")
+            .line(&spoiled(34, "256"), "error")
+            .line(&spoiled(35, "4294967296"), "error")
+            .line(&spoiled(42, "4294967296"), "error")
+            .line(&spoiled(29, "0 0"), "error")
             .line(&format!("set 256{}", &shown[1..]), "error")
             .line(&format!("set 0 0 256{}", &shown[5..]), "error")
             .dump(MADE)

@@ -58,7 +58,7 @@ impl<'a> Player<'a> {
         self.answers += answers.matches('\n').count();
         match parse(line) {
             None => self.reached.reach("script line that is an error"),
-            Some(Command::New { .. }) => self.reached.made(answers),
+            Some(Command::New { .. }) => self.reached.made(line, answers),
             Some(Command::Set(_)) => self.reached.reach("set"),
             Some(Command::Dump) => self.reached.reach("dump"),
             Some(Command::Card { .. }) => self.reached.card(answers),

@@ -3,8 +3,8 @@
 
 use model::bench::Event;
 use model::meter::{
-    data_bits, days_in_month, Answer, Meter, Period, COUNTER_END, ETX, LF, PERIODS, PULSE_MOST,
-    ROOM, SOH, STX,
+    data_bits, days_in_month, Answer, Meter, Period, Way, COUNTER_END, EQM_END, ETX, LF, PERIODS,
+    PULSE_MOST, ROOM, SOH, STX, WIRED,
 };
 use std::collections::BTreeMap;
 
@@ -13,6 +13,8 @@ const AIMS: &[&str] = &[
     "new, good facts",
     "new, bad facts",
     "new, no edition",
+    "new, no decimals",
+    "new, no decimals before bad facts",
     "card of no edition",
     "pulse of edition 2, Saturday",
     "pulse of edition 2, Sunday",
@@ -99,6 +101,16 @@ const AIMS: &[&str] = &[
     "read E2",
     "read E3",
     "read E4",
+    "read E0 of an EQM meter",
+    "read E1 to E4 of an EQM meter",
+    "read G0",
+    "read G1",
+    "read G2",
+    "read G3",
+    "read G4",
+    "exported total over 100,000,000",
+    "G of document 01's family refused with 9",
+    "G5 of an EQM meter refused with 9",
     "read Z",
     "read refused with 9",
     "total over 1,000,000,000",
@@ -139,6 +151,27 @@ const AIMS: &[&str] = &[
     "pulse over the roll-over",
     "total over the roll-over",
     "pulse to exactly 0",
+    "pulse out of 0",
+    "pulse out of 1,000,000",
+    "pulse out of 1,000,001",
+    "pulse out of 4,294,967,295",
+    "pulse out of document 01's family",
+    "pulse out of an EQM meter",
+    "pulse in of an EQM meter",
+    "pulse out over the roll-over",
+    "exported total over the roll-over",
+    "pulse in over the roll-over of an EQM meter",
+    "total over the roll-over of an EQM meter",
+    "pulse out of edition 2, Saturday",
+    "EQM of edition 1, optical",
+    "EQM of edition 2, optical",
+    "EQM of edition 1, wired",
+    "EQM of edition 2, wired",
+    "EQM block of 2 decimals",
+    "EQM block of 3 decimals",
+    "EQM block of 4 decimals",
+    "EQM block with twelve periods",
+    "closed with exported counters that are not 0",
     "pulse, Monday to Friday",
     "pulse, Saturday",
     "pulse, Sunday",
@@ -154,6 +187,8 @@ const AIMS: &[&str] = &[
     "14 to a tick",
     "14 to power-up",
     "14 to a pulse",
+    "14 to a pulse out",
+    "13 before 14, pulse out of document 01's family",
     "12 before 14, character",
     "12 before 14, silence",
     "13 before 14",
@@ -199,6 +234,13 @@ const RANGES: &[&str] = &[
     "counter 4",
     "total",
     "total not rolled over",
+    "decimals",
+    "counter of an EQM meter",
+    "exported counter",
+    "exported total",
+    "exported total not rolled over",
+    "exported counter of document 01's family",
+    "exported total of document 01's family",
     "table",
     "edition",
     "table 25 of edition 1",
@@ -213,6 +255,9 @@ const RANGES: &[&str] = &[
     "period's hour",
     "period's minute",
     "period's counter",
+    "period's counter of an EQM meter",
+    "period's exported counter",
+    "period's exported counter of document 01's family",
     "period in an unused place",
 ];
 
@@ -220,17 +265,26 @@ const RANGES: &[&str] = &[
 const ROOMS: [usize; 6] = [0, 1, ROOM - 1, ROOM, ROOM + 1, 8_192];
 
 /// Names of the events in print.
-const EVENTS: [&str; 5] = ["character", "silence", "tick", "power-up", "pulse"];
+const EVENTS: [&str; 6] = [
+    "character",
+    "silence",
+    "tick",
+    "power-up",
+    "pulse",
+    "pulse out",
+];
 
 pub struct Reached {
     pub events: u64,
     /// Of a good meter of edition 2.
     pub second: u64,
+    /// Of a good EQM meter.
+    pub eqm: u64,
     answers: [u64; 17],
     /// Answers to characters by mode.
     modes: [[u64; 17]; 5],
     /// Events by kind and mode.
-    kinds: [[u64; 5]; 5],
+    kinds: [[u64; 5]; 6],
     aims: BTreeMap<&'static str, u64>,
     broken: BTreeMap<&'static str, u64>,
     rooms: [[u64; 6]; 2],
@@ -245,6 +299,7 @@ pub struct Reached {
     tables_read: [u64; 25],
     tables_written: [u64; 25],
     zones: [u64; 4],
+    zones_out: [u64; 4],
     /// Periods closed by a tick, by mode, and by the sign-on, by how many were kept before.
     closed_by_tick: [u64; 5],
     closed_by_line: [u64; PERIODS + 1],
@@ -257,9 +312,10 @@ impl Reached {
         Reached {
             events: 0,
             second: 0,
+            eqm: 0,
             answers: [0; 17],
             modes: [[0; 17]; 5],
-            kinds: [[0; 5]; 5],
+            kinds: [[0; 5]; 6],
             aims: BTreeMap::new(),
             broken: BTreeMap::new(),
             rooms: [[0; 6]; 2],
@@ -271,6 +327,7 @@ impl Reached {
             tables_read: [0; 25],
             tables_written: [0; 25],
             zones: [0; 4],
+            zones_out: [0; 4],
             closed_by_tick: [0; 5],
             closed_by_line: [0; PERIODS + 1],
             blocks: [0; PERIODS + 1],
@@ -294,6 +351,9 @@ impl Reached {
         if kept.windows(2).any(|pair| age(&pair[0]) < age(&pair[1])) {
             self.reach("closed with other periods out of order");
         }
+        if before.exported != [0; 4] {
+            self.reach("closed with exported counters that are not 0");
+        }
         match kept.len() {
             0 => self.reach("closed where none was kept"),
             PERIODS => self.reach("closed where twelve were kept"),
@@ -307,13 +367,19 @@ impl Reached {
     }
 
     /// A `new` and its answer line.
-    pub fn made(&mut self, answer: &str) {
+    pub fn made(&mut self, line: &[u8], answer: &str) {
         if answer == "1\n" {
             self.answers[1] += 1;
             self.reach("new, good facts");
         } else if answer == "16\n" {
             self.answers[16] += 1;
             self.reach("new, no edition");
+        } else if answer == "18\n" {
+            self.reach("new, no decimals");
+            let link = line.split(|&byte| byte == b' ').nth(11);
+            if matches!(link, Some(b"0" | b"3")) {
+                self.reach("new, no decimals before bad facts");
+            }
         } else {
             self.answers[15] += 1;
             self.reach("new, bad facts");
@@ -338,19 +404,24 @@ impl Reached {
             Event::Silence { .. } => 1,
             Event::Tick => 2,
             Event::PowerUp => 3,
-            Event::Pulse { .. } => 4,
+            Event::Pulse { way: Way::In, .. } => 4,
+            Event::Pulse { .. } => 5,
         };
         if let Event::Character { room, .. } | Event::Silence { room } = event {
             if let Some(place) = ROOMS.iter().position(|&known| known == room) {
                 self.rooms[kind][place] += 1;
             }
         }
-        if let Event::Pulse { wh } = event {
-            match wh {
-                0 => self.reach("pulse of 0"),
-                PULSE_MOST => self.reach("pulse of 1,000,000"),
-                1_000_001 => self.reach("pulse of 1,000,001"),
-                u32::MAX => self.reach("pulse of 4,294,967,295"),
+        if let Event::Pulse { way, units } = event {
+            match (way, units) {
+                (Way::In, 0) => self.reach("pulse of 0"),
+                (Way::In, PULSE_MOST) => self.reach("pulse of 1,000,000"),
+                (Way::In, 1_000_001) => self.reach("pulse of 1,000,001"),
+                (Way::In, u32::MAX) => self.reach("pulse of 4,294,967,295"),
+                (Way::Out, 0) => self.reach("pulse out of 0"),
+                (Way::Out, PULSE_MOST) => self.reach("pulse out of 1,000,000"),
+                (Way::Out, 1_000_001) => self.reach("pulse out of 1,000,001"),
+                (Way::Out, u32::MAX) => self.reach("pulse out of 4,294,967,295"),
                 _ => {}
             }
         }
@@ -361,10 +432,30 @@ impl Reached {
             "the trial's own list of ranges and the model differ: {broken:?} {before:?}"
         );
         if !broken.is_empty() {
-            return self.malformed(&broken, kind, answer.number);
+            let none = before.decimals == 0
+                && matches!(
+                    event,
+                    Event::Pulse {
+                        units: 0..=1_000_000,
+                        ..
+                    }
+                );
+            return self.malformed(&broken, kind, answer.number, none);
         }
         self.kinds[kind][usize::from(before.mode)] += 1;
         self.second += u64::from(before.edition == 2);
+        if before.decimals != 0 {
+            self.eqm += 1;
+            self.reach(match (before.edition, before.link) {
+                (1, WIRED) => "EQM of edition 1, wired",
+                (1, _) => "EQM of edition 1, optical",
+                (_, WIRED) => "EQM of edition 2, wired",
+                _ => "EQM of edition 2, optical",
+            });
+        }
+        if kind == 5 && before.decimals == 0 {
+            self.reach("pulse out of document 01's family");
+        }
         if answer.number == 3 {
             self.hurt(before, answer.place);
         }
@@ -383,7 +474,7 @@ impl Reached {
                     self.reach("power-up with something held");
                 }
             }
-            Event::Pulse { wh } => self.pulse(before, wh, after),
+            Event::Pulse { way, units } => self.pulse(before, way, units, after),
         }
     }
 
@@ -399,7 +490,10 @@ impl Reached {
         }
     }
 
-    fn malformed(&mut self, broken: &[&'static str], kind: usize, number: u8) {
+    fn malformed(&mut self, broken: &[&'static str], kind: usize, number: u8, none: bool) {
+        if kind == 5 && number == 13 && none {
+            self.reach("13 before 14, pulse out of document 01's family");
+        }
         match broken {
             [range] => *self.broken.entry(range).or_default() += 1,
             _ => self.reach("several ranges broken"),
@@ -413,7 +507,8 @@ impl Reached {
             (_, 1) => "14 to silence",
             (_, 2) => "14 to a tick",
             (_, 3) => "14 to power-up",
-            _ => "14 to a pulse",
+            (_, 4) => "14 to a pulse",
+            _ => "14 to a pulse out",
         });
     }
 
@@ -527,6 +622,18 @@ impl Reached {
         let good = before.mark == 0 && got == Some(LF);
         if good && matches!(before.held(), [0x06, b'0', b'0' | b'5', b'6', b'\r']) {
             self.blocks[usize::from(before.closed)] += 1;
+            if before.decimals != 0 && before.closed == 12 {
+                self.reach("EQM block with twelve periods");
+            }
+        }
+        let asks = matches!(before.held(), [0x06, b'0', b'5', b'0' | b'6' | b'7', b'\r']);
+        if good && asks {
+            match before.decimals {
+                2 => self.reach("EQM block of 2 decimals"),
+                3 => self.reach("EQM block of 3 decimals"),
+                4 => self.reach("EQM block of 4 decimals"),
+                _ => {}
+            }
         }
         self.reach(match (after.mode, before.held()) {
             (2, _) if after.speed == 0 => "slow confirmation '1'",
@@ -627,7 +734,16 @@ impl Reached {
             }),
             (b"P1", 1 | 9 | 10 | 11) => self.password(before, data, number),
             (b"R1", 1) => self.read(before, data),
-            (b"R1", 9) => self.reach("read refused with 9"),
+            (b"R1", 9) => {
+                self.reach("read refused with 9");
+                match (data, before.decimals) {
+                    ([b'G', b'0'..=b'4', b'(', b')'], 0) => {
+                        self.reach("G of document 01's family refused with 9");
+                    }
+                    (b"G5()", 2..=4) => self.reach("G5 of an EQM meter refused with 9"),
+                    _ => {}
+                }
+            }
             (b"W1", 1 | 9) => self.write(before, data, number, after),
             _ => {}
         }
@@ -660,8 +776,23 @@ impl Reached {
             b"E2" => "read E2",
             b"E3" => "read E3",
             b"E4" => "read E4",
+            b"G0" => "read G0",
+            b"G1" => "read G1",
+            b"G2" => "read G2",
+            b"G3" => "read G3",
+            b"G4" => "read G4",
             _ => "read Z",
         });
+        if data[0] == b'E' && before.decimals != 0 {
+            self.reach(match data[1] {
+                b'0' => "read E0 of an EQM meter",
+                _ => "read E1 to E4 of an EQM meter",
+            });
+        }
+        let out: u64 = before.exported.iter().map(|&units| u64::from(units)).sum();
+        if data.starts_with(b"G0") && out >= u64::from(EQM_END) {
+            self.reach("exported total over 100,000,000");
+        }
         let total: u64 = before.counters.iter().map(|&wh| u64::from(wh)).sum();
         if data.starts_with(b"E0") && total >= u64::from(COUNTER_END) {
             self.reach("total over 1,000,000,000");
@@ -738,7 +869,25 @@ impl Reached {
         }
     }
 
-    fn pulse(&mut self, before: &Meter, wh: u32, after: &Meter) {
+    fn pulse_out(&mut self, before: &Meter, day: u32, after: &Meter) {
+        self.reach("pulse out of an EQM meter");
+        if before.edition == 2 && day == 6 {
+            self.reach("pulse out of edition 2, Saturday");
+        }
+        if after.exported_total < before.exported_total {
+            self.reach("exported total over the roll-over");
+        }
+        for zone in 0..4 {
+            if after.exported[zone] != before.exported[zone] {
+                self.zones_out[zone] += 1;
+            }
+            if after.exported[zone] < before.exported[zone] {
+                self.reach("pulse out over the roll-over");
+            }
+        }
+    }
+
+    fn pulse(&mut self, before: &Meter, way: Way, units: u32, after: &Meter) {
         let day = weekday(before);
         self.reach(match day {
             6 => "pulse, Saturday",
@@ -759,8 +908,18 @@ impl Reached {
             });
         }
         self.tables_used[table] += 1;
+        if way == Way::Out {
+            return self.pulse_out(before, day, after);
+        }
+        let eqm = before.decimals != 0;
+        if eqm {
+            self.reach("pulse in of an EQM meter");
+        }
         if after.total < before.total {
             self.reach("total over the roll-over");
+            if eqm {
+                self.reach("total over the roll-over of an EQM meter");
+            }
         }
         for zone in 0..4 {
             if after.counters[zone] != before.counters[zone] {
@@ -768,7 +927,10 @@ impl Reached {
             }
             if after.counters[zone] < before.counters[zone] {
                 self.reach("pulse over the roll-over");
-                if wh > 0 && after.counters[zone] == 0 {
+                if eqm {
+                    self.reach("pulse in over the roll-over of an EQM meter");
+                }
+                if units > 0 && after.counters[zone] == 0 {
                     self.reach("pulse to exactly 0");
                 }
             }
@@ -838,6 +1000,7 @@ impl Reached {
         row("tables written", &self.tables_written, 1);
         row("tables used by a pulse", &self.tables_used, 1);
         row("zones counted in", &self.zones, 1);
+        row("zones counted out", &self.zones_out, 1);
         row("periods closed by a tick, by mode", &self.closed_by_tick, 0);
         row(
             "periods closed by /C!, by those kept",
@@ -852,6 +1015,10 @@ impl Reached {
                     missed.push(format!("room {room} lent to {event}"));
                 }
             }
+        }
+        println!("events of EQM meters: {}", self.eqm);
+        if self.eqm < 500_000 {
+            missed.push("half a million events of EQM meters".into());
         }
         for aim in AIMS {
             let count = self.aims.get(aim).copied().unwrap_or(0);
@@ -957,15 +1124,43 @@ fn broken_ranges(meter: &Meter) -> Vec<&'static str> {
     must(clock.hour < 24, "hour");
     must(clock.minute < 60, "minute");
     must(clock.second < 60, "second");
+    must(matches!(meter.decimals, 0 | 2..=4), "decimals");
+    let eqm = meter.decimals != 0;
     must(meter.counters[0] < COUNTER_END, "counter 1");
     must(meter.counters[1] < COUNTER_END, "counter 2");
     must(meter.counters[2] < COUNTER_END, "counter 3");
     must(meter.counters[3] < COUNTER_END, "counter 4");
-    let sum: u64 = meter.counters.iter().map(|&wh| u64::from(wh)).sum();
-    let kept = sum % u64::from(COUNTER_END) == u64::from(meter.total);
+    // Eight digits, of which the ninth may be one too many.
+    let nine = |counters: &[u32; 4]| {
+        let ninth = EQM_END..COUNTER_END;
+        counters.iter().any(|count| ninth.contains(count))
+    };
+    must(!eqm || !nine(&meter.counters), "counter of an EQM meter");
+    let end = u64::from(if eqm { EQM_END } else { COUNTER_END });
+    let added = |counters: &[u32; 4]| counters.iter().map(|&count| u64::from(count)).sum::<u64>();
+    let sum = added(&meter.counters);
+    let kept = sum % end == u64::from(meter.total);
     let whole = u64::from(meter.total) == sum;
     must(kept || whole, "total");
     must(kept || !whole, "total not rolled over");
+    if eqm {
+        let good = meter.exported.iter().all(|&count| count < EQM_END);
+        must(good, "exported counter");
+        let sum = added(&meter.exported);
+        let kept = sum % end == u64::from(meter.exported_total);
+        let whole = u64::from(meter.exported_total) == sum;
+        must(kept || whole, "exported total");
+        must(kept || !whole, "exported total not rolled over");
+    } else {
+        must(
+            meter.exported == [0; 4],
+            "exported counter of document 01's family",
+        );
+        must(
+            meter.exported_total == 0,
+            "exported total of document 01's family",
+        );
+    }
     let zone = |c: &u8| matches!(c, b'1'..=b'4');
     must((1..=2).contains(&meter.edition), "edition");
     must(meter.tables[..24].iter().flatten().all(zone), "table");
@@ -1004,6 +1199,18 @@ fn broken_ranges(meter: &Meter) -> Vec<&'static str> {
     must(
         all(|period| period.counters.iter().all(|&wh| wh < COUNTER_END)),
         "period's counter",
+    );
+    must(
+        !eqm || !kept.iter().any(|period| nine(&period.counters)),
+        "period's counter of an EQM meter",
+    );
+    must(
+        !eqm || all(|period| period.exported.iter().all(|&count| count < EQM_END)),
+        "period's exported counter",
+    );
+    must(
+        eqm || all(|period| period.exported == [0; 4]),
+        "period's exported counter of document 01's family",
     );
     must(
         unused.iter().all(|&period| period == Period::default()),

@@ -4,7 +4,7 @@ use crate::player::{wire, Player};
 use crate::reached::Reached;
 use model::bench::{dump, LINE_MOST};
 use model::meter::{
-    days_in_month, total_of, Clock, Meter, Period, ETX, LF, PERIODS, PLACES, ROOM, SOH, STX, WIRED,
+    days_in_month, Clock, Meter, Period, ETX, LF, PERIODS, PLACES, ROOM, SOH, STX, WIRED,
 };
 use trials::chance::Chance;
 use trials::program::Played;
@@ -16,7 +16,7 @@ pub fn all(
     reached: &mut Reached,
     hold: &mut dyn FnMut(Played) -> Result<(), String>,
 ) -> Result<(), String> {
-    let sweeps: [(&str, Sweep); 15] = [
+    let sweeps: [(&str, Sweep); 16] = [
         ("every byte in every receiver", every_byte),
         ("edges of the receiver", receiver_edges),
         ("damage at every place", damage_everywhere),
@@ -31,6 +31,7 @@ pub fn all(
         ("rooms", rooms),
         ("the calendar", calendar),
         ("closed months", closed_months),
+        ("families", families),
         ("script lines", script_lines),
     ];
     for (place, (name, sweep)) in sweeps.into_iter().enumerate() {
@@ -385,15 +386,25 @@ fn reads(chance: &mut Chance, player: &mut Player) {
         for mode in [3, 4] {
             let mut meter = state(chance, mode);
             if chance.percent(50) {
-                // Sums just around the multiples of a thousand million.
+                // Sums just around the multiples of the end.
+                let last = meter.counter_end() - 1;
                 let part = chance.between(1, 3) as u32;
-                meter.counters = [999_999_999, 999_999_999, 999_999_999, part];
+                meter.counters = [last, last, last, part];
                 meter.counters[chance.below(3)] = chance.below(4) as u32;
-                meter.total = total_of(&meter.counters);
+                if meter.decimals != 0 {
+                    meter.exported = [part, last, last, last];
+                    meter.exported[chance.between(1, 3)] = chance.below(4) as u32;
+                }
+                meter = totalled(meter);
             }
             player.set(&meter);
-            for ask in ["T()", "L()", "K()", "E0()", "E1()", "E2()", "E3()", "E4()"] {
+            for ask in ["T()", "L()", "K()"] {
                 player.send(&read(ask.as_bytes()));
+            }
+            for zone in 0..=5 {
+                for letter in ["E", "G"] {
+                    player.send(&read(format!("{letter}{zone}()").as_bytes()));
+                }
             }
             for table in 0..=26 {
                 player.send(&read(format!("Z({table:02})").as_bytes()));
@@ -489,6 +500,8 @@ fn every_call(chance: &mut Chance, player: &mut Player) {
     player.line("up");
     player.line("pulse 1000000");
     player.line("pulse 1000001");
+    player.line("pulse 1000000 out");
+    player.line("pulse 1000001 out");
     player.dump();
 }
 
@@ -664,7 +677,55 @@ fn broken_states(chance: &mut Chance, player: &mut Player) {
                 4,
                 Box::new(move |meter, _| {
                     meter.counters[zone] = counter;
-                    meter.total = total_of(&meter.counters);
+                    *meter = totalled(meter.clone());
+                }),
+            ));
+        }
+        for counter in [
+            100_000_000,
+            100_000_001,
+            999_999_999,
+            1_000_000_000,
+            u32::MAX,
+        ] {
+            breakings.push((
+                3,
+                Box::new(move |meter, chance| {
+                    let decimals = chance.one_of(&[2, 3, 4]);
+                    *meter = of_family(chance, meter.clone(), decimals);
+                    let counters = match chance.percent(50) {
+                        true => &mut meter.counters,
+                        false => &mut meter.exported,
+                    };
+                    counters[zone] = counter;
+                    *meter = totalled(meter.clone());
+                }),
+            ));
+        }
+        // What document 01's family does not count, with and without the total of it.
+        for counter in [1, 99_999_999, u32::MAX] {
+            breakings.push((
+                2,
+                Box::new(move |meter, chance| {
+                    *meter = of_family(chance, meter.clone(), 0);
+                    meter.exported[zone] = counter;
+                    if chance.percent(30) {
+                        *meter = totalled(meter.clone());
+                    }
+                }),
+            ));
+        }
+    }
+    for decimals in (0..=255).filter(|decimals| ![0, 2, 3, 4].contains(decimals)) {
+        breakings.push((1, Box::new(move |meter, _| meter.decimals = decimals)));
+    }
+    for off in [1, u32::MAX, 50_000_000] {
+        for decimals in [0, 2, 3, 4] {
+            breakings.push((
+                4,
+                Box::new(move |meter, chance| {
+                    *meter = of_family(chance, meter.clone(), decimals);
+                    meter.exported_total = meter.exported_total.wrapping_add(off);
                 }),
             ));
         }
@@ -678,9 +739,18 @@ fn broken_states(chance: &mut Chance, player: &mut Player) {
     // The sum as it is, where it has to roll over.
     breakings.push((
         4,
-        Box::new(|meter, _| {
+        Box::new(|meter, chance| {
+            *meter = of_family(chance, meter.clone(), 0);
             meter.counters = [999_999_999, 1, 0, 0];
             meter.total = 1_000_000_000;
+        }),
+    ));
+    breakings.push((
+        4,
+        Box::new(|meter, chance| {
+            *meter = of_family(chance, meter.clone(), 3);
+            meter.exported = [1, 99_999_999, 0, 0];
+            meter.exported_total = 100_000_000;
         }),
     ));
     for edition in 0..=255 {
@@ -720,8 +790,10 @@ fn broken_states(chance: &mut Chance, player: &mut Player) {
     for mode in 0..=4 {
         let mut meter = state(chance, mode);
         meter.attempts = 3;
-        meter.counters = [999_999_999; 4];
-        meter.total = total_of(&meter.counters);
+        let last = [meter.counter_end() - 1; 4];
+        let exported = if meter.decimals == 0 { [0; 4] } else { last };
+        (meter.counters, meter.exported) = (last, exported);
+        meter = totalled(meter);
         meter.closed = PERIODS as u8;
         for (year, month, day) in [(2000, 1, 1), (2099, 12, 31), (2000, 2, 29), (2099, 2, 28)] {
             meter.periods = [Period {
@@ -730,7 +802,8 @@ fn broken_states(chance: &mut Chance, player: &mut Player) {
                 day,
                 hour: 23,
                 minute: 59,
-                counters: [999_999_999; 4],
+                counters: last,
+                exported,
             }; PERIODS];
             meter.clock = Clock {
                 year,
@@ -748,6 +821,13 @@ fn broken_states(chance: &mut Chance, player: &mut Player) {
 
 type Breaking = Box<dyn Fn(&mut Meter, &mut Chance)>;
 
+/// Periods in just the places that are in use.
+fn close(chance: &mut Chance, meter: &mut Meter) {
+    let (closed, decimals) = (usize::from(meter.closed), meter.decimals);
+    meter.periods = [Period::default(); PERIODS];
+    meter.periods[..closed].fill_with(|| period(chance, decimals));
+}
+
 /// Each range of the period at a place, in an archive that has it, and something where there is none.
 fn break_period(place: usize, add: &mut dyn FnMut(u8, Breaking)) {
     let mut one = |breaking: fn(&mut Period, &mut Chance)| {
@@ -755,12 +835,7 @@ fn break_period(place: usize, add: &mut dyn FnMut(u8, Breaking)) {
             0,
             Box::new(move |meter, chance| {
                 meter.closed = chance.between(place + 1, PERIODS) as u8;
-                for (at, kept) in meter.periods.iter_mut().enumerate() {
-                    *kept = match at < usize::from(meter.closed) {
-                        true => period(chance),
-                        false => Period::default(),
-                    };
-                }
+                close(chance, meter);
                 breaking(&mut meter.periods[place], chance);
             }),
         );
@@ -783,30 +858,37 @@ fn break_period(place: usize, add: &mut dyn FnMut(u8, Breaking)) {
     one(|period, chance| period.hour = chance.one_of(&[24, 25, 255]));
     one(|period, chance| period.minute = chance.one_of(&[60, 61, 255]));
     one(|period, chance| {
-        let wh = chance.one_of(&[1_000_000_000, 1_000_000_001, u32::MAX]);
-        period.counters[chance.below(4)] = wh;
+        let count = chance.one_of(&[1_000_000_000, 1_000_000_001, u32::MAX]);
+        period.counters[chance.below(4)] = count;
     });
+    // One digit too many of an EQM meter, and of another any.
+    for _ in 0..4 {
+        one(|period, chance| {
+            period.counters[chance.below(4)] = chance.one_of(&[100_000_000, 999_999_999]);
+        });
+        one(|period, chance| {
+            let count = chance.one_of(&[100_000_000, 100_000_001, u32::MAX]);
+            period.exported[chance.below(4)] = count;
+        });
+    }
     // A whole period, or one number of it, in an unused place.
-    for number in 0..10 {
+    for number in 0..14 {
         add(
             0,
             Box::new(move |meter, chance| {
                 meter.closed = chance.below(place + 1) as u8;
-                for (at, kept) in meter.periods.iter_mut().enumerate() {
-                    *kept = match at < usize::from(meter.closed) {
-                        true => period(chance),
-                        false => Period::default(),
-                    };
-                }
+                close(chance, meter);
+                let decimals = meter.decimals;
                 let unused = &mut meter.periods[place];
                 match number {
-                    0 => *unused = period(chance),
+                    0 => *unused = period(chance, decimals),
                     1 => unused.year = 2_000,
                     2 => unused.month = 1,
                     3 => unused.day = 1,
                     4 => unused.hour = 1,
                     5 => unused.minute = 1,
-                    counter => unused.counters[counter - 6] = 1,
+                    counter @ 6..=9 => unused.counters[counter - 6] = 1,
+                    counter => unused.exported[counter - 10] = 1,
                 }
             }),
         );
@@ -816,7 +898,7 @@ fn break_period(place: usize, add: &mut dyn FnMut(u8, Breaking)) {
         add(
             0,
             Box::new(move |meter, chance| {
-                meter.periods = [(); PERIODS].map(|()| period(chance));
+                meter.periods = [(); PERIODS].map(|()| period(chance, meter.decimals));
                 meter.closed = closed;
             }),
         );
@@ -826,7 +908,7 @@ fn break_period(place: usize, add: &mut dyn FnMut(u8, Breaking)) {
         Box::new(move |meter, chance| {
             meter.periods = [Period::default(); PERIODS];
             for kept in &mut meter.periods[..place] {
-                *kept = period(chance);
+                *kept = period(chance, meter.decimals);
             }
             meter.closed = place as u8 + 1;
         }),
@@ -847,12 +929,7 @@ fn closed_months(chance: &mut Chance, player: &mut Player) {
             ] {
                 let mut meter = state(chance, mode);
                 meter.closed = count as u8;
-                for (at, kept) in meter.periods.iter_mut().enumerate() {
-                    *kept = match at < count {
-                        true => period(chance),
-                        false => Period::default(),
-                    };
-                }
+                close(chance, &mut meter);
                 meter.clock = Clock {
                     year: chance.between(2000, 2099) as u16,
                     month: chance.one_of(&[1, 3, 5, 7, 8, 10, 12]),
@@ -923,6 +1000,62 @@ fn closed_months(chance: &mut Chance, player: &mut Player) {
     }
 }
 
+/// Every family in every edition on either link: counters of every number of digits, read and in the
+/// block, and pulses of either direction up to their roll-over.
+fn families(chance: &mut Chance, player: &mut Player) {
+    for decimals in [0, 2, 3, 4] {
+        for edition in [1, 2] {
+            for link in [1, WIRED] {
+                for digits in 0..=9 {
+                    let mode = chance.one_of(&[3, 4]);
+                    let mut meter = Meter {
+                        edition: 1,
+                        ..state(chance, mode)
+                    };
+                    meter.tables[24] = [0; 24];
+                    if edition == 2 {
+                        meter = of_edition_2(meter, row(chance));
+                    }
+                    meter = of_family(chance, meter, decimals);
+                    (meter.link, meter.speed) = (link, 5);
+                    let near = 10_u32.pow(digits).min(meter.counter_end());
+                    meter.counters[chance.below(4)] = near - 1;
+                    if decimals != 0 {
+                        meter.exported[chance.below(4)] = near - 1;
+                    }
+                    meter = totalled(meter);
+                    player.set(&meter);
+                    for zone in 0..=4 {
+                        player.send(&read(format!("E{zone}()").as_bytes()));
+                    }
+                    for zone in 0..=4 {
+                        player.send(&read(format!("G{zone}()").as_bytes()));
+                    }
+                    player.dump();
+                    player.set(&Meter {
+                        mode: 1,
+                        speed: if link == WIRED { 5 } else { 0 },
+                        ..meter.clone()
+                    });
+                    player.send(&confirmation(chance.one_of(b"067")));
+                    player.dump();
+                    player.set(&meter);
+                    for way in ["", " out"] {
+                        for units in [0, 1, 999_999, 1_000_000, 1_000_001, u32::MAX] {
+                            player.line(format!("pulse {units}{way}"));
+                            player.dump();
+                        }
+                        for _ in 0..150 {
+                            player.line(format!("pulse {}{way}", chance.below(1_000_001)));
+                        }
+                        player.dump();
+                    }
+                }
+            }
+        }
+    }
+}
+
 /// All 256 values of one character of each register and of the receiver.
 fn register_characters(chance: &mut Chance, player: &mut Player) {
     for value in 0..=255 {
@@ -968,13 +1101,25 @@ fn register_characters(chance: &mut Chance, player: &mut Player) {
         player.dump();
         // Edition, link and decimals behind them; any of the three may be none.
         let made = new_line(&good.serial, &good.account, &good.password, good.clock);
-        for kind in ["2", "2 2", "2 2 0", "1 1 0", "2 3", "2 1 1"] {
+        for kind in [
+            "2", "2 2", "2 2 0", "1 1 0", "2 3", "2 1 1", "1 1 2", "2 2 3", "1 2 4", "2 3 5",
+        ] {
             player.line(format!("{made} {kind}"));
             player.dump();
         }
         player.line(format!("{made} {value} {}", chance.below(4)));
         player.dump();
+        player.line(format!("{made} 1 {} {value}", chance.below(4)));
+        player.dump();
         player.line(format!("{made} 1 1 0 0"));
+        // The decimals of a state.
+        player.set(&Meter {
+            decimals: value,
+            ..meter
+        });
+        player.line("pulse 5 out");
+        player.line("tick");
+        player.dump();
     }
     let spoil: [fn(&mut Clock); 10] = [
         |clock| clock.year = 1999,
@@ -1085,8 +1230,8 @@ fn calendar(chance: &mut Chance, player: &mut Player) {
 }
 
 fn century(chance: &mut Chance, player: &mut Player, mut meter: Meter) {
-    meter.counters = [0; 4];
-    meter.total = 0;
+    (meter.counters, meter.exported) = ([0; 4], [0; 4]);
+    meter = totalled(meter);
     player.set(&meter);
     for year in 2000..=2099_u16 {
         for month in 1..=12 {
@@ -1157,6 +1302,7 @@ fn century(chance: &mut Chance, player: &mut Player, mut meter: Meter) {
                 };
                 player.send(&write(&clock_data(meter.clock)));
                 player.line(format!("pulse {}", 1 + chance.below(1_000_000)));
+                player.line(format!("pulse {} out", 1 + chance.below(1_000_000)));
                 if hour % 6 == 5 {
                     player.dump();
                 }
@@ -1169,7 +1315,7 @@ fn century(chance: &mut Chance, player: &mut Player, mut meter: Meter) {
 /// changes it as a plain one would.
 fn script_lines(chance: &mut Chance, player: &mut Player) {
     player.set(&state(chance, 4));
-    let lines: [&[u8]; 92] = [
+    let lines: [&[u8]; 102] = [
         b"",
         b" ",
         b"  ",
@@ -1221,6 +1367,16 @@ fn script_lines(chance: &mut Chance, player: &mut Player) {
         b"pulse a",
         b"pulse -",
         b"pulse 1\r",
+        b"pulse 1 out ",
+        b"pulse 1  out",
+        b"pulse 1 Out",
+        b"pulse 1 ou",
+        b"pulse 1 outs",
+        b"pulse 1 in",
+        b"pulse out",
+        b"pulse out 1",
+        b"pulse 1 out 1",
+        b"pulse 4294967296 out",
         b"byte",
         b"byte ",
         b"byte -",
@@ -1281,6 +1437,9 @@ fn script_lines(chance: &mut Chance, player: &mut Player) {
         "pulse 0000000000000000000000001000000",
         "pulse 1000001",
         "pulse 4294967295",
+        "pulse 0 out",
+        "pulse 0000000000000000000000001000000 out",
+        "pulse 4294967295 out",
         "bytes 00",
         "bytes ff",
     ];

@@ -5,11 +5,11 @@ use crate::line::Line;
 use crate::Pair;
 use model::meter::Meter;
 use model::post::tables_of;
-use model::session::{answer, fact, work, Heard, Session, Told};
+use model::session::{answer, fact, work, Heard, Meters, Session, Told};
 use trials::chance::Chance;
 use trials::head_words::DIGITS;
 use trials::session_words::{other, post, reads, right, spoil_a_read};
-use trials::words::state;
+use trials::words::{of_family, state};
 
 type Outcome = Result<(), String>;
 
@@ -33,6 +33,7 @@ pub fn play(pair: &mut Pair, seed: u64, calls: u64) -> Outcome {
 /// What a session is told, kept while it goes on.
 struct Task {
     edition: u8,
+    decimals: u8,
     named: u8,
     serial: Vec<u8>,
     access: u8,
@@ -45,6 +46,7 @@ impl Task {
     fn told(&self) -> Told<'_> {
         Told {
             edition: self.edition,
+            decimals: self.decimals,
             named: self.named,
             serial: &self.serial,
             access: self.access,
@@ -57,7 +59,7 @@ impl Task {
 
 /// A good task for this meter.
 fn good(chance: &mut Chance, meter: &Meter) -> Task {
-    let edition = meter.edition;
+    let (edition, decimals) = (meter.edition, meter.decimals);
     let kind = chance.one_of(&[work::READS, work::READS, work::POST]);
     let access = match kind {
         work::POST => 1,
@@ -66,7 +68,7 @@ fn good(chance: &mut Chance, meter: &Meter) -> Task {
     let work = match kind {
         work::READS => {
             let count = chance.between(1, 32);
-            reads(chance, edition, count)
+            reads(chance, Meters { edition, decimals }, count)
         }
         _ => {
             let highest = tables_of(edition).unwrap_or(0);
@@ -86,6 +88,7 @@ fn good(chance: &mut Chance, meter: &Meter) -> Task {
     };
     Task {
         edition,
+        decimals,
         named,
         serial,
         access,
@@ -165,7 +168,13 @@ fn again(pair: &mut Pair, chance: &mut Chance, work: &[u8]) -> Outcome {
 fn disturbed(pair: &mut Pair, chance: &mut Chance) -> Outcome {
     let mut meter = listening(chance);
     let mut task = good(chance, &meter);
-    match chance.below(12) {
+    match chance.below(14) {
+        12 => task.decimals = chance.one_of(&[0, 1, 2, 3, 4, 5, 255]),
+        13 => {
+            // A head that was told of another family than the meter's.
+            let other = chance.one_of(&[0, 2, 3, 4]);
+            meter = of_family(chance, meter, other);
+        }
         0 => meter.attempts = 3,
         1 => meter.mode = chance.between(1, 4) as u8,
         2 => task.password = chance.texts::<8>(DIGITS).to_vec(),
@@ -244,7 +253,11 @@ fn other_work(chance: &mut Chance, task: &Task) -> Vec<u8> {
     match chance.below(6) {
         0 => {
             let count = chance.between(1, 32);
-            reads(chance, 2, count)
+            let meters = Meters {
+                edition: 2,
+                decimals: chance.one_of(&[0, 3]),
+            };
+            reads(chance, meters, count)
         }
         1 => {
             let count = chance.between(1, 25);
@@ -268,7 +281,8 @@ fn other_work(chance: &mut Chance, task: &Task) -> Vec<u8> {
 
 /// One thing changed in a record; seldom it is a session's still.
 fn spoil(chance: &mut Chance, session: &mut Session) {
-    match chance.below(14) {
+    match chance.below(15) {
+        14 => session.decimals = chance.one_of(&[0, 1, 2, 3, 4, 5, 255]),
         13 => session.count = chance.one_of(&[24, 25, 26]),
         12 => session.edition = chance.one_of(&[0, 1, 2, 3, 255]),
         0 => session.serial[chance.below(10)] = chance.odd_byte(),
@@ -316,24 +330,39 @@ fn edition(chance: &mut Chance) -> u8 {
     }
 }
 
+/// Decimals, at times those of no family.
+fn decimals(chance: &mut Chance) -> u8 {
+    match chance.below(20) {
+        0 => chance.byte(),
+        1 => chance.one_of(&[1, 5]),
+        odd => [0, 2, 3, 4][odd % 4],
+    }
+}
+
 /// A session told anything, on a record that may hold anything.
 fn told(pair: &mut Pair, chance: &mut Chance) -> Outcome {
     let (edition, kind) = (edition(chance), flag(chance));
+    let decimals = decimals(chance);
+    let meters = Meters {
+        edition,
+        // At times with what only another family counts.
+        decimals: if chance.one_in(10) { 2 } else { decimals },
+    };
     let mut work = match (kind, chance.below(12)) {
         (_, 0) => Vec::new(),
         (work::READS, 1..=2) => {
             let count = chance.between(31, 40);
-            reads(chance, edition, count)
+            reads(chance, meters, count)
         }
         (_, 3) => (0..chance.below(80)).map(|_| chance.byte()).collect(),
         (work::READS, 4) => {
-            let mut half = reads(chance, edition, 33);
+            let mut half = reads(chance, meters, 33);
             half.truncate(chance.one_of(&[1, 1, 3, 63, 65, 65]));
             half
         }
         (work::READS, _) => {
             let count = chance.between(1, 32);
-            reads(chance, edition, count)
+            reads(chance, meters, count)
         }
         _ => {
             let highest = chance.one_of(&[24, 25]);
@@ -348,6 +377,7 @@ fn told(pair: &mut Pair, chance: &mut Chance) -> Outcome {
     }
     let task = Task {
         edition,
+        decimals,
         named: flag(chance),
         serial: field(chance, 10),
         access: flag(chance),
@@ -373,6 +403,7 @@ fn recorded(pair: &mut Pair, chance: &mut Chance) -> Outcome {
     let task = good(chance, &meter);
     let mut record = Session {
         edition: task.edition,
+        decimals: task.decimals,
         named: task.named,
         access: task.access,
         work: task.kind,
@@ -439,5 +470,6 @@ fn any(chance: &mut Chance) -> Session {
         sent: chance.byte(),
         fact: chance.byte(),
         edition: chance.one_of(&[1, 2, 3]),
+        decimals: chance.one_of(&[0, 1, 2, 3, 4, 5]),
     }
 }

@@ -15,6 +15,7 @@ fn record_of(session: &Session) -> library::Session {
         sent: session.sent,
         fact: session.fact,
         edition: session.edition,
+        decimals: session.decimals,
     }
 }
 
@@ -29,6 +30,7 @@ fn session_of(record: &library::Session) -> Session {
         sent: record.sent,
         fact: record.fact,
         edition: record.edition,
+        decimals: record.decimals,
     }
 }
 
@@ -60,6 +62,7 @@ impl Head for Proved {
         let [serial, password, work] = &mut self.texts;
         let told = library::Told {
             edition: told.edition,
+            decimals: told.decimals,
             named: told.named,
             serial: serial.copy(told.serial),
             access: told.access,

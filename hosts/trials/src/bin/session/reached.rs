@@ -1,6 +1,6 @@
 //! Counts what the calls reached, from what was told and answered and not from what was meant.
 
-use model::session::{answer, fact, start, work, Heard, Session, Started, Told};
+use model::session::{answer, fact, start, tells, work, Heard, Meters, Session, Started, Told};
 use std::collections::BTreeMap;
 use trials::session_words::identification;
 
@@ -16,13 +16,15 @@ pub struct Reached {
     replies: u64,
     silences: u64,
     conversations: u64,
+    /// Replies to questions for energy of EQM meters.
+    energies: u64,
     met: BTreeMap<String, u64>,
 }
 
 /// Everything that must be reached.
 pub fn aims() -> Vec<String> {
     let mut aims = Vec::new();
-    for number in [1, 9, 16, 19, 20, 28, 29, 30] {
+    for number in [1, 9, 16, 18, 19, 20, 28, 29, 30] {
         aims.push(format!("start: {number}"));
     }
     for number in [1, 19, 31] {
@@ -53,12 +55,28 @@ pub fn aims() -> Vec<String> {
         ("L", 0..=0),
         ("K", 0..=0),
         ("E", 0..=4),
+        ("G", 0..=4),
         ("Z", 1..=25),
     ] {
         for number in numbers {
             aims.push(format!("{letter}{number} answered"));
             aims.push(format!("{letter}{number} answered by another block"));
         }
+    }
+    for decimals in 2..=4 {
+        for letter in ["E", "G"] {
+            for number in 0..=4 {
+                aims.push(format!("{letter}{number} of {decimals} decimals answered"));
+            }
+            aims.push(format!(
+                "{letter} of {decimals} decimals, and the form of other decimals came"
+            ));
+        }
+        aims.push(format!("a calm conversation with {decimals} decimals"));
+        aims.push(format!(
+            "a calm conversation with {decimals} decimals of edition 2"
+        ));
+        aims.push(format!("{decimals} decimals, and document 01's form came"));
     }
     for fact in &FACTS[1..] {
         aims.push(format!("{fact}, and again"));
@@ -85,6 +103,14 @@ pub fn aims() -> Vec<String> {
         "start: 9 for table 25 of edition 1",
         "start: 16 and no room",
         "start: 16 and an empty list",
+        "start: 16 and decimals of no family",
+        "start: 18 and no room",
+        "start: 18 and an empty list",
+        "start: 9 for G in document 01's family",
+        "start: 9 for G5",
+        "start: 1 with G",
+        "document 01's family, and an EQM form came",
+        "the other direction's line came",
         "start: 20 for table 25 of edition 1",
         "reply: the other edition's identification",
         "reply: 19 to no session",
@@ -125,12 +151,13 @@ impl Reached {
     pub fn said(&self) -> String {
         format!(
             "session: {} calls, all equal: {} starts, {} replies, {} silences; {} whole \
-             conversations; reached all of {}",
+             conversations, {} replies to questions for energy of EQM meters; reached all of {}",
             self.calls,
             self.starts,
             self.replies,
             self.silences,
             self.conversations,
+            self.energies,
             aims().len()
         )
     }
@@ -206,7 +233,34 @@ impl Reached {
             first && number == answer::NO_POST && taken() == answer::DONE,
             "start: 20 for table 25 of edition 1",
         );
+        let family = matches!(told.decimals, 0 | 2 | 3 | 4);
+        let no_family = number == answer::NO_DECIMALS;
+        self.when(no_family && room < 64, "start: 18 and no room");
+        self.when(
+            no_family && reads && told.work.is_empty(),
+            "start: 18 and an empty list",
+        );
+        let asks = |letter, most| {
+            let mut all = told.work.chunks(2);
+            reads
+                && all.any(|read| matches!(read, [at, number] if *at == letter && *number <= most))
+        };
+        let eqm = Told {
+            decimals: 3,
+            ..*told
+        };
+        let counted = || start(&mut Session::default(), &eqm, &mut vec![0; room]).number;
+        self.when(
+            told.decimals == 0 && refused && asks(b'G', 4) && counted() == answer::DONE,
+            "start: 9 for G in document 01's family",
+        );
+        self.when(
+            refused && told.decimals != 0 && told.work.chunks(2).any(|read| read == b"G\x05"),
+            "start: 9 for G5",
+        );
+        self.when(done && asks(b'G', 4), "start: 1 with G");
         let none = number == answer::NO_EDITION;
+        self.when(none && !family, "start: 16 and decimals of no family");
         self.when(none && room < 64, "start: 16 and no room");
         self.when(
             none && reads && told.work.is_empty(),
@@ -289,9 +343,12 @@ impl Reached {
             return;
         };
         let number = match letter {
-            b'E' | b'Z' => number,
+            b'E' | b'G' | b'Z' => number,
             _ => 0,
         };
+        if matches!(letter, b'E' | b'G') && number <= 4 {
+            self.energy(before.decimals, letter, number, reply, heard);
+        }
         let read = format!("{}{number}", char::from(letter));
         let block = reply.len() > 10 && reply[0] == 0x82;
         match heard.fact {
@@ -302,6 +359,40 @@ impl Reached {
             fact::NAK => {}
             _ => self.reach(&format!("{read} answered")),
         }
+    }
+
+    /// A reply to a question for energy.
+    fn energy(&mut self, decimals: u8, letter: u8, number: u8, reply: &[u8], heard: &Heard) {
+        let name = char::from(letter);
+        let good = !matches!(heard.fact, fact::WRONG | fact::NAK);
+        let told = |decimals, letter| {
+            let meters = Meters {
+                edition: 1,
+                decimals,
+            };
+            tells(meters, letter, number, reply)
+        };
+        if decimals == 0 {
+            let other = (2..=4).any(|decimals| told(decimals, b'E'));
+            self.when(other, "document 01's family, and an EQM form came");
+            return;
+        }
+        self.energies += 1;
+        self.when(
+            good,
+            &format!("{name}{number} of {decimals} decimals answered"),
+        );
+        let others = (2..=4).filter(|&other| other != decimals);
+        self.when(
+            others.into_iter().any(|other| told(other, letter)),
+            &format!("{name} of {decimals} decimals, and the form of other decimals came"),
+        );
+        self.when(
+            told(0, b'E'),
+            &format!("{decimals} decimals, and document 01's form came"),
+        );
+        let other = if letter == b'E' { b'G' } else { b'E' };
+        self.when(told(decimals, other), "the other direction's line came");
     }
 
     pub fn silent(&mut self, before: &Session, heard: &Heard) {
@@ -327,6 +418,9 @@ impl Reached {
             _ => "post",
         };
         self.reach(&format!("{kind}: a calm conversation of {}", session.count));
+        let family = format!("a calm conversation with {} decimals", session.decimals);
+        self.reach(&family);
+        self.when(session.edition == 2, &format!("{family} of edition 2"));
     }
 
     pub fn delivered(&mut self, edition: u8) {

@@ -2,7 +2,7 @@
 
 use crate::{Head, Heard, Session, Started, Told};
 use model::head::{characters, on_the_wire, part, strip, Command};
-use model::session::{answer, fact, start, tells, work};
+use model::session::{answer, fact, start, tells, work, Meters};
 use trials::chance::Chance;
 use trials::session_words::{identification, right};
 
@@ -57,11 +57,21 @@ pub enum Fault {
     ReadsBeforeTheEdition,
     HasNoTable25,
     TakesTable25OfEdition1,
+    HasOneFamily,
+    DropsTheDecimals,
+    DecimalsBeforeTheEdition,
+    RoomBeforeTheDecimals,
+    ReadsBeforeTheDecimals,
+    TakesGInDocument01sFamily,
+    TakesAnyDecimals,
+    TakesDocument01sForm,
+    TakesTheOtherDirection,
+    AsksForEInPlaceOfG,
 }
 
 use Fault::*;
 
-pub const FAULTS: [Fault; 49] = [
+pub const FAULTS: [Fault; 59] = [
     SkipsTheBreak,
     CountsTheSignOnAsZero,
     NamesTheNextMessage,
@@ -111,6 +121,16 @@ pub const FAULTS: [Fault; 49] = [
     ReadsBeforeTheEdition,
     HasNoTable25,
     TakesTable25OfEdition1,
+    HasOneFamily,
+    DropsTheDecimals,
+    DecimalsBeforeTheEdition,
+    RoomBeforeTheDecimals,
+    ReadsBeforeTheDecimals,
+    TakesGInDocument01sFamily,
+    TakesAnyDecimals,
+    TakesDocument01sForm,
+    TakesTheOtherDirection,
+    AsksForEInPlaceOfG,
 ];
 
 pub struct Wrong {
@@ -163,6 +183,7 @@ impl Head for Wrong {
         let before = *session;
         let (reads, post) = (told.kind == work::READS, told.kind == work::POST);
         let count = told.work.len() / 2;
+        let no_family = !matches!(told.decimals, 0 | 2 | 3 | 4);
         let mut turned = *told;
         match self.fault {
             Some(TakesThirtyThree) if reads && told.work.len() == 66 => {
@@ -199,6 +220,15 @@ impl Head for Wrong {
                 turned.edition = 1;
             }
             Some(TakesTable25OfEdition1) if told.edition == 1 && post => turned.edition = 2,
+            Some(HasOneFamily) => turned.decimals = 0,
+            Some(DecimalsBeforeTheEdition) if no_family => turned.edition = 1,
+            Some(RoomBeforeTheDecimals) if no_family && out.len() < 64 => turned.decimals = 0,
+            Some(ReadsBeforeTheDecimals)
+                if no_family && reads && told.work.is_empty() && out.len() >= 64 =>
+            {
+                turned.decimals = 0;
+            }
+            Some(TakesGInDocument01sFamily) if told.decimals == 0 => turned.decimals = 2,
             Some(LooksAtAnUnnamedSerial) if told.named == 0 && told.serial.is_empty() => {
                 turned.named = 2;
             }
@@ -210,6 +240,10 @@ impl Head for Wrong {
                 session.count = count as u8;
             }
             Some(TakesTable25OfEdition1) if started.number == 1 => session.edition = told.edition,
+            Some(DropsTheDecimals) => session.decimals = 0,
+            Some(TakesGInDocument01sFamily) if started.number == 1 => {
+                session.decimals = told.decimals;
+            }
             Some(TakesThirtyThree) if started.number == 1 && count == 33 => session.count = 33,
             Some(KeepsAnUnnamedSerial) if started.number == 1 && told.serial.len() == 10 => {
                 session.serial.copy_from_slice(told.serial);
@@ -239,6 +273,18 @@ impl Head for Wrong {
             false => None,
         };
         let letter = read.map_or(0, |read| read[0]);
+        let number = read.and_then(|read| read.get(1)).copied().unwrap_or(0);
+        let energy = matches!(letter, b'E' | b'G') && number <= 4;
+        // Whether the reply tells of this energy in the form of one of these decimals.
+        let of = |decimals: &[u8], letter: u8| {
+            decimals.iter().any(|&decimals| {
+                let meters = Meters {
+                    edition: 1,
+                    decimals,
+                };
+                tells(meters, letter, number, reply)
+            })
+        };
         let inside = data(reply).unwrap_or_default();
         let good = right(&mut self.chance, &before, work);
         // What it takes for the right reply.
@@ -247,9 +293,20 @@ impl Head for Wrong {
             Some(TakesAnyTable) => {
                 let number = inside.get(6..8).unwrap_or(b"00");
                 let number = String::from_utf8_lossy(number).parse().unwrap_or(0);
-                letter == b'Z' && tells(before.edition, b'Z', number, reply)
+                letter == b'Z' && tells(before.meters(), b'Z', number, reply)
             }
-            Some(TakesAnyZone) => letter == b'E' && (0..5).any(|zone| tells(1, b'E', zone, reply)),
+            Some(TakesAnyZone) => {
+                let meters = before.meters();
+                letter == b'E' && (0..5).any(|zone| tells(meters, b'E', zone, reply))
+            }
+            Some(TakesAnyDecimals) => energy && before.decimals != 0 && of(&[2, 3, 4], letter),
+            Some(TakesDocument01sForm) => {
+                energy && before.decimals != 0 && letter == b'E' && of(&[0], letter)
+            }
+            Some(TakesTheOtherDirection) => {
+                let other = if letter == b'E' { b'G' } else { b'E' };
+                energy && before.decimals != 0 && of(&[before.decimals], other)
+            }
             Some(TakesLinesBehind) => {
                 let lines = inside.split_inclusive(|&byte| byte == b'\n').count();
                 letter == b'L' && lines > 1 && inside.starts_with(b"C.1.0(")
@@ -293,6 +350,12 @@ impl Head for Wrong {
                 let place = (usize::from(before.sent) - 4) * 36;
                 if place + 72 <= work.len() {
                     given[place + 45..place + 69].copy_from_slice(&work[place + 9..place + 33]);
+                }
+            }
+            Some(AsksForEInPlaceOfG) if goes_on && before.work == work::READS => {
+                let place = (usize::from(before.sent) + 1).saturating_sub(4) * 2;
+                if given.get(place) == Some(&b'G') && before.decimals != 0 {
+                    given[place] = b'E';
                 }
             }
             Some(ForgetsThatItEnded) if before.reached() => session.fact = fact::GOES_ON,
