@@ -89,7 +89,8 @@ static const struct field state[] = {
     STATE(NUMBER, "MODE", mode),
     STATE(NUMBER, "COUNT", receiver.count),
     STATE(NUMBER, "MARK", receiver.mark),
-    STATE(BYTES, "HELD", receiver.held),
+    /* a script knows the 63 places that may hold something; the record's last one stays 0 */
+    {"HELD", BYTES, offsetof(struct dirgemist_meter, receiver.held), 63},
     STATE(BYTES, "SERIAL", registers.facts.serial),
     STATE(BYTES, "ACCOUNT", registers.account),
     STATE(BYTES, "PASSWORD", registers.facts.password),

@@ -714,8 +714,8 @@ static int is_formed(const struct dirgemist_meter *meter) {
             periods &= p.zones[zone] < (used ? end_in : 1) && p.exported[zone] < (used ? end_out : 1);
         }
     }
-    return account && zones && periods && all_within(held->held, 63, 0, 127)
-           && all_within(held->held + held->count, 63 - held->count, 0, 0)
+    return account && zones && periods && all_within(held->held, 64, 0, 127)
+           && all_within(held->held + held->count, 64 - held->count, 0, 0)
            && all_within(have->facts.serial, 10, '0', '9') && all_within(have->facts.password, 8, '0', '9')
            && (have->facts.link == 1 || have->facts.link == 2)
            && all_within(have->tables, 24 * 24, '1', '4')

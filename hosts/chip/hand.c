@@ -6,7 +6,7 @@
 #include <string.h>
 
 #define TABLES 24
-#define PLACES 63
+#define MOST_HELD 63
 #define PERIODS 12
 #define COUNTER_END 1000000000
 #define EQM_END 100000000
@@ -114,12 +114,11 @@ static bool tables_good(const uint8_t *tables, uint8_t edition) {
     return (bits & 0xFCFCFCFC) == 0 && spare == 0;
 }
 
-/* The places start at a whole word of the record; 60 of them are fifteen words. */
+/* The places are sixteen whole words of the record. */
 static bool held_good(const struct dirgemist_receiver *receiver) {
-    const uint8_t *held = receiver->held;
-    const word *four = (const word *)held;
+    const word *four = (const word *)receiver->held;
     uint32_t low = 0, none = 0, used = receiver->count, whole = used / 4;
-    for (uint32_t at = 0; at < 15; at++) {
+    for (uint32_t at = 0; at < 16; at++) {
         uint32_t places = four[at];
         low |= places;
         if (at > whole) {
@@ -128,18 +127,12 @@ static bool held_good(const struct dirgemist_receiver *receiver) {
             none |= places >> (8 * (used % 4));
         }
     }
-    for (uint32_t at = 60; at < PLACES; at++) {
-        low |= held[at];
-        if (at >= used) {
-            none |= held[at];
-        }
-    }
     return (low & 0x80808080) == 0 && none == 0;
 }
 
 static bool receiver_good(const struct dirgemist_meter *meter) {
     const struct dirgemist_receiver *receiver = &meter->receiver;
-    uint8_t most = meter->mode == 0 ? 31 : meter->mode == 1 ? 5 : PLACES;
+    uint8_t most = meter->mode == 0 ? 31 : meter->mode == 1 ? 5 : MOST_HELD;
     if (receiver->count > most) {
         return false;
     }
@@ -356,7 +349,7 @@ static uint8_t hear(struct dirgemist_meter *meter, uint8_t byte, uint8_t *reply,
     }
     if (character == SOH) {
         restart(receiver, SOH);
-    } else if (receiver->count == PLACES) {
+    } else if (receiver->count == MOST_HELD) {
         return HAND_UNKNOWN;
     } else if (receiver->count > 0) {
         hold(receiver, character, damaged);

@@ -1,12 +1,12 @@
 -- What a real date and a real time are bounded by, and that the next second of a real clock is real. Assumes nothing.
 use mathlib.Core.Path.{_≡_, refl, sym, ap, _∙_}
 use mathlib.Core.Bool.{Bool, true, false, cond, _&&_, _||_}
-use Prim.Native.Nat.{ℕ, _+_, _%_, _≤_, _<_}
+use Prim.Native.Nat.{ℕ, _+_, _-_, _%_, _≤_, _<_}
 use native.Mathlib.Omega.{arith}
 use borrow.Author.Tests.{leb-true, le-leb, ltb-true, ltb-false, lt-ltb, le-ltb, eqb-true, eq-eqb, eqb-false}
 use lib.Dec.{leb, ltb, eqb}
-use Rattle.line.proofs.Runs.{and-left, and-right, and-both}
-use Rattle.clock.specs.Dates.{leap, thirty, daysIn, realDate, realTime}
+use Rattle.line.proofs.Runs.{and-left, and-right, and-both, below-all}
+use Rattle.clock.specs.Dates.{leap, thirty, daysOf, daysIn, realDate, realTime}
 use Rattle.clock.specs.Seconds.{realClock, realStamp, stampOf, dateOf, timeOf, nextMonth, nextDay, nextSecond}
 use Rattle.clock.specs.declared.Date.{Date}
 use Rattle.clock.specs.declared.Clock.{Clock}
@@ -39,6 +39,32 @@ date-facts y m d e =
       first-day = leb-true 1 d (and-left (leb 1 d) (leb d (daysIn y m)) dd);
       last-day = leb-true d (daysIn y m) (and-right (leb 1 d) (leb d (daysIn y m)) dd);
     }
+
+-- in the years of a date every fourth is a leap year
+abbrev days : Bool → ℕ
+days long = cond long 29 28
+
+abbrev fourth : ℕ → Bool
+fourth k = eqb (days (eqb ((2000 + k) % 4) 0)) (days (leap (2000 + k)))
+
+fourth-leap : (y : ℕ) → (leb 2000 y && leb y 2099) ≡ true → days (eqb (y % 4) 0) ≡ days (leap y)
+unfolding leap
+fourth-leap y e =
+    let low = leb-true 2000 y (and-left (leb 2000 y) (leb y 2099) e) in
+    let high = leb-true y 2099 (and-right (leb 2000 y) (leb y 2099) e) in
+    let k = y - 2000 in
+    let h : days (eqb ((2000 + k) % 4) 0) ≡ days (leap (2000 + k)) = eqb-true _ _ (below-all 100 fourth refl k (omega arith)) in
+    let same : 2000 + k ≡ y = omega arith in
+    rw same at h
+
+-- so a date may be tested by these
+pub date-tested : (y m d : ℕ) → (((leb 2000 y && leb y 2099) && (leb 1 m && leb m 12)) && (leb 1 d && leb d (daysOf (eqb (y % 4) 0) m))) ≡ realDate y m d
+unfolding realDate daysIn
+date-tested y m d = pick (leb 2000 y && leb y 2099) refl
+  where
+    pick : (b : Bool) → (leb 2000 y && leb y 2099) ≡ b → ((b && (leb 1 m && leb m 12)) && (leb 1 d && leb d (daysOf (eqb (y % 4) 0) m))) ≡ ((b && (leb 1 m && leb m 12)) && (leb 1 d && leb d (daysOf (leap y) m)))
+    pick true e = ap (λ (n : ℕ). (leb 1 m && leb m 12) && (leb 1 d && leb d (cond (eqb m 2) n (cond (thirty m) 30 31)))) (fourth-leap y e)
+    pick false e = refl
 
 pub date-real : (y m d : ℕ) → RealDate y m d → realDate y m d ≡ true
 unfolding realDate

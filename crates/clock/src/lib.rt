@@ -4,7 +4,7 @@ ghost use mathlib.Core.Bool.{cond, _&&_};
 ghost use Prim.Native.Nat.{_-_, _<_};
 ghost use lib.ListN.{getD};
 ghost use lib.Dec.{ltb};
-ghost use Rattle.clock.specs.Dates.{leap, daysIn, realDate, realTime};
+ghost use Rattle.clock.specs.Dates.{daysOf, leap, daysIn, realDate, realTime};
 ghost use Rattle.clock.specs.Seconds.{realClock, realStamp, stampOf, nextMonth, nextDay, nextSecond};
 ghost use Rattle.clock.specs.Weekday.{daysBefore, weekday};
 
@@ -42,12 +42,12 @@ pub fn is_leap(y: u16) -> bool
     (y % 4 == 0) & (!(y % 100 == 0) | (y % 400 == 0))
 }
 
-// How many days a month has.
-pub fn days_in(y: u16, m: u8) -> u8
-    ensures { λ r. ⌜ r ≡ daysIn y m ⌝ }
+// How many days a month has, in a leap year or not.
+fn days_of(long: bool, m: u8) -> u8
+    ensures { λ r. ⌜ r ≡ daysOf long m ⌝ }
 {
     if m == 2 {
-        if is_leap(y) {
+        if long {
             return 29;
         }
         return 28;
@@ -56,10 +56,18 @@ pub fn days_in(y: u16, m: u8) -> u8
     if short { 30 } else { 31 }
 }
 
+pub fn days_in(y: u16, m: u8) -> u8
+    ensures { λ r. ⌜ r ≡ daysIn y m ⌝ }
+{
+    days_of(is_leap(y), m)
+}
+
+// Of the years that a date may have every fourth is a leap year, 2000 too.
 pub fn is_date(y: u16, m: u8, d: u8) -> bool
     ensures { λ r. ⌜ r ≡ realDate y m d ⌝ }
 {
-    (((2000 <= y) & (y <= 2099)) & ((1 <= m) & (m <= 12))) & ((1 <= d) & (d <= days_in(y, m)))
+    (((2000 <= y) & (y <= 2099)) & ((1 <= m) & (m <= 12)))
+        & ((1 <= d) & (d <= days_of(y % 4 == 0, m)))
 }
 
 pub fn is_time(h: u8, n: u8, s: u8) -> bool

@@ -18,7 +18,7 @@ use Rattle.text.specs.Classes.{sameText}
 use Rattle.text.proofs.Beginnings.{le-or-lt}
 use Rattle.values.specs.Registers.{goodTable}
 use Rattle.frames.specs.Frames.{onWire}
-use Rattle.state.specs.Sizes.{replyRoom, heldPlaces}
+use Rattle.state.specs.Sizes.{replyRoom, mostHeld}
 use Rattle.state.specs.declared.Registers.{Registers}
 use Rattle.state.specs.declared.Meter.{Meter}
 use Rattle.state.specs.Link.{linkOf, isWired}
@@ -105,7 +105,7 @@ module _ (m : Meter) (c : ℕ) (d : Bool) where
       (λ z. choice.either Heard (eqb (m .mode) 1) (choice.either Heard (leb 5 count) confirmed-stays (λ e. (refl, refl)))
       (choice.either Heard (not (eqb count 0) && eqb (lastHeld (m .receiver)) 3) (frame-stays (marked (m .receiver) || d))
       (choice.either Heard (eqb c 1) (λ e. (refl, refl))
-      (choice.either Heard (eqb count 0) (λ e. (refl, refl)) (choice.either Heard (leb heldPlaces count) (λ e. absurd (omega arith)) (λ e. (refl, refl)))))))
+      (choice.either Heard (eqb count 0) (λ e. (refl, refl)) (choice.either Heard (leb mostHeld count) (λ e. absurd (omega arith)) (λ e. (refl, refl)))))))
 
 byte-stays : (m : Meter) (b : ℕ) → wellFormed m ≡ true → Stays m (symbol b) (damagedAt b) (character m replyRoom b)
 unfolding character taken

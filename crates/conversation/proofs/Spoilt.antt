@@ -9,7 +9,7 @@ use borrow.Author.Tests.{eqb-true, eqb-false, le-leb}
 use lib.Dec.{eqb, leb}
 use Rattle.line.specs.Characters.{damagedAt}
 use Rattle.text.proofs.Beginnings.{le-or-lt}
-use Rattle.state.specs.Sizes.{replyRoom, heldPlaces}
+use Rattle.state.specs.Sizes.{replyRoom, mostHeld}
 use Rattle.state.specs.declared.Meter.{Meter}
 use Rattle.state.specs.WellFormed.{wellFormed, marked}
 use Rattle.state.proofs.Parts.{edition-good}
@@ -152,7 +152,7 @@ module _ (m : Meter) (c : ℕ) (d : Bool) (optical : isWired (linkOf m) ≡ fals
         choice.told P (not (eqb count 0) && eqb (lastHeld (m .receiver)) 3) (λ e. frame-quiet other (seen-held (held-some (eqb count 0) (eqb (lastHeld (m .receiver)) 3) refl e)))
         (λ e3. choice.told P (eqb c 1) (λ e. restart-quiet (rw (le-leb 2 (m .mode) z, e)))
         (λ e1. choice.told P (eqb count 0) (λ e. drop-quiet (eqb-true count 0 e) other)
-        (λ some. choice.told P (leb heldPlaces count) (λ e. too-long-quiet other) (λ e. hold-quiet (seen-held (eqb-false count 0 some))))))
+        (λ some. choice.told P (leb mostHeld count) (λ e. too-long-quiet other) (λ e. hold-quiet (seen-held (eqb-false count 0 some))))))
       where
         held-some : (b l : Bool) → eqb (m .receiver .count) 0 ≡ b → (not b && l) ≡ true → m .receiver .count ≡ 0 → ⊥
         held-some true l e q = absurd (let z : _≡_ {A = ℕ} 0 1 = cc in omega arith)

@@ -95,7 +95,7 @@ given x n zs long =
     ap (take n) (append-assoc (x ++ (41 ∷ [])) (3 ∷ []) zs ∙ append-assoc x (41 ∷ []) (3 ∷ zs)) ∙ take-at x (41 ∷ 3 ∷ zs) n long
 
 abbrev spare : List ℕ → List ℕ
-spare body = replicate (62 - length (body ++ (3 ∷ []))) 0
+spare body = replicate (63 - length (body ++ (3 ∷ []))) 0
 
 password-given : (p zs : List ℕ) → goodPassword p ≡ true → take 8 (drop 5 (1 ∷ ((bodyOf (password p) ++ (3 ∷ [])) ++ zs))) ≡ p
 unfolding lettersOf dataOf passwordData bracketed

@@ -69,7 +69,7 @@ module _ (mode a s : ℕ) (g : Registers) (fit : Fit mode a s g) (h : 2 ≤ mode
   unfolding heard
   completes c low =
       let ys = body ++ (3 ∷ []) in
-      let zs : List ℕ = replicate (62 - length ys) 0 in
+      let zs : List ℕ = replicate (63 - length ys) 0 in
       let n : length ys ≡ suc (length body) = omega (arith, length-append body (3 ∷ [])) in
       let l : eqb (getD (1 ∷ (ys ++ zs)) (length ys) 0) 3 ≡ true =
       ap (λ (k : ℕ). eqb (getD (1 ∷ (ys ++ zs)) k 0) 3) n ∙ ap (λ (t : List ℕ). eqb (getD t (length body) 0) 3) (append-assoc body (3 ∷ []) zs)

@@ -14,7 +14,7 @@ use Rattle.line.specs.Runs.{every}
 use Rattle.line.proofs.Parity.{sent-comes-back, sent-undamaged}
 use Rattle.line.proofs.Runs.{and-left, and-right, and-both, every-append, every-weaker}
 use Rattle.text.specs.Classes.{between}
-use Rattle.state.specs.Sizes.{replyRoom, heldPlaces}
+use Rattle.state.specs.Sizes.{replyRoom, mostHeld, heldPlaces}
 use Rattle.state.specs.declared.Receiver.{Receiver}
 use Rattle.state.specs.declared.Registers.{Registers}
 use Rattle.state.specs.declared.Meter.{Meter}
@@ -22,7 +22,6 @@ use Rattle.state.specs.WellFormed.{limit, firstGood, markGood, hurtGood, heldGo
 use Rattle.state.specs.Making.{emptyReceiver}
 use Rattle.state.specs.Link.{restSpeed}
 use Rattle.state.specs.Setting.{meterIn, withHeld, withMark, withReceiver}
-use Rattle.state.proofs.Limits.{limit-most}
 use Rattle.state.proofs.Parts.{formed, well-formed, formed-receiver, receiver-good, held-long, edition-good}
 use Rattle.receiving.specs.declared.Hearing.{Hearing}
 use Rattle.receiving.specs.declared.Hearing.the-variants.{Hold}
@@ -43,7 +42,7 @@ idle mode a s g = meterIn mode a s emptyReceiver g
 
 -- a first character and some more are held
 abbrev pub openReceiver : ℕ → List ℕ → Receiver
-openReceiver c ys = withHeld emptyReceiver (c ∷ (ys ++ replicate (62 - length ys) 0)) (suc (length ys))
+openReceiver c ys = withHeld emptyReceiver (c ∷ (ys ++ replicate (63 - length ys) 0)) (suc (length ys))
 
 abbrev pub holding : ℕ → ℕ → ℕ → Registers → ℕ → List ℕ → Meter
 holding mode a s g c ys = meterIn mode a s (openReceiver c ys) g
@@ -94,13 +93,22 @@ none-first mode = pick (eqb mode 0)
     pick true = refl
     pick false = refl
 
+limit-few : (mode : ℕ) → limit mode ≤ mostHeld
+unfolding limit
+limit-few mode = pick (eqb mode 0) (eqb mode 1)
+  where
+    pick : (a b : Bool) → cond a 31 (cond b 5 mostHeld) ≤ mostHeld
+    pick true b = omega arith
+    pick false true = omega arith
+    pick false false = omega arith
+
 held-good : (c : ℕ) (ys : List ℕ) → c < 128 → length ys ≤ 62 → every (between 0 127) ys ≡ true
-    → heldGood (c ∷ (ys ++ replicate (62 - length ys) 0)) (suc (length ys)) ≡ true
+    → heldGood (c ∷ (ys ++ replicate (63 - length ys) 0)) (suc (length ys)) ≡ true
 unfolding heldGood every
 held-good c ys low long small =
-    let n : length (ys ++ replicate (62 - length ys) 0) ≡ 62 = omega (arith, length-append ys (replicate (62 - length ys) 0), length-replicate {A = ℕ} (62 - length ys) 0) in
-    let s : every (between 0 127) (ys ++ replicate (62 - length ys) 0) ≡ true = every-append (between 0 127) ys (replicate (62 - length ys) 0) small (zeros-small (62 - length ys)) in
-    rw (n, small-is c low, s, drop-append-seam ys (replicate (62 - length ys) 0), zeros-zero (62 - length ys))
+    let n : length (ys ++ replicate (63 - length ys) 0) ≡ 63 = omega (arith, length-append ys (replicate (63 - length ys) 0), length-replicate {A = ℕ} (63 - length ys) 0) in
+    let s : every (between 0 127) (ys ++ replicate (63 - length ys) 0) ≡ true = every-append (between 0 127) ys (replicate (63 - length ys) 0) small (zeros-small (63 - length ys)) in
+    rw (n, small-is c low, s, drop-append-seam ys (replicate (63 - length ys) 0), zeros-zero (63 - length ys))
 
 symbol-sent : (c : ℕ) → c < 128 → symbol (sent c) ≡ c
 unfolding symbol
@@ -113,19 +121,19 @@ unfolding character taken
 heard-as m c h f small e = rw (edition-good m f, f, symbol-sent c small, sent-undamaged c, e)
 
 -- the last of the held ones
-pub last-held : (c : ℕ) (ys : List ℕ) → lastHeld (openReceiver c ys) ≡ getD (c ∷ (ys ++ replicate (62 - length ys) 0)) (length ys) 0
-last-held c ys = ap (λ (k : ℕ). getD (c ∷ (ys ++ replicate (62 - length ys) 0)) k 0) {x = suc (length ys) - 1} {y = length ys} (omega arith)
+pub last-held : (c : ℕ) (ys : List ℕ) → lastHeld (openReceiver c ys) ≡ getD (c ∷ (ys ++ replicate (63 - length ys) 0)) (length ys) 0
+last-held c ys = ap (λ (k : ℕ). getD (c ∷ (ys ++ replicate (63 - length ys) 0)) k 0) {x = suc (length ys) - 1} {y = length ys} (omega arith)
 
 pub held-is : (c : ℕ) (ys : List ℕ) → heldText (openReceiver c ys) ≡ c ∷ ys
-held-is c ys = ap (λ (l : List ℕ). c ∷ l) (take-append-seam ys (replicate (62 - length ys) 0))
+held-is c ys = ap (λ (l : List ℕ). c ∷ l) (take-append-seam ys (replicate (63 - length ys) 0))
 
 held-next : (ys : List ℕ) (c : ℕ) → length ys < 62
-    → set (ys ++ replicate (62 - length ys) 0) (length ys) c ≡ (ys ++ (c ∷ [])) ++ replicate (62 - length (ys ++ (c ∷ []))) 0
+    → set (ys ++ replicate (63 - length ys) 0) (length ys) c ≡ (ys ++ (c ∷ [])) ++ replicate (63 - length (ys ++ (c ∷ []))) 0
 held-next ys c h =
-    let e : 62 - length ys ≡ suc (62 - length (ys ++ (c ∷ []))) = omega (arith, length-append ys (c ∷ [])) in
+    let e : 63 - length ys ≡ suc (63 - length (ys ++ (c ∷ []))) = omega (arith, length-append ys (c ∷ [])) in
     ap (λ (n : ℕ). set (ys ++ replicate n 0) (length ys) c) e
-    ∙ set-append-seam ys 0 (replicate (62 - length (ys ++ (c ∷ []))) 0) c
-    ∙ sym (append-assoc ys (c ∷ []) (replicate (62 - length (ys ++ (c ∷ []))) 0))
+    ∙ set-append-seam ys 0 (replicate (63 - length (ys ++ (c ∷ []))) 0) c
+    ∙ sym (append-assoc ys (c ∷ []) (replicate (63 - length (ys ++ (c ∷ []))) 0))
 
 kept-is : (c : ℕ) (ys : List ℕ) (x : ℕ) → length ys < 62 → keptReceiver (openReceiver c ys) x false ≡ openReceiver c (ys ++ (x ∷ []))
 kept-is c ys x h =
@@ -193,7 +201,7 @@ module _ (mode a s : ℕ) (g : Registers) (fit : Fit mode a s g) where
           first = rule .first (length ys);
           mark = rw (eqb·suc-zero (length ys));
           hurt = refl;
-          held = held-good c ys (rule .plain .small) (omega (arith, limit-most mode)) small;
+          held = held-good c ys (rule .plain .small) (omega (arith, limit-few mode)) small;
         }))
 
     -- the first character opens it
@@ -208,9 +216,9 @@ module _ (mode a s : ℕ) (g : Registers) (fit : Fit mode a s g) where
     holds ys x kind long small stays =
         let f = holding-formed ys (omega arith) (small-all ys kind) in
         let plain : eqb (lastHeld (openReceiver c ys)) 3 ≡ false =
-        ap (λ (k : ℕ). eqb k 3) (last-held c ys) ∙ last-plain p (rule .kind) c ys (replicate (62 - length ys) 0) (rule .plain .no-etx) kind in
+        ap (λ (k : ℕ). eqb k 3) (last-held c ys) ∙ last-plain p (rule .kind) c ys (replicate (63 - length ys) 0) (rule .plain .no-etx) kind in
         heard-as (holding mode a s g c ys) x Hold f small (stays (lastHeld (openReceiver c ys)) plain)
-        ∙ ap (λ (r : Receiver). silent 0 (meterIn mode a s r g)) (kept-is c ys x (omega (arith, limit-most mode)))
+        ∙ ap (λ (r : Receiver). silent 0 (meterIn mode a s r g)) (kept-is c ys x (omega (arith, limit-few mode)))
 
     holds-all : (xs ys : List ℕ) → every p ys ≡ true → every p xs ≡ true → length ys + length xs < limit mode
         → Fed (holding mode a s g c ys) (map sent xs) (replicate (length xs) (quiet s)) (holding mode a s g c (ys ++ xs))

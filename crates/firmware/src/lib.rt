@@ -1,5 +1,5 @@
 // The meter as firmware holds it: the state lies in the host's record and is changed in place.
-// A reference to a record is walked by hand, so these functions only pass values on.
+// A reference to a record is walked by hand, so these functions pass values on, and store what is small.
 ghost use mathlib.Core.Path.{_≡_};
 ghost use lib.ListN.{length};
 ghost use Rattle.text.specs.Writing.{holding};
@@ -9,7 +9,6 @@ ghost use Rattle.firmware.specs.Replies.{replyTo, replyOf, settledReply}
 use meter::Answer;
 use settling::Heard;
 use state::Meter;
-use state::Receiver;
 
 // What is left of an answer once its next state lies in the record.
 pub struct Reply {
@@ -42,12 +41,6 @@ fn is_settled(h: Heard) -> bool
     h.settled
 }
 
-fn receiver_of(h: Heard) -> Receiver
-    ensures { λ r. ⌜ r ≡ h .receiver ⌝ }
-{
-    h.receiver
-}
-
 // A settled event has no reply.
 fn short_reply(h: Heard) -> Reply
     ensures { λ r. ⌜ r ≡ settledReply h ⌝ }
@@ -60,7 +53,7 @@ fn short_reply(h: Heard) -> Reply
     }
 }
 
-// An event, told by a number and a value; the record becomes the next state. Most events change its receiver alone, and the rest of it is not copied.
+// An event, told by a number and a value; the record becomes the next state. Most events change its receiver, its clock or its counters alone, and the rest of it is not stored.
 pub fn meet_in_place(m: &mut Meter, kind: u8, value: u32, reply: &mut [u8]) -> Reply
     ensures { λ r. ⌜ (r ≡ replyOf (met (now (m .entry)) (length (now (reply .entry))) (eventOf kind value)))
         × (now (m .exit) ≡ met (now (m .entry)) (length (now (reply .entry))) (eventOf kind value) .next)
@@ -70,7 +63,10 @@ pub fn meet_in_place(m: &mut Meter, kind: u8, value: u32, reply: &mut [u8]) -> R
     let before = *m;
     let heard = settling::settle(before, kind, value, reply.len());
     if is_settled(heard) {
-        m.receiver = receiver_of(heard);
+        m.receiver = heard.receiver;
+        m.registers.clock = heard.clock;
+        m.registers.counters = heard.counters;
+        m.registers.exported = heard.exported;
         return short_reply(heard);
     }
     let a = meter::events::act(*m, kind, value, reply);

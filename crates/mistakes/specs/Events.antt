@@ -175,10 +175,10 @@ pub record Happening : Type 0 where
 -- of `settling`
 pub record Settling : Type 0 where
   -- the last character of a frame settled with nothing said; a character taken in a short buffer
-  pub settle : RuledOut (settles told replyRoom (Character (sent (getD (frameOf W1 (setTable 7 twos)) 35 0)))) (goesOn 5 emptyReceiver)
-      × RuledOut (settles newMeter 2047 (Character (sent 47))) (goesOn 0 (restartedReceiver 47))
+  pub settle : RuledOut (settles told replyRoom (Character (sent (getD (frameOf W1 (setTable 7 twos)) 35 0)))) (goesOn told emptyReceiver)
+      × RuledOut (settles newMeter 2047 (Character (sent 47))) (goesOn newMeter (restartedReceiver 47))
   -- a malformed state said before a pulse that is too much; an event that is none left to the meter
-  pub settle-refused : RuledOut (settles (withAttempts newMeter 4) 0 (Pulse 1000001)) (refuses 14 (newMeter .receiver))
+  pub settle-refused : RuledOut (settles (withAttempts newMeter 4) 0 (Pulse 1000001)) (refuses (withAttempts newMeter 4) 14)
       × RuledOut (settles newMeter replyRoom Unknown) (settles newMeter replyRoom Silence)
 
 -- of `firmware`

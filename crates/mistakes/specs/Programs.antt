@@ -82,7 +82,7 @@ pub record Meters : Type 0 where
   -- the mode for the speed, where nothing is replied
   pub gives-the-wrong-speed : RuledOut (answerOf (tick fast)) (answerOf (saying 1 4 [] (tick fast .next)))
   -- a settled character with a reply of one byte
-  pub says-a-byte-was-sent : RuledOut (settledReply (goesOn 5 emptyReceiver)) (record { number = 0; length = 1; speed = 5; place = 0 })
+  pub says-a-byte-was-sent : RuledOut (settledReply (goesOn fast emptyReceiver)) (record { number = 0; length = 1; speed = 5; place = 0 })
 
 pub record Head : Type 0 where
   -- what a meter answers for the head's own call on the wire

@@ -22,8 +22,8 @@ use Rattle.deciding.specs.declared.Verdict.the-variants.{Password, Read, WriteT
 use Rattle.replies.specs.declared.Ask.the-variants.{Energy, Export}
 use Rattle.deciding.specs.Verdict.{verdict}
 use Rattle.state.specs.Setting.{withHeld, withMark, withReceiver, inMode, withAttempts, withRegisters, withClock, withAccount, withTables, withCounters, withZones, withTotal, zonePlace, counterOf, rowStart, withRow, withSpeed}
-use Rattle.tariff.specs.Zones.{tableFor, zoneIn, counted, countedIn, countedOut}
-use Rattle.tariff.specs.Months.{secondLater}
+use Rattle.tariff.specs.Zones.{tableFor, zoneAt, zoneIn, counted, countedIn, countedOut}
+use Rattle.tariff.specs.Months.{monthStarts, secondLater}
 use Rattle.mistakes.specs.RuledOut.{RuledOut}
 use Rattle.mistakes.specs.Samples.{clockAt, serial, twos, newMeter, used, usedEqm, usedAt, heldIn, closedTwice, oldestFirst}
 
@@ -106,6 +106,11 @@ pub record Tariff : Type 0 where
   -- the zone of the hour before; the character for its number
   pub «zone_in» : RuledOut (zoneIn (withTables used (stored (newMeter .registers .tables) 300 (chars "2")))) 1
       × RuledOut (zoneIn (withTables used (stored (newMeter .registers .tables) 300 (chars "2")))) 50
+  -- the same of the rows alone
+  pub «zone_at» : RuledOut (zoneAt (stored (newMeter .registers .tables) 300 (chars "2")) 1 (used .clock)) 1
+      × RuledOut (zoneAt (stored (newMeter .registers .tables) 300 (chars "2")) 1 (used .clock)) 50
+  -- the midnight before the second of a month; an hour after one that starts it
+  pub «month_starts» : RuledOut (monthStarts (clockAt 2000 2 2 0 0 0)) true × RuledOut (monthStarts (clockAt 2000 2 1 1 0 0)) true
   -- the next zone's counter; 1,000,000,000 Wh and no return to 0
   pub count : RuledOut (counted (counterEnd 0) noCounters 2 5) (withZones noCounters (0 ∷ 0 ∷ 5 ∷ 0 ∷ []))
       × RuledOut (counted (counterEnd 0) (withZones noCounters (999999999 ∷ 0 ∷ 0 ∷ 0 ∷ [])) 1 1) (withZones noCounters (1000000000 ∷ 0 ∷ 0 ∷ 0 ∷ []))

@@ -159,7 +159,7 @@ module _ (k : Meter) (run : List ℕ) (begun : Begun k run) (b : ℕ) where
   next-by false false false e g n =
       record {
         session = begun .session;
-        held = kept-held r run b (held-long (k .mode) r (formed k (begun .formed) .receiver)) (leb-false 63 (r .count) g) (begun .held);
+        held = kept-held r run b (held-long (k .mode) r (formed k (begun .formed) .receiver)) (omega (arith, leb-false 63 (r .count) g)) (begun .held);
       }
 
   goes-on : character k replyRoom b .number ≡ 0 → Begun (character k replyRoom b .next) (oneMore run b)

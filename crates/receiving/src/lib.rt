@@ -6,7 +6,7 @@ ghost use lib.ListN.{length, take, getD, set};
 ghost use Rattle.receiving.specs.Hearing.{listening, confirming, framing, hearing};
 ghost use Rattle.receiving.specs.Receivers.{hurtPlace, keptReceiver, restartedReceiver, lastHeld};
 ghost use Rattle.state.specs.Sizes.{heldPlaces};
-use state::HELD_PLACES;
+use state::MOST_HELD;
 use state::Receiver;
 use state::setting::empty_receiver;
 use state::setting::with_held;
@@ -75,7 +75,7 @@ fn frame(count: u8, last: u8, c: u8) -> Hearing
     if count == 0 {
         return Hearing::Drop;
     }
-    if HELD_PLACES <= count {
+    if MOST_HELD <= count {
         return Hearing::TooLong;
     }
     Hearing::Hold

@@ -1,26 +1,31 @@
 -- What is settled is all that the event does; what is left meets a well-formed meter, and nothing else refuses it. Assumes nothing.
 use mathlib.Core.Path.{_≡_, refl, _∙_}
 use mathlib.Core.Bool.{Bool, true, false, cond}
-use Prim.Native.Nat.{ℕ}
+use Prim.Native.Nat.{ℕ, _≤_}
 use native.Mathlib.Omega.{arith}
 use lib.Dec.{eqb}
 use borrow.Author.Tests.{eqb-true}
 use Rattle.line.specs.Characters.{damagedAt}
 use Rattle.values.specs.Edition.{isEdition}
+use Rattle.clock.specs.Seconds.{nextSecond}
 use Rattle.state.specs.declared.Meter.{Meter}
+use Rattle.state.specs.Setting.{withRegisters, withClock}
+use Rattle.state.specs.Closing.{closing}
+use Rattle.tariff.specs.Months.{monthStarts, monthClosed}
 use Rattle.state.specs.WellFormed.{editionOf, familyOf, wellFormed}
 use Rattle.receiving.specs.declared.Hearing.{Hearing}
 use Rattle.receiving.specs.declared.Hearing.the-variants.{Drop, Hold, Restart, Empty, Line, Confirm, Frame, TooLong}
 use Rattle.receiving.specs.Hearing.{hearing}
 use Rattle.receiving.specs.Receivers.{lastHeld}
-use Rattle.meter.specs.Outcomes.{Outcome, unheard}
+use Rattle.meter.specs.Outcomes.{Outcome, silent, unheard}
+use Rattle.meter.specs.Events.{afterTick, afterPulse}
 use Rattle.meter.specs.Character.{symbol, heard, taken}
 use Rattle.meter.specs.declared.Event.{Event}
 use Rattle.meter.specs.declared.Event.the-variants.{Character, Silence, Tick, Pulse, PowerUp, PulseOut, Unknown}
 use Rattle.meter.specs.Life.{met, refusal, happened}
-use Rattle.meter.proofs.Tests.{met-in-order}
+use Rattle.meter.proofs.Tests.{met-in-order, pulse-small, pulse-out-small}
 use Rattle.settling.specs.declared.Heard.{Heard}
-use Rattle.settling.specs.Settling.{refuses, heardAs, heardBy, heardOf, settles, settledOutcome}
+use Rattle.settling.specs.Settling.{ends, refuses, movesOn, heardAs, heardBy, tickedBy, pulsedBy, toldBy, heardOf, settles, settledOutcome}
 
 heard-settled : (m : Meter) (c : ℕ) (damaged : Bool) (h : Hearing) → heardAs m c damaged h .settled ≡ true → heard m c damaged h ≡ settledOutcome m (heardAs m c damaged h)
 unfolding heardAs heard
@@ -33,24 +38,51 @@ heard-settled m c damaged Confirm e = absurd (let z : _≡_ {A = ℕ} 0 1 = cc i
 heard-settled m c damaged Frame e = absurd (let z : _≡_ {A = ℕ} 0 1 = cc in omega arith)
 heard-settled m c damaged TooLong e = absurd (let z : _≡_ {A = ℕ} 0 1 = cc in omega arith)
 
+tick-settled : (m : Meter) → tickedBy m .settled ≡ true → afterTick m ≡ settledOutcome m (tickedBy m)
+unfolding tickedBy monthClosed
+tick-settled m = go (monthStarts (nextSecond (m .registers .clock)))
+  where
+    go : (b : Bool) → cond b (ends m) (movesOn m (nextSecond (m .registers .clock)) (m .registers .counters) (m .registers .exported)) .settled ≡ true
+        → silent 1 (withRegisters m (cond b (closing (withClock (m .registers) (nextSecond (m .registers .clock)))) (withClock (m .registers) (nextSecond (m .registers .clock)))))
+        ≡ settledOutcome m (cond b (ends m) (movesOn m (nextSecond (m .registers .clock)) (m .registers .counters) (m .registers .exported)))
+    go true s = absurd (let z : _≡_ {A = ℕ} 0 1 = cc in omega arith)
+    go false s = refl
+
+pulse-settled : (m : Meter) (out : Bool) (units : ℕ) → afterPulse m out units ≡ settledOutcome m (pulsedBy m out units)
+unfolding pulsedBy
+pulse-settled m true units = refl
+pulse-settled m false units = refl
+
 event-settled : (m : Meter) (e : Event) → heardOf m e .settled ≡ true → happened m e ≡ settledOutcome m (heardOf m e)
 unfolding heardOf heardBy happened taken
 event-settled m (Character b) s = heard-settled m (symbol b) (damagedAt b) (hearing (m .mode) (m .receiver .count) (lastHeld (m .receiver)) (symbol b)) s
 event-settled m Silence s = absurd (let z : _≡_ {A = ℕ} 0 1 = cc in omega arith)
-event-settled m Tick s = absurd (let z : _≡_ {A = ℕ} 0 1 = cc in omega arith)
-event-settled m (Pulse units) s = absurd (let z : _≡_ {A = ℕ} 0 1 = cc in omega arith)
-event-settled m (PulseOut units) s = absurd (let z : _≡_ {A = ℕ} 0 1 = cc in omega arith)
+event-settled m Tick s = tick-settled m s
+event-settled m (Pulse units) s = pulse-settled m false units
 event-settled m PowerUp s = absurd (let z : _≡_ {A = ℕ} 0 1 = cc in omega arith)
+event-settled m (PulseOut units) s = pulse-settled m true units
 event-settled m Unknown s = absurd (let z : _≡_ {A = ℕ} 0 1 = cc in omega arith)
+
+-- a pulse is heard as what it says, and is small where nothing refuses it
+pub pulse-told : (m : Meter) (family room : ℕ) (e : Event) → toldBy e .pulse ≡ true → refusal family room e ≡ 0
+    → (pulsedBy m (toldBy e .out) (toldBy e .units) ≡ heardOf m e) × (toldBy e .units ≤ 1000000)
+unfolding toldBy heardOf
+pulse-told m family room (Character b) t h = absurd (let z : _≡_ {A = ℕ} 0 1 = cc in omega arith)
+pulse-told m family room Silence t h = absurd (let z : _≡_ {A = ℕ} 0 1 = cc in omega arith)
+pulse-told m family room Tick t h = absurd (let z : _≡_ {A = ℕ} 0 1 = cc in omega arith)
+pulse-told m family room (Pulse units) t h = (refl, pulse-small family room (Pulse units) units refl h)
+pulse-told m family room PowerUp t h = absurd (let z : _≡_ {A = ℕ} 0 1 = cc in omega arith)
+pulse-told m family room (PulseOut units) t h = (refl, pulse-out-small family room (PulseOut units) units refl h)
+pulse-told m family room Unknown t h = absurd (let z : _≡_ {A = ℕ} 0 1 = cc in omega arith)
 
 pub settled-is : (m : Meter) (room : ℕ) (e : Event) → settles m room e .settled ≡ true → met m room e ≡ settledOutcome m (settles m room e)
 unfolding settles
 settled-is m room e s = met-in-order m room e ∙ go (isEdition (editionOf m)) (refusal (familyOf m) room e) (eqb (refusal (familyOf m) room e) 0) (wellFormed m) (happened m e) (heardOf m e) (event-settled m e) s
   where
     go : (k : Bool) (n : ℕ) (p q : Bool) (o : Outcome) (h : Heard) → (h .settled ≡ true → o ≡ settledOutcome m h)
-        → cond k (cond p (cond q h (refuses 14 (m .receiver))) (refuses n (m .receiver))) (refuses 16 (m .receiver)) .settled ≡ true
+        → cond k (cond p (cond q h (refuses m 14)) (refuses m n)) (refuses m 16) .settled ≡ true
         → cond k (cond p (cond q o (unheard 14 m)) (unheard n m)) (unheard 16 m)
-        ≡ settledOutcome m (cond k (cond p (cond q h (refuses 14 (m .receiver))) (refuses n (m .receiver))) (refuses 16 (m .receiver)))
+        ≡ settledOutcome m (cond k (cond p (cond q h (refuses m 14)) (refuses m n)) (refuses m 16))
     go false n p q o h f s = refl
     go true n true true o h f s = f s
     go true n true false o h f s = refl
@@ -67,7 +99,7 @@ unfolding settles
 left-is m room e = go (isEdition (editionOf m)) refl (eqb (refusal (familyOf m) room e) 0) refl (wellFormed m) refl (heardOf m e)
   where
     go : (k : Bool) → isEdition (editionOf m) ≡ k → (p : Bool) → eqb (refusal (familyOf m) room e) 0 ≡ p → (q : Bool) → wellFormed m ≡ q → (h : Heard)
-        → cond k (cond p (cond q h (refuses 14 (m .receiver))) (refuses (refusal (familyOf m) room e) (m .receiver))) (refuses 16 (m .receiver)) .settled ≡ false
+        → cond k (cond p (cond q h (refuses m 14)) (refuses m (refusal (familyOf m) room e))) (refuses m 16) .settled ≡ false
         → Left m room e
     go false o p a q w h s = absurd (let z : _≡_ {A = ℕ} 0 1 = cc in omega arith)
     go true o true a true w h s = record { formed = w; unrefused = eqb-true (refusal (familyOf m) room e) 0 a; all = met-in-order m room e ∙ rw (o, a, w) }

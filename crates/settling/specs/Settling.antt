@@ -1,4 +1,4 @@
--- What an event does to a meter that only goes on listening: nothing but its receiver changes, and there is no reply.
+-- What an event does that has no reply and changes little: the receiver, the clock or the counters, and nothing else of the meter.
 use mathlib.Core.Bool.{Bool, true, false, cond}
 use mathlib.Core.List.{[]}
 use Prim.Native.Nat.{ℕ}
@@ -7,63 +7,121 @@ use Rattle.line.specs.Characters.{damagedAt}
 use Rattle.values.specs.Edition.{isEdition}
 use Rattle.state.specs.declared.Receiver.{Receiver}
 use Rattle.state.specs.declared.Meter.{Meter}
+use Rattle.state.specs.declared.Counters.{Counters}
+use Rattle.clock.specs.declared.Clock.{Clock}
+use Rattle.clock.specs.Seconds.{nextSecond}
+use Rattle.tariff.specs.Zones.{countedIn, countedOut}
+use Rattle.tariff.specs.Months.{monthStarts}
 use Rattle.state.specs.WellFormed.{editionOf, familyOf, wellFormed}
 use Rattle.state.specs.Making.{emptyReceiver}
 use Rattle.receiving.specs.declared.Hearing.{Hearing}
 use Rattle.receiving.specs.declared.Hearing.the-variants.{Drop, Hold, Restart, Empty, Line, Confirm, Frame, TooLong}
 use Rattle.receiving.specs.Hearing.{hearing}
 use Rattle.receiving.specs.Receivers.{lastHeld, keptReceiver, restartedReceiver}
-use Rattle.state.specs.Setting.{withReceiver}
+use Rattle.state.specs.Setting.{withReceiver, withRegisters, withClock, withCounters, withExported}
 use Rattle.meter.specs.Outcomes.{Outcome, speedOf}
 use Rattle.meter.specs.Character.{symbol}
 use Rattle.meter.specs.declared.Event.{Event}
 use Rattle.meter.specs.declared.Event.the-variants.{Character, Silence, Tick, Pulse, PowerUp, PulseOut, Unknown}
 use Rattle.meter.specs.Life.{refusal}
 use Rattle.settling.specs.declared.Heard.{Heard}
+use Rattle.settling.specs.declared.Told.{Told}
+
+-- settled or not, with this number and speed, this receiver, and clock and counters as they are
+abbrev pub standing : Meter → Bool → ℕ → ℕ → Receiver → Heard
+standing m settled number speed r =
+    record {
+      settled = settled;
+      number = number;
+      speed = speed;
+      receiver = r;
+      clock = m .registers .clock;
+      counters = m .registers .counters;
+      exported = m .registers .exported;
+    }
 
 -- answer 0, and the receiver after the character
-abbrev pub goesOn : ℕ → Receiver → Heard
-goesOn speed r = record { settled = true; number = 0; speed = speed; receiver = r }
+abbrev pub goesOn : Meter → Receiver → Heard
+goesOn m r = standing m true 0 (speedOf m) r
 
 -- the character ends a line, a confirmation or a frame, or is one too many of a frame: the meter has to act
-abbrev pub ends : Receiver → Heard
-ends r = record { settled = false; number = 0; speed = 0; receiver = r }
+abbrev pub ends : Meter → Heard
+ends m = standing m false 0 0 (m .receiver)
 
 -- 16, 99, 13, 12 or 14: nothing changed, speed 0
-abbrev pub refuses : ℕ → Receiver → Heard
-refuses number r = record { settled = true; number = number; speed = 0; receiver = r }
+abbrev pub refuses : Meter → ℕ → Heard
+refuses m number = standing m true number 0 (m .receiver)
+
+-- answer 1, with this clock and these counters
+abbrev pub movesOn : Meter → Clock → Counters → Counters → Heard
+movesOn m clock counters exported =
+    record { settled = true; number = 1; speed = speedOf m; receiver = m .receiver; clock = clock; counters = counters; exported = exported }
 
 unfoldable pub heardAs : Meter → ℕ → Bool → Hearing → Heard
-heardAs m c damaged Drop = goesOn (speedOf m) (m .receiver)
-heardAs m c damaged Hold = goesOn (speedOf m) (keptReceiver (m .receiver) c damaged)
-heardAs m c damaged Restart = goesOn (speedOf m) (restartedReceiver c)
-heardAs m c damaged Empty = goesOn (speedOf m) emptyReceiver
-heardAs m c damaged Line = ends (m .receiver)
-heardAs m c damaged Confirm = ends (m .receiver)
-heardAs m c damaged Frame = ends (m .receiver)
-heardAs m c damaged TooLong = ends (m .receiver)
+heardAs m c damaged Drop = goesOn m (m .receiver)
+heardAs m c damaged Hold = goesOn m (keptReceiver (m .receiver) c damaged)
+heardAs m c damaged Restart = goesOn m (restartedReceiver c)
+heardAs m c damaged Empty = goesOn m emptyReceiver
+heardAs m c damaged Line = ends m
+heardAs m c damaged Confirm = ends m
+heardAs m c damaged Frame = ends m
+heardAs m c damaged TooLong = ends m
 
 unfoldable pub heardBy : Meter → ℕ → Heard
 heardBy m b = heardAs m (symbol b) (damagedAt b) (hearing (m .mode) (m .receiver .count) (lastHeld (m .receiver)) (symbol b))
 
--- a character may change the receiver alone; on all else the meter has to act
+-- a second moves the clock alone, but for the one that starts a month
+unfoldable pub tickedBy : Meter → Heard
+tickedBy m =
+    cond (monthStarts (nextSecond (m .registers .clock))) (ends m)
+    (movesOn m (nextSecond (m .registers .clock)) (m .registers .counters) (m .registers .exported))
+
+-- a pulse moves the counters of its direction
+unfoldable pub pulsedBy : Meter → Bool → ℕ → Heard
+pulsedBy m out units =
+    cond out (movesOn m (m .registers .clock) (m .registers .counters) (countedOut (m .registers) units .exported))
+    (movesOn m (m .registers .clock) (countedIn (m .registers) units .counters) (m .registers .exported))
+
+-- whether an event is a pulse, its direction and its units
+unfoldable pub toldBy : Event → Told
+toldBy (Character b) = record { pulse = false; out = false; units = 0 }
+toldBy Silence = record { pulse = false; out = false; units = 0 }
+toldBy Tick = record { pulse = false; out = false; units = 0 }
+toldBy (Pulse units) = record { pulse = true; out = false; units = units }
+toldBy PowerUp = record { pulse = false; out = false; units = 0 }
+toldBy (PulseOut units) = record { pulse = true; out = true; units = units }
+toldBy Unknown = record { pulse = false; out = false; units = 0 }
+
+-- a character may change the receiver alone, a second the clock, a pulse its counters; on all else the meter has to act
 unfoldable pub heardOf : Meter → Event → Heard
 heardOf m (Character b) = heardBy m b
-heardOf m Silence = ends (m .receiver)
-heardOf m Tick = ends (m .receiver)
-heardOf m (Pulse units) = ends (m .receiver)
-heardOf m PowerUp = ends (m .receiver)
-heardOf m (PulseOut units) = ends (m .receiver)
-heardOf m Unknown = ends (m .receiver)
+heardOf m Silence = ends m
+heardOf m Tick = tickedBy m
+heardOf m (Pulse units) = pulsedBy m false units
+heardOf m PowerUp = ends m
+heardOf m (PulseOut units) = pulsedBy m true units
+heardOf m Unknown = ends m
 
 -- an edition that there is not: 16; what refuses the event whatever the rest of the state; then a malformed state: 14
 unfoldable pub settles : Meter → ℕ → Event → Heard
 settles m room e =
     cond (isEdition (editionOf m))
-    (cond (eqb (refusal (familyOf m) room e) 0) (cond (wellFormed m) (heardOf m e) (refuses 14 (m .receiver)))
-    (refuses (refusal (familyOf m) room e) (m .receiver)))
-    (refuses 16 (m .receiver))
+    (cond (eqb (refusal (familyOf m) room e) 0) (cond (wellFormed m) (heardOf m e) (refuses m 14))
+    (refuses m (refusal (familyOf m) room e)))
+    (refuses m 16)
 
--- all that comes of a settled event
+-- the meter with the receiver, the clock and the counters of a settled event, and all else as it was
+abbrev pub settledMeter : Meter → Receiver → Clock → Counters → Counters → Meter
+settledMeter m r clock counters exported =
+    withRegisters (withReceiver m r) (withExported (withCounters (withClock (m .registers) clock) counters) exported)
+
+-- all that comes of it
 abbrev pub settledOutcome : Meter → Heard → Outcome
-settledOutcome m h = record { number = h .number; speed = h .speed; reply = []; place = 0; next = withReceiver m (h .receiver) }
+settledOutcome m h =
+    record {
+      number = h .number;
+      speed = h .speed;
+      reply = [];
+      place = 0;
+      next = settledMeter m (h .receiver) (h .clock) (h .counters) (h .exported);
+    }

@@ -1,12 +1,11 @@
 -- The archive: what is said of its periods one by one, and what one more period makes of it. Assumes nothing.
 use mathlib.Core.Path.{_≡_, refl, sym, ap, _∙_}
-use mathlib.Core.Bool.{Bool, true, false, cond, _&&_}
+use mathlib.Core.Bool.{Bool, true, false, cond, _&&_, and-true}
 use mathlib.Core.List.{List, [], _∷_, _++_}
 use Prim.Native.Nat.{ℕ, zero, suc, _+_, _-_, _<_, _≤_}
 use native.Mathlib.Omega.{arith}
-use native.Mathlib.Nat.{add-zero, zero-add}
 use native.Mathlib.Numerals.{add-one}
-use borrow.Author.Tests.{leb-true, eqb-true, ltb-true, ltb-false, lt-ltb, le-ltb}
+use borrow.Author.Tests.{leb-true, eqb-true, ltb-true, ltb-false}
 use lib.Dec.{eqb, leb, ltb}
 use lib.ListN.{length, getD, take, drop, replicate, drop-of-length-le}
 use lib.Seq.{drop-cons, length-take-le, take-all, take-take}
@@ -16,7 +15,7 @@ use Rattle.clock.specs.Seconds.{dateOf}
 use Rattle.state.specs.declared.Period.{Period}
 use Rattle.state.specs.declared.Archive.{Archive}
 use Rattle.state.specs.Sizes.{periodPlaces}
-use Rattle.state.specs.WellFormed.{below, zonesBelow, bothBelow, noTime, periodGood, unused, everyPeriod, placeGood, placesGood, archiveGood}
+use Rattle.state.specs.WellFormed.{below, zonesBelow, bothBelow, noTime, periodGood, unused, everyPeriod, archiveGood}
 use Rattle.state.specs.Making.{noPeriod}
 use Rattle.state.specs.Closing.{periodsOf, closedWith, oneMore}
 
@@ -24,32 +23,15 @@ use Rattle.state.specs.Closing.{periodsOf, closedWith, oneMore}
 pub period-next : (i : ℕ) (s : List Period) (d : Period) → i < length s → drop i s ≡ getD s i d ∷ drop (i + 1) s
 period-next i s d h = rw add-one (drop-cons s i d h)
 
--- places behind places
-pub places-append : (family i count : ℕ) (ps qs : List Period) → placesGood family i count (ps ++ qs) ≡ (placesGood family i count ps && placesGood family (i + length ps) count qs)
-unfolding placesGood
-places-append family i count [] qs = ap (λ (k : ℕ). placesGood family k count qs) (sym (add-zero i))
-places-append family i count (p ∷ ps) qs =
-    ap (λ (b : Bool). placeGood family (ltb i count) p && b)
-    (places-append family (i + 1) count ps qs ∙ ap (λ (k : ℕ). placesGood family (i + 1) count ps && placesGood family k count qs) (along i (length ps)))
-    ∙ sym (and-assoc (placeGood family (ltb i count) p) (placesGood family (i + 1) count ps) (placesGood family (i + length (p ∷ ps)) count qs))
-  where
-    along : (j n : ℕ) → j + 1 + n ≡ j + suc n
-    along j n = omega arith
+-- a test over periods, one at a time: the flag with what is left says it of the whole
+module _ (p : Period → Bool) (s : List Period) (i : ℕ) (ok whole : Bool) where
+  pub period-turn : (d : Period) → i < length s → (ok && everyPeriod p (drop i s)) ≡ whole → ((ok && p (getD s i d)) && everyPeriod p (drop (i + 1) s)) ≡ whole
+  unfolding everyPeriod
+  period-turn d h e = and-assoc ok (p (getD s i d)) (everyPeriod p (drop (i + 1) s)) ∙ (rw (period-next i s d h) at e)
 
--- so many kept, and then unused ones
-all-unused : (family i count : ℕ) (ps : List Period) → count ≤ i → placesGood family i count ps ≡ everyPeriod unused ps
-unfolding placesGood everyPeriod placeGood
-all-unused family i count [] h = refl
-all-unused family i count (p ∷ ps) h = rw (le-ltb i count h, all-unused family (i + 1) count ps (omega (arith, h)))
-
-pub places-all : (family n i count : ℕ) (ps : List Period) → count ≡ i + n
-    → placesGood family i count ps ≡ (everyPeriod (periodGood family) (take n ps) && everyPeriod unused (drop n ps))
-unfolding placesGood everyPeriod placeGood
-places-all family zero i count ps e = all-unused family i count ps (omega (arith, e))
-places-all family (suc n) i count [] e = refl
-places-all family (suc n) i count (p ∷ ps) e =
-    rw (lt-ltb i count (omega (arith, e)), places-all family n (i + 1) count ps (omega (arith, e)))
-    (sym (and-assoc (periodGood family p) (everyPeriod (periodGood family) (take n ps)) (everyPeriod unused (drop n ps))))
+  pub period-end : length s ≤ i → (ok && everyPeriod p (drop i s)) ≡ whole → ok ≡ whole
+  unfolding everyPeriod
+  period-end h e = sym (and-true ok) ∙ (rw (drop-of-length-le s h) at e)
 
 one-by-one : (q : List Period) (d : Period) → length q ≡ periodPlaces
     → getD q 0 d ∷ getD q 1 d ∷ getD q 2 d ∷ getD q 3 d ∷ getD q 4 d ∷ getD q 5 d ∷ getD q 6 d ∷ getD q 7 d ∷ getD q 8 d ∷ getD q 9 d ∷ getD q 10 d ∷ getD q 11 d ∷ []
@@ -71,21 +53,6 @@ one-by-one q d n =
       period-next 11 q d (omega arith),
       drop-of-length-le q end,
     )
-
--- all twelve, told in fours
-pub twelve-good : (family : ℕ) (q : List Period) (d : Period) (count : ℕ) → length q ≡ periodPlaces
-    → (placesGood family 0 count (getD q 0 d ∷ getD q 1 d ∷ getD q 2 d ∷ getD q 3 d ∷ [])
-    && (placesGood family 4 count (getD q 4 d ∷ getD q 5 d ∷ getD q 6 d ∷ getD q 7 d ∷ [])
-    && placesGood family 8 count (getD q 8 d ∷ getD q 9 d ∷ getD q 10 d ∷ getD q 11 d ∷ [])))
-    ≡ (everyPeriod (periodGood family) (take count q) && everyPeriod unused (drop count q))
-twelve-good family q d count n =
-    let first = getD q 0 d ∷ getD q 1 d ∷ getD q 2 d ∷ getD q 3 d ∷ [] in
-    let second = getD q 4 d ∷ getD q 5 d ∷ getD q 6 d ∷ getD q 7 d ∷ [] in
-    let third = getD q 8 d ∷ getD q 9 d ∷ getD q 10 d ∷ getD q 11 d ∷ [] in
-    ap (λ (b : Bool). placesGood family 0 count first && b) (sym (places-append family 4 count second third))
-    ∙ sym (places-append family 0 count first (second ++ third))
-    ∙ ap (placesGood family 0 count) (one-by-one q d n)
-    ∙ places-all family count 0 count q (sym (zero-add count))
 
 -- an archive taken apart
 pub record FormedArchive (family : ℕ) (a : Archive) : Type 0 where

@@ -10,7 +10,7 @@ use borrow.Author.Tests.{le-leb, lt-leb, eq-eqb, ne-eqb}
 use Rattle.line.specs.Runs.{every}
 use Rattle.line.proofs.Runs.{and-assoc, left-next}
 use Rattle.text.specs.Classes.{between}
-use Rattle.state.specs.Sizes.{heldPlaces}
+use Rattle.state.specs.Sizes.{mostHeld, heldPlaces}
 use Rattle.state.specs.WellFormed.{limit, heldGood}
 
 -- a place: any of 0 to 127 while `below` says that it is held, else 0
@@ -74,4 +74,4 @@ at-most false x y m h k = k
 
 pub limit-most : (mode : ℕ) → limit mode ≤ heldPlaces
 unfolding limit
-limit-most mode = at-most (eqb mode 0) 31 _ 63 (omega arith) (at-most (eqb mode 1) 5 63 63 (omega arith) (omega arith))
+limit-most mode = at-most (eqb mode 0) 31 _ heldPlaces (omega arith) (at-most (eqb mode 1) 5 mostHeld heldPlaces (omega arith) (omega arith))

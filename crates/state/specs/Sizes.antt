@@ -3,8 +3,12 @@ use Prim.Native.Nat.{ℕ}
 pub use Rattle.values.specs.Edition.{rowLength, tablePlaces}
 
 -- a receiver holds 63 characters at most
+abbrev pub mostHeld : ℕ
+mostHeld = 63
+
+-- and has one place more, so that the places are whole words
 abbrev pub heldPlaces : ℕ
-heldPlaces = 63
+heldPlaces = 64
 
 -- the least room of a reply buffer
 abbrev pub replyRoom : ℕ

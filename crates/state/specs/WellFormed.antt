@@ -20,17 +20,17 @@ use Rattle.state.specs.declared.Archive.{Archive}
 use Rattle.state.specs.declared.Registers.{Registers}
 use Rattle.state.specs.declared.Meter.{Meter}
 use Rattle.state.specs.Link.{linkOf, restSpeed}
-use Rattle.state.specs.Sizes.{heldPlaces, rowLength, tablePlaces, periodPlaces}
+use Rattle.state.specs.Sizes.{mostHeld, heldPlaces, rowLength, tablePlaces, periodPlaces}
 
 -- at most 31 held in mode 0, 5 in mode 1, 63 in modes 2 to 4
 unfoldable pub limit : ℕ → ℕ
-limit mode = cond (eqb mode 0) 31 (cond (eqb mode 1) 5 heldPlaces)
+limit mode = cond (eqb mode 0) 31 (cond (eqb mode 1) 5 mostHeld)
 
 -- the first held is '/' in mode 0, SOH in modes 2 to 4
 unfoldable pub firstGood : ℕ → ℕ → ℕ → Bool
 firstGood mode count first = cond (eqb mode 0) (eqb count 0 || eqb first 47) (eqb count 0 || (eqb mode 1 || eqb first 1))
 
--- there are 63 places; held characters are 0 to 127, and unused places hold 0
+-- there are 64 places; held characters are 0 to 127, and unused places hold 0
 unfoldable pub heldGood : List ℕ → ℕ → Bool
 heldGood held count = eqb (length held) heldPlaces && (every (between 0 127) held && every (between 0 0) (drop count held))
 
@@ -111,14 +111,6 @@ unused p = noTime (p .closed) && bothBelow 1 1 p
 unfoldable pub everyPeriod : (Period → Bool) → List Period → Bool
 everyPeriod p [] = true
 everyPeriod p (x ∷ xs) = p x && everyPeriod p xs
-
--- places from the i-th on: a period where it is one of the first so many, else nothing
-unfoldable pub placeGood : ℕ → Bool → Period → Bool
-placeGood family used p = cond used (periodGood family p) (unused p)
-
-unfoldable pub placesGood : ℕ → ℕ → ℕ → List Period → Bool
-placesGood family i count [] = true
-placesGood family i count (p ∷ ps) = placeGood family (ltb i count) p && placesGood family (i + 1) count ps
 
 -- 0 to 12 periods are kept, the others of the twelve places are unused
 unfoldable pub archiveGood : ℕ → Archive → Bool

@@ -2,10 +2,9 @@
 ghost use mathlib.Core.Path.{_≡_};
 ghost use mathlib.Core.Bool.{true};
 ghost use Prim.Native.Nat.{_≤_};
-ghost use mathlib.Core.List.{[], _∷_};
-ghost use lib.ListN.{length, drop};
+ghost use lib.ListN.{length, take, drop};
 ghost use Rattle.state.specs.Sizes.{periodPlaces};
-ghost use Rattle.state.specs.WellFormed.{bothBelow, periodGood, noTime, unused, everyPeriod, placeGood, placesGood, archiveGood};
+ghost use Rattle.state.specs.WellFormed.{bothBelow, periodGood, noTime, unused, everyPeriod, archiveGood};
 ghost use Rattle.state.specs.Closing.{oneMore, closedWith, closing};
 ghost use Rattle.state.specs.Making.{noPeriod, emptyArchive};
 use crate::Archive;
@@ -76,29 +75,6 @@ fn is_unused(p: Period) -> bool
     has_no_time(p.closed) & both_below(p, 1, 1)
 }
 
-// Whether a place holds what it has to.
-fn place_good(p: Period, used: bool, family: u8) -> bool
-    ensures { λ r. ⌜ r ≡ placeGood family used p ⌝ }
-{
-    if used {
-        return period_good(p, family);
-    }
-    is_unused(p)
-}
-
-// The same of four places. They are given one by one, so that no place is copied: nearly no event touches the archive, and each looks at it.
-fn four_good(p: Period, q: Period, r: Period, s: Period, first: u8, count: u8, family: u8) -> bool
-    requires { ⌜ first ≤ 8 ⌝ }
-    ensures { λ x. ⌜ x ≡ placesGood family first count (p ∷ q ∷ r ∷ s ∷ []) ⌝ }
-{
-    let second = first + 1;
-    let third = second + 1;
-    let fourth = third + 1;
-    place_good(p, first < count, family)
-        & (place_good(q, second < count, family)
-            & (place_good(r, third < count, family) & place_good(s, fourth < count, family)))
-}
-
 // How many places there are.
 fn places(periods: [Period; PERIODS]) -> usize
     ensures { λ r. ⌜ r ≡ length periods ⌝ }
@@ -107,18 +83,28 @@ fn places(periods: [Period; PERIODS]) -> usize
     PERIODS
 }
 
-// Whether an archive is well-formed.
+// Whether an archive is well-formed: the first so many places hold good periods, and those behind them are unused. One copy of the places serves both loops.
 pub fn archive_good(a: Archive, family: u8) -> bool
     ensures { λ r. ⌜ r ≡ archiveGood family a ⌝ }
 {
     let q = a.periods;
     let count = a.count;
-    if count as usize <= places(q) {
-        return four_good(q[0], q[1], q[2], q[3], 0, count, family)
-            & (four_good(q[4], q[5], q[6], q[7], 4, count, family)
-                & four_good(q[8], q[9], q[10], q[11], 8, count, family));
+    if places(q) < count as usize {
+        return false;
     }
-    false
+    let mut ok = true;
+    let mut i = 0;
+    while i < count {
+        let p = q[i as usize];
+        ok = ok & period_good(p, family);
+        i += 1;
+    }
+    while i < PERIODS as u8 {
+        let p = q[i as usize];
+        ok = ok & is_unused(p);
+        i += 1;
+    }
+    ok
 }
 
 fn one_more(count: u8) -> u8

@@ -21,7 +21,10 @@ pub mod link;
 pub mod setting;
 
 // A receiver holds so many characters at most.
-pub const HELD_PLACES: u8 = 63;
+pub const MOST_HELD: u8 = 63;
+
+// It has one place more, which stays 0: 64 are tested a word or a vector at a time, with nothing over.
+pub const HELD_PLACES: u8 = 64;
 
 // The rows of all tables, one after the other.
 pub const ALL_ROWS: usize = TABLE_PLACES * ROW_LENGTH;
@@ -112,7 +115,7 @@ pub fn limit_of(mode: u8) -> u8
     if mode == 1 {
         return 5;
     }
-    HELD_PLACES
+    MOST_HELD
 }
 
 // Whether the first held character is the one that the mode asks for.
@@ -135,7 +138,7 @@ fn hurt_good(count: u8, mark: u8, place: u8) -> bool
     place == 0
 }
 
-// Whether 63 characters are within 0 to 127, and 0 from the count on. As long as a place is below the count, `below` is 128 or more: it has
+// Whether 64 characters are within 0 to 127, and 0 from the count on. As long as a place is below the count, `below` is 128 or more: it has
 // eight bits like the characters, so that the compiler tests many places at once.
 fn held_good(held: &[u8], count: u8) -> bool
     requires { ⌜ (length (now held) ≡ heldPlaces) × (count ≤ heldPlaces) ⌝ }

@@ -3,9 +3,11 @@
 use mathlib.Core.Bool.{Bool, cond, _&&_}
 use Prim.Native.Nat.{ℕ, _+_, _-_, _%_}
 use lib.Dec.{eqb, ltb}
+use mathlib.Core.List.{List}
 use lib.ListN.{getD, set}
 use Rattle.clock.specs.Weekday.{weekday}
 use Rattle.clock.specs.declared.Date.{Date}
+use Rattle.clock.specs.declared.Clock.{Clock}
 use Rattle.values.specs.Family.{counterEnd, exportEnd}
 use Rattle.state.specs.declared.Counters.{Counters}
 use Rattle.state.specs.declared.Registers.{Registers}
@@ -20,8 +22,11 @@ unfoldable pub tableFor : ℕ → Date → ℕ
 tableFor edition d = cond (ltb (weekday d) 5) (d .month) (cond (ownDay edition (weekday d)) 25 (12 + d .month))
 
 -- the zone that the character for the hour in the day's table names, '1' to '4'
+abbrev pub zoneAt : List ℕ → ℕ → Clock → ℕ
+zoneAt rows edition c = getD rows (rowStart (tableFor edition (c .date)) + c .time .hour) 0 - 48
+
 unfoldable pub zoneIn : Registers → ℕ
-zoneIn g = getD (g .tables) (rowStart (tableFor (g .facts .edition) (g .clock .date)) + g .clock .time .hour) 0 - 48
+zoneIn g = zoneAt (g .tables) (g .facts .edition) (g .clock)
 
 abbrev pub grown : ℕ → ℕ → ℕ → ℕ
 grown end counter units = (counter + units) % end

@@ -4,7 +4,7 @@ ghost use mathlib.Core.Bool.{true};
 ghost use Prim.Native.Nat.{_-_, _≤_, _<_};
 ghost use Rattle.values.specs.Family.{counterEnd, exportEnd};
 ghost use Rattle.state.specs.WellFormed.{familyIn, countersGood, archiveGood};
-ghost use Rattle.tariff.specs.Zones.{ownDay, tableFor, zoneIn, grown, counted, countedIn, countedOut};
+ghost use Rattle.tariff.specs.Zones.{ownDay, tableFor, zoneAt, zoneIn, grown, counted, countedIn, countedOut};
 ghost use Rattle.tariff.specs.Months.{monthStarts, monthClosed, secondLater};
 use clock::Clock;
 use clock::Date;
@@ -37,17 +37,23 @@ fn digit(c: u8) -> u8
 }
 
 // The zone that the day's table names for the hour.
+pub fn zone_at(rows: &[u8], edition: u8, c: Clock) -> ZoneNo
+    requires { ⌜ c .date .month ≤ 12 ⌝ }
+    ensures { λ r. ⌜ r .0 ≡ zoneAt (now (rows .entry)) edition c ⌝ }
+{
+    let d = c.date;
+    let t = c.time;
+    let at = state::setting::row_start(table_for(edition, d)) + t.hour as usize;
+    ZoneNo(digit(text::at(rows, at)))
+}
+
 pub fn zone_in(g: Registers) -> ZoneNo
     requires { ⌜ g .clock .date .month ≤ 12 ⌝ }
     ensures { λ r. ⌜ r .0 ≡ zoneIn g ⌝ }
 {
-    let c = g.clock;
-    let d = c.date;
-    let t = c.time;
-    let f = g.facts;
     let rows = g.tables;
-    let at = state::setting::row_start(table_for(f.edition, d)) + t.hour as usize;
-    ZoneNo(digit(text::at(&rows, at)))
+    let f = g.facts;
+    zone_at(&rows, f.edition, g.clock)
 }
 
 // A counter some units of the last place on; it rolls over at an end.
@@ -96,7 +102,7 @@ pub fn count_out(g: Registers, units: u32) -> Registers
 }
 
 // Whether it is 00:00:00 on the first of a month.
-fn month_starts(c: Clock) -> bool
+pub fn month_starts(c: Clock) -> bool
     ensures { λ r. ⌜ r ≡ monthStarts c ⌝ }
 {
     let d = c.date;

@@ -87,10 +87,10 @@ last-more run b h =
     ∙ getD-at (map symbol run) (symbol b) (replicate (heldPlaces - length (run ++ (b ∷ []))) 0) 0 (length run) (length-map symbol run)
 
 -- the places behind the run hold 0
-zeros-behind : (n : ℕ) → n ≤ 63 → drop {A = ℕ} n (replicate 63 0) ≡ replicate (63 - n) 0
+zeros-behind : (n : ℕ) → n ≤ 63 → drop {A = ℕ} n (replicate heldPlaces 0) ≡ replicate (heldPlaces - n) 0
 zeros-behind n h =
-    ap (drop {A = ℕ} n) (ap (λ (k : ℕ). replicate {A = ℕ} k 0) {x = 63} {y = n + (63 - n)} (omega arith) ∙ sym (replicate-append-replicate {A = ℕ} n (63 - n) 0))
-    ∙ drop-at {A = ℕ} (replicate n 0) (replicate (63 - n) 0) n (length-replicate {A = ℕ} n 0)
+    ap (drop {A = ℕ} n) (ap (λ (k : ℕ). replicate {A = ℕ} k 0) {x = heldPlaces} {y = n + (heldPlaces - n)} (omega arith) ∙ sym (replicate-append-replicate {A = ℕ} n (heldPlaces - n) 0))
+    ∙ drop-at {A = ℕ} (replicate n 0) (replicate (heldPlaces - n) 0) n (length-replicate {A = ℕ} n 0)
 
 zeros-same : (n : ℕ) → map symbol (replicate {A = ℕ} n 0) ≡ replicate n 0
 unfolding symbol seven
@@ -105,18 +105,18 @@ map-append : (f : ℕ → ℕ) (s t : List ℕ) → map f (s ++ t) ≡ map f s +
 map-append f [] t = refl
 map-append f (x ∷ s) t = ap (λ (l : List ℕ). f x ∷ l) (map-append f s t)
 
-pub put-in : (run : List ℕ) → length run ≤ 63 → map symbol (stored (replicate 63 0) 0 run) ≡ filled run .held
+pub put-in : (run : List ℕ) → length run ≤ 63 → map symbol (stored (replicate heldPlaces 0) 0 run) ≡ filled run .held
 unfolding holding
 put-in run h =
-    ap (map symbol) (stored-holding (replicate 63 0) run (omega (arith, length-replicate {A = ℕ} 63 0)) ∙ ap (λ (l : List ℕ). run ++ l) (zeros-behind (length run) h))
-    ∙ map-append symbol run (replicate (63 - length run) 0)
-    ∙ ap (λ (l : List ℕ). map symbol run ++ l) (zeros-same (63 - length run))
+    ap (map symbol) (stored-holding (replicate heldPlaces 0) run (omega (arith, length-replicate {A = ℕ} heldPlaces 0)) ∙ ap (λ (l : List ℕ). run ++ l) (zeros-behind (length run) h))
+    ∙ map-append symbol run (replicate (heldPlaces - length run) 0)
+    ∙ ap (λ (l : List ℕ). map symbol run ++ l) (zeros-same (heldPlaces - length run))
 
 -- undamaged, and with a damaged one
-pub filled-good : (run held : List ℕ) → length run ≤ 63 → held ≡ map symbol (stored (replicate 63 0) 0 run) → undamagedAll run ≡ true
+pub filled-good : (run held : List ℕ) → length run ≤ 63 → held ≡ map symbol (stored (replicate heldPlaces 0) 0 run) → undamagedAll run ≡ true
     → _≡_ {A = Receiver} (record { held = held; count = length run; mark = 0; place = 0 }) (filled run)
 filled-good run held h e u = rw (e, put-in run h, u)
 
-pub filled-hurt : (run held : List ℕ) (place : ℕ) → length run ≤ 63 → held ≡ map symbol (stored (replicate 63 0) 0 run) → undamagedAll run ≡ false → place ≡ firstDamaged run
+pub filled-hurt : (run held : List ℕ) (place : ℕ) → length run ≤ 63 → held ≡ map symbol (stored (replicate heldPlaces 0) 0 run) → undamagedAll run ≡ false → place ≡ firstDamaged run
     → _≡_ {A = Receiver} (record { held = held; count = length run; mark = 1; place = place }) (filled run)
 filled-hurt run held place h e u p = rw (e, put-in run h, u, p)

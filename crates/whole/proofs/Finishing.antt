@@ -148,7 +148,7 @@ module _ (m : Meter) (room : ℕ) (session : 2 ≤ m .mode) (large : replyRoom �
 
     kept : length run < 63 → does false false false .next ≡ holds (run ++ (b ∷ []))
     unfolding heard
-    kept few = ap (λ (r : Receiver). withReceiver m r) (one-more run b few)
+    kept few = ap (λ (r : Receiver). withReceiver m r) (one-more run b (omega (arith, few)))
 
     stays : wellFormed (character (holds run) room b .next) ≡ true
     stays = character-stays (holds run) (h .formed) room b
@@ -175,7 +175,7 @@ module _ (m : Meter) (room : ℕ) (session : 2 ≤ m .mode) (large : replyRoom �
         (record {
           some = omega (arith, length-append run (b ∷ []));
           few = omega (arith, length-append run (b ∷ []), room-left);
-          last = last-more run b room-left;
+          last = last-more run b (omega (arith, room-left));
           formed = rw next at stays;
         }))
 

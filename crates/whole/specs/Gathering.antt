@@ -7,7 +7,7 @@ use lib.ListN.{length, getD, take, drop, replicate}
 use Rattle.line.specs.Controls.{SOH, ETX}
 use Rattle.line.specs.Characters.{undamagedAll}
 use Rattle.damage.specs.First.{firstDamaged}
-use Rattle.state.specs.Sizes.{heldPlaces}
+use Rattle.state.specs.Sizes.{mostHeld, heldPlaces}
 use Rattle.state.specs.declared.Receiver.{Receiver}
 use Rattle.meter.specs.Character.{symbol}
 
@@ -20,7 +20,7 @@ isNot c b = not (is c b)
 
 -- so many are held, the last of them `before`, and b comes, which is not the last byte: 0 where no frame can come of it any more
 unfoldable pub heldNext : ℕ → ℕ → ℕ → ℕ
-heldNext n before b = cond (eqb n 0) 0 (cond (is ETX before) 0 (cond (is SOH b) 1 (cond (leb heldPlaces n) 0 (n + 1))))
+heldNext n before b = cond (eqb n 0) 0 (cond (is ETX before) 0 (cond (is SOH b) 1 (cond (leb mostHeld n) 0 (n + 1))))
 
 unfoldable pub heldAfter : ℕ → ℕ → List ℕ → ℕ
 heldAfter n before [] = n
@@ -28,7 +28,7 @@ heldAfter n before (b ∷ bs) = heldAfter (heldNext n before b) b bs
 
 -- b is the last byte: so many are held when it finishes a frame, else 0
 unfoldable pub heldAtLast : ℕ → ℕ → ℕ → ℕ
-heldAtLast n before b = cond (is ETX before) n (cond (is SOH b) 0 (cond (leb heldPlaces n) n 0))
+heldAtLast n before b = cond (is ETX before) n (cond (is SOH b) 0 (cond (leb mostHeld n) n 0))
 
 -- the bytes of a slice before its last, and the last
 abbrev pub front : List ℕ → List ℕ

@@ -8,7 +8,7 @@ ghost use lib.ListN.{length};
 ghost use Rattle.line.specs.Runs.{every};
 ghost use Rattle.text.specs.Writing.{holding};
 ghost use Rattle.frames.specs.Frames.{onWire};
-ghost use Rattle.state.specs.Sizes.{heldPlaces, replyRoom};
+ghost use Rattle.state.specs.Sizes.{mostHeld, replyRoom};
 ghost use Rattle.state.specs.WellFormed.{wellFormed};
 ghost use Rattle.state.specs.Setting.{withReceiver};
 ghost use Rattle.meter.specs.Outcomes.{answerOf, silent, unheard};
@@ -16,7 +16,7 @@ ghost use Rattle.meter.specs.Character.{symbol, taken};
 ghost use Rattle.whole.specs.Whole.{noFrame, awaits, frameTaken, frameAt};
 ghost use Rattle.whole.specs.Gathering.{is, isNot, heldNext, heldAtLast, heldOver, heldIn, filled};
 use meter::Answer;
-use state::HELD_PLACES;
+use state::MOST_HELD;
 use state::Meter;
 use state::REPLY_ROOM;
 use state::Receiver;
@@ -58,7 +58,7 @@ fn hold(held: usize, before: u8, b: u8) -> usize
     if is_control(line::SOH, b) {
         return 1;
     }
-    if HELD_PLACES as usize <= held {
+    if MOST_HELD as usize <= held {
         return 0;
     }
     held + 1
@@ -74,7 +74,7 @@ fn hold_at_last(held: usize, before: u8, b: u8) -> usize
     if is_control(line::SOH, b) {
         return 0;
     }
-    if HELD_PLACES as usize <= held {
+    if MOST_HELD as usize <= held {
         return held;
     }
     0
@@ -100,7 +100,7 @@ fn held_over(run: &[u8]) -> usize
     ensures { λ r. ⌜ r ≡ heldOver (now (run .entry)) ⌝ }
 {
     let n = run.len();
-    if n <= HELD_PLACES as usize {
+    if n <= MOST_HELD as usize {
         let plain = has_no(line::SOH, text::rest(run, 1))
             & has_no(line::ETX, text::first(run, n - 1));
         if plain {
@@ -138,7 +138,7 @@ fn to_characters(s: &mut [u8])
 
 // The receiver that holds a run, filled at once.
 fn fill(run: &[u8]) -> Receiver
-    requires { ⌜ length (now run) ≤ heldPlaces ⌝ }
+    requires { ⌜ length (now run) ≤ mostHeld ⌝ }
     ensures { λ r. ⌜ r ≡ filled (now (run .entry)) ⌝ }
 {
     let r = empty_receiver();
@@ -187,7 +187,7 @@ fn awaits_frame(m: Meter) -> bool
 
 // The last byte, upon the receiver that holds the run before it: the meter's own step.
 fn finish(m: Meter, run: &[u8], last: u8, reply: &mut [u8]) -> Answer
-    requires { ⌜ (length (now run) ≤ heldPlaces) × ((wellFormed (withReceiver m (filled (now run))) ≡ true) × (replyRoom ≤ length (now reply))) ⌝ }
+    requires { ⌜ (length (now run) ≤ mostHeld) × ((wellFormed (withReceiver m (filled (now run))) ≡ true) × (replyRoom ≤ length (now reply))) ⌝ }
     ensures result { λ r. ⌜ r ≡ answerOf (taken (withReceiver m (filled (now (run .entry)))) last) ⌝ }
     ensures held { λ _. ⌜ now (reply .exit) ≡ holding (now (reply .entry)) (onWire (taken (withReceiver m (filled (now (run .entry)))) last .reply)) ⌝ }
 {

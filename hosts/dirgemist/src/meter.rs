@@ -48,13 +48,13 @@ pub struct Clock {
     pub time: Time,
 }
 
-/// What was received of a line or frame so far: 0 from `count` on; `mark` is 1 where one of them came
+/// What was received of a line or frame so far: 0 from `count` on, which is 63 at most; `mark` is 1 where one of them came
 /// damaged, and `place` is then that of the first such one, else 0.
 #[repr(C)]
 #[derive(Clone, Copy, Debug, PartialEq, Eq)]
 pub struct Receiver {
     pub count: u8,
-    pub held: [u8; 63],
+    pub held: [u8; 64],
     pub mark: u8,
     pub place: u8,
 }
@@ -152,7 +152,7 @@ pub struct Meter {
 }
 
 // The layout is C's; include/dirgemist_meter.h has the same figures.
-const _: () = assert!(size_of::<Receiver>() == 66 && size_of::<Registers>() == 1164);
+const _: () = assert!(size_of::<Receiver>() == 67 && size_of::<Registers>() == 1164);
 const _: () = assert!(size_of::<Period>() == 40 && size_of::<Archive>() == 484);
 const _: () = assert!(size_of::<Meter>() == 1236);
 

@@ -35,6 +35,11 @@ fn period_of(period: &model::meter::Period) -> Period {
     }
 }
 
+/// The record has a place more, which holds nothing.
+fn places(held: &[u8; 63]) -> [u8; 64] {
+    std::array::from_fn(|place| held.get(place).copied().unwrap_or(0))
+}
+
 pub fn record_of(meter: &model::meter::Meter) -> Meter {
     Meter {
         mode: meter.mode,
@@ -42,7 +47,7 @@ pub fn record_of(meter: &model::meter::Meter) -> Meter {
         speed: meter.speed,
         receiver: Receiver {
             count: meter.count,
-            held: meter.held,
+            held: places(&meter.held),
             mark: meter.mark,
             place: meter.place,
         },

@@ -1,6 +1,6 @@
 -- `firmware::meet_in_place` meets its contract: a walk of its MIR, by hand. The borrow of the record is opened, the state is copied out, and `settling::settle` is called on the copy.
--- Where it has settled the event, the receiver is stored into the record, the borrow is closed there, and the reply's slice is given up as it is. Otherwise `meter::events::act` is called on another copy and is given
--- the slice for good, the next state is stored over the record, and the borrow is closed at it. All that is known of the callees is that each meets its contract, so nothing here reads a field. Assumes nothing.
+-- Where it has settled the event, its receiver, clock and counters are stored into the record, the borrow is closed there, and the reply's slice is given up as it is. Otherwise `meter::events::act` is called on another copy and is given
+-- the slice for good, the next state is stored over the record, and the borrow is closed at it. All that is known of the callees is that each meets its contract. Assumes nothing.
 use mathlib.Core.Path.{_≡_, refl, sym, _∙_, ap, subst}
 use mathlib.Core.Bool.{Bool, true, false, not}
 use lib.Dec.{T}
@@ -44,14 +44,16 @@ use denote.Triple.Table.{entered, cited}
 use denote.Triple.Walked.{says, Stays, stay-ref, stay-none, gave-slice, walkOf, AllGo, goes-none, goes-ref, goes-gave-slice, Walks, ends-at, walked, walk-meets}
 use denote.Exit.{yes}
 use Rattle.state.specs.declared.Meter.{Meter}
-use Rattle.state.specs.declared.Receiver.{Receiver}
 use Rattle.state.proofs.Meter as S
 use Rattle.state.proofs.Meter.Laws as S′
 use Rattle.state.proofs.Receiver as R
 use Rattle.state.proofs.Receiver.Laws as R′
 use Rattle.state.proofs.Registers as G
 use Rattle.state.proofs.Registers.Laws as G′
-use Rattle.state.specs.Setting.{withReceiver}
+use Rattle.state.proofs.Counters as U
+use Rattle.state.proofs.Counters.Laws as U′
+use Rattle.clock.proofs.Clock as K
+use Rattle.clock.proofs.Clock.Laws as K′
 use Rattle.meter.specs.Outcomes.{Outcome, answerOf}
 use Rattle.meter.specs.declared.Event.{Event}
 use Rattle.meter.specs.Life.{eventOf, met, happened}
@@ -65,7 +67,7 @@ use Rattle.meter.proofs.events.act.Symbol as act-def
 use Rattle.meter.proofs.events.act.Symbol.{name as #meter·events·act}
 use Rattle.meter.proofs.events.act.Met as act-thm
 use Rattle.settling.specs.declared.Heard.{Heard}
-use Rattle.settling.specs.Settling.{settles}
+use Rattle.settling.specs.Settling.{settles, settledMeter}
 use Rattle.settling.proofs.Heard as E
 use Rattle.settling.proofs.Heard.Laws as E′
 use Rattle.settling.proofs.Laws.{settled-is, Left, left-is}
@@ -82,10 +84,6 @@ use Rattle.firmware.proofs.is_settled as settled
 use Rattle.firmware.proofs.is_settled.Symbol as settled-def
 use Rattle.firmware.proofs.is_settled.Symbol.{name as #firmware·is-settled}
 use Rattle.firmware.proofs.is_settled.Met as settled-thm
-use Rattle.firmware.proofs.receiver_of as receiver
-use Rattle.firmware.proofs.receiver_of.Symbol as receiver-def
-use Rattle.firmware.proofs.receiver_of.Symbol.{name as #firmware·receiver-of}
-use Rattle.firmware.proofs.receiver_of.Met as receiver-thm
 use Rattle.firmware.proofs.short_reply as short
 use Rattle.firmware.proofs.short_reply.Symbol as short-def
 use Rattle.firmware.proofs.short_reply.Symbol.{name as #firmware·short-reply}
@@ -115,12 +113,16 @@ said : (o o′ : Outcome) (ys zs : List ℕ) (r : Answer) (t : Reply) (m′ : Me
     → r ≡ answerOf o′ → zs ≡ holding ys (onWire (o′ .reply)) → m′ ≡ r .next → t ≡ replyTo r → Said o ys t m′ zs
 said o o′ ys zs r t m′ all e ez em et = rw all (et ∙ ap replyTo e, em ∙ ap (λ (a : Answer). a .next) e, ez)
 
-said-settled : (m : Meter) (event : Event) (ys : List ℕ) (h : Heard) (t : Reply) (r : Receiver)
-    → h ≡ settles m (length ys) event → h .settled ≡ true → r ≡ h .receiver → t ≡ settledReply h → Said (met m (length ys) event) ys t (withReceiver m r) ys
+-- the state that a settled event leaves
+abbrev after : Meter → Heard → Meter
+after m h = settledMeter m (h .receiver) (h .clock) (h .counters) (h .exported)
+
+said-settled : (m : Meter) (event : Event) (ys : List ℕ) (h : Heard) (t : Reply)
+    → h ≡ settles m (length ys) event → h .settled ≡ true → t ≡ settledReply h → Said (met m (length ys) event) ys t (after m h) ys
 unfolding holding
-said-settled m event ys h t r e es er et =
+said-settled m event ys h t e es et =
     let whole = settled-is m (length ys) event (ap (λ (x : Heard). x .settled) (sym e) ∙ es) in
-    rw (whole, ← e) (et, ap (withReceiver m) er, refl)
+    rw (whole, ← e) (et, refl, refl)
 
 is-true : (c : Bool) → T c → c ≡ true
 is-true true _ = refl
@@ -137,9 +139,6 @@ module _ {M : Type 1} (𝓤 : URA M) (H : Heap 𝓤) (A : Atoms 𝓤) (at-mem : 
 
   abbrev Settled : Contract 𝓤
   Settled = tripleOf 𝓤 H A settled.signature (settled.spec 𝓤 H A at-mem run)
-
-  abbrev ReceiverOf : Contract 𝓤
-  ReceiverOf = tripleOf 𝓤 H A receiver.signature (receiver.spec 𝓤 H A at-mem run)
 
   abbrev Short : Contract 𝓤
   Short = tripleOf 𝓤 H A short.signature (short.spec 𝓤 H A at-mem run)
@@ -159,9 +158,6 @@ module _ {M : Type 1} (𝓤 : URA M) (H : Heap 𝓤) (A : Atoms 𝓤) (at-mem : 
 
   settled-says : (r : Heard) (y : Bool) → ent 𝓤 (ensured 𝓤 H A settled.ended (settled.clauses 𝓤 H A at-mem run) tt (r, tt) tt y) (fact 𝓤 (y ≡ r .settled))
   settled-says r y = exE 𝓤 _ (λ ws. snd∗ 𝓤 (sem 𝓤 H A (lasts settled.ended tt (r, tt) ws)) (fact 𝓤 (y ≡ r .settled)))
-
-  receiver-says : (r : Heard) (x : Receiver) → ent 𝓤 (ensured 𝓤 H A receiver.ended (receiver.clauses 𝓤 H A at-mem run) tt (r, tt) tt x) (fact 𝓤 (x ≡ r .receiver))
-  receiver-says r x = exE 𝓤 _ (λ ws. snd∗ 𝓤 (sem 𝓤 H A (lasts receiver.ended tt (r, tt) ws)) (fact 𝓤 (x ≡ r .receiver)))
 
   short-says : (r : Heard) (t : Reply) → ent 𝓤 (ensured 𝓤 H A short.ended (short.clauses 𝓤 H A at-mem run) tt (r, tt) tt t) (fact 𝓤 (t ≡ settledReply r))
   short-says r t = exE 𝓤 _ (λ ws. snd∗ 𝓤 (sem 𝓤 H A (lasts short.ended tt (r, tt) ws)) (fact 𝓤 (t ≡ settledReply r)))
@@ -206,12 +202,6 @@ module _ {M : Type 1} (𝓤 : URA M) (H : Heap 𝓤) (A : Atoms 𝓤) (W : Given
   goes-settled : (r : Heard) (v : Val) → ent 𝓤 (sem 𝓤 H A (E.the-row .own r (v ∷ []))) (Settled 𝓤 H A at-mem run .pre (to-settled r v))
   goes-settled r v = qed W (‵ (E.the-row .own r (v ∷ [])) ∷ []) ∵ nothing ! $ move ! (1 ∷ 0 ∷ []) $ join ! $ nothing ! $ join ! $ frame ! $ done !
 
-  abbrev to-receiver : Heard → Val → ReceiverOf 𝓤 H A at-mem run .Ghost
-  to-receiver r v = ((tt, tt, tt, (r, tt), (v ∷ [], tt)), tt)
-
-  goes-receiver : (r : Heard) (v : Val) → ent 𝓤 (sem 𝓤 H A (E.the-row .own r (v ∷ []))) (ReceiverOf 𝓤 H A at-mem run .pre (to-receiver r v))
-  goes-receiver r v = qed W (‵ (E.the-row .own r (v ∷ [])) ∷ []) ∵ nothing ! $ move ! (1 ∷ 0 ∷ []) $ join ! $ nothing ! $ join ! $ frame ! $ done !
-
   abbrev to-short : Heard → Val → Short 𝓤 H A at-mem run .Ghost
   to-short r v = ((tt, tt, tt, (r, tt), (v ∷ [], tt)), tt)
 
@@ -232,15 +222,18 @@ module _ {M : Type 1} (𝓤 : URA M) (H : Heap 𝓤) (A : Atoms 𝓤) (W : Given
       qed W (‵ (MutSlice (named 1) κ₁ u8 .own y (s₁ ∷ [])) ∷ []) ∵ fsplit ! $ move ! (1 ∷ []) $ fsplit ! $ use1 W (‵ (fres γ₁ (codedHoleys u8 .code (heres u8 ys)))) (W .names .obs-res γ₁ (codedHoleys u8 .code (heres u8 ys))) $
       use1 W (‵ (finally u8 γ₁ ys)) (res-finally 𝓤 H A W (named 1) κ₁ u8 γ₁ ys) $ keep ! (0 ∷ []) $ done !
 
-  -- the record with another receiver
-  abbrev mach : Val → Val
-  mach v = vstruct (vcons (vint w8 (h .mode)) (vcons (vint w8 (h .attempts)) (vcons (vint w8 (h .speed)) (vcons v (vcons (only (LL.vals G.the-type G′.the-laws (h .registers))) vnil)))))
+  -- what was heard, as it lies in its local
+  abbrev lain : Heard → List Val
+  lain r = LL.vals E.the-type E′.the-laws r
 
-  made : (k : Receiver) (v : Val) → Is R.the-row k (v ∷ []) → Is S.the-row h (LL.vals S.the-type S′.the-laws h) → Is S.the-row (withReceiver h k) (mach v ∷ [])
-  made k v is was =
-      let e = LL.tells R.the-type R′.the-laws k (v ∷ []) is in
-      let was-all = LL.owed S.the-type S′.the-laws h (LL.vals S.the-type S′.the-laws h) was in
-      subst (λ (vs : List Val). Is S.the-row (withReceiver h k) (mach (only vs) ∷ [])) (sym e) (LL.owes S.the-type S′.the-laws (withReceiver h k) (was-all .0, (was-all .1 .0, (was-all .1 .1 .0, (subst (Is R.the-row k) e is, was-all .1 .1 .1 .1)))))
+  -- the record with what was settled
+  settled-row : (r : Heard) → Is E.the-row r (lain r) → Is S.the-row h (LL.vals S.the-type S′.the-laws h) → Is S.the-row (after h r) (LL.vals S.the-type S′.the-laws (after h r))
+  settled-row r is was =
+      let all = LL.owed E.the-type E′.the-laws r (lain r) is .1 .1 .1 in
+      let m = LL.owed S.the-type S′.the-laws h (LL.vals S.the-type S′.the-laws h) was in
+      let g = LL.owed G.the-type G′.the-laws (h .registers) (LL.vals G.the-type G′.the-laws (h .registers)) (m .1 .1 .1 .1 .0) in
+      let registers = LL.owes G.the-type G′.the-laws (after h r .registers) (g .0, (g .1 .0, (all .1 .0, (all .1 .1 .0, (all .1 .1 .1 .0, g .1 .1 .1 .1 .1))))) in
+      LL.owes S.the-type S′.the-laws (after h r) (m .0, (m .1 .0, (m .1 .1 .0, (all .0, (registers, m .1 .1 .1 .1 .1)))))
 
   abbrev to-next : Answer → Val → Next 𝓤 H A at-mem run .Ghost
   to-next r v = ((tt, tt, tt, (r, tt), (v ∷ [], tt)), tt)
@@ -261,97 +254,98 @@ module _ {M : Type 1} (𝓤 : URA M) (H : Heap 𝓤) (A : Atoms 𝓤) (W : Given
       suffices ! _ (ends-at 𝓤 H A f.ended stayed (f.clauses 𝓤 H A at-mem run) W (((κ, (κ₁, tt)), (q, (q₁, tt)), tt, x, at), tt) v t (s, (tt, (tt, (zs, tt)))) (tt, (tt, (tt, (l, tt))))) $ says ! e $ move ! (3 ∷ 4 ∷ []) $ join ! $ frame ! $
       nothing ! $ move ! (4 ∷ 0 ∷ []) $ fjoin ! $ owned ! u32 (Is u32) (uint-makes 𝓤 H A W w32) n₁ _ (refl, fits₁) $ fjoin ! $ owned ! u8 (Is u8) (uint-makes 𝓤 H A W w8) n _ (refl, fits) $ fjoin ! $ move ! (2 ∷ 3 ∷ []) $ feqI ! (List Val) (vptr b o ∷ []) (vptr b o ∷ []) refl $ fjoin3 ! $ fjoin ! $ done !
 
-  module _ (C : Calls 𝓤 H) (Λ : Loops 𝓤 H) (fm : FmC 𝓤 H (W .laws) C) (known-settle : Triple 𝓤 (C #settling·settle) (Settle 𝓤 H A at-mem run)) (known-settled : Triple 𝓤 (C #firmware·is-settled) (Settled 𝓤 H A at-mem run)) (known-receiver : Triple 𝓤 (C #firmware·receiver-of) (ReceiverOf 𝓤 H A at-mem run)) (known-short : Triple 𝓤 (C #firmware·short-reply) (Short 𝓤 H A at-mem run)) (known-act : Triple 𝓤 (C #meter·events·act) (Act 𝓤 H A at-mem run)) (known-next : Triple 𝓤 (C #firmware·next-of) (Next 𝓤 H A at-mem run)) (known-reply : Triple 𝓤 (C #firmware·reply-of) (ReplyOf 𝓤 H A at-mem run)) where
+  module _ (C : Calls 𝓤 H) (Λ : Loops 𝓤 H) (fm : FmC 𝓤 H (W .laws) C) (known-settle : Triple 𝓤 (C #settling·settle) (Settle 𝓤 H A at-mem run)) (known-settled : Triple 𝓤 (C #firmware·is-settled) (Settled 𝓤 H A at-mem run)) (known-short : Triple 𝓤 (C #firmware·short-reply) (Short 𝓤 H A at-mem run)) (known-act : Triple 𝓤 (C #meter·events·act) (Act 𝓤 H A at-mem run)) (known-next : Triple 𝓤 (C #firmware·next-of) (Next 𝓤 H A at-mem run)) (known-reply : Triple 𝓤 (C #firmware·reply-of) (ReplyOf 𝓤 H A at-mem run)) where
     walk : Room u8 (length ys) → ent 𝓤 (onEntry 𝓤 H A f.signature (κ, (κ₁, tt)) (q, (q₁, tt)) x at) (WpFn 𝓤 H C Λ code.function (vptr b o ∷ vint w8 n ∷ vint w32 n₁ ∷ s₁ ∷ []) Post)
     walk room =
         qed W ((‵ (flft κ q) ⊛ (‵ (flft κ₁ q₁) ⊛ ‵ ftrue)) ∷ ‵ (owns (MutRef (named 0) κ S.the-row ∷ u8 ∷ u32 ∷ MutSlice (named 1) κ₁ u8 ∷ []) x at) ∷ []) ∵ split ! $ move ! (2 ∷ []) $ fsplit ! $ fsplit3 ! $ drop ! $
         move ! (2 ∷ []) $ fsplit ! $ drop ! $ fsplit ! $ drop ! $ fsplit ! $ move ! (2 ∷ 3 ∷ 4 ∷ []) $
         -- [obs; the borrow; its token; what the slice owns; true; the slice's token]
         enter ! C Λ code.function (vptr b o ∷ vint w8 n ∷ vint w32 n₁ ∷ s₁ ∷ []) _ $
-        alloc1 ! (λ l₀. alloc1 ! (λ l₁. alloc1 ! (λ l₂. alloc1 ! (λ l₃. alloc1 ! (λ l₄. alloc1 ! (λ l₅. alloc1 ! (λ l₆. alloc1 ! (λ l₇. alloc1 ! (λ l₈. alloc1 ! (λ l₉. alloc1 ! (λ l₁₀. alloc1 ! (λ l₁₁. alloc1 ! (λ l₁₂. alloc1 ! (λ l₁₃. alloc0 ! $ params1 ! $
-        pass1 ! (init ! 24 refl (tt, tt)) $ pass1 ! (init ! 22 refl (tt, record { fits = fits })) $ pass1 ! (init ! 20 refl (tt, record { fits = fits₁ })) $ pass1 ! (init ! 18 refl (tt, (tt, (record { fits = room .0 }, tt)))) $ pass0 ! $
-        move ! (28 ∷ 29 ∷ 30 ∷ []) $ opens ! tt S.the-row {h = h} b o (λ vs. spelt ! S.the-row (Is S.the-row) (shows 𝓤 H A S.the-row) (LL.vals S.the-type S′.the-laws) (LL.tells S.the-type S′.the-laws) fullShare h vs b o $
+        alloc1 ! (λ l₀. alloc1 ! (λ l₁. alloc1 ! (λ l₂. alloc1 ! (λ l₃. alloc1 ! (λ l₄. alloc1 ! (λ l₅. alloc1 ! (λ l₆. alloc1 ! (λ l₇. alloc1 ! (λ l₈. alloc1 ! (λ l₉. alloc1 ! (λ l₁₀. alloc1 ! (λ l₁₁. alloc1 ! (λ l₁₂. alloc0 ! $ params1 ! $
+        pass1 ! (init ! 22 refl (tt, tt)) $ pass1 ! (init ! 20 refl (tt, record { fits = fits })) $ pass1 ! (init ! 18 refl (tt, record { fits = fits₁ })) $ pass1 ! (init ! 16 refl (tt, (tt, (record { fits = room .0 }, tt)))) $ pass0 ! $
+        move ! (26 ∷ 27 ∷ 28 ∷ []) $ opens ! tt S.the-row {h = h} b o (λ vs. spelt ! S.the-row (Is S.the-row) (shows 𝓤 H A S.the-row) (LL.vals S.the-type S′.the-laws) (LL.tells S.the-type S′.the-laws) fullShare h vs b o $
         move ! (1 ∷ []) $ peeks ! S.the-row (Is S.the-row) (shows 𝓤 H A S.the-row) h (LL.vals S.the-type S′.the-laws h) (λ was. drop ! $
-        -- [the record's cell; the open borrow; obs; auth; _13 4; _12 6; _11 8; _10 10; _9 12; _8 14; _7 16; _6 18; _5 20; _4 22; _3 24; _2 26; _1 28; room for _0 30; what the slice owns 32; true; the slice's token 34]
-        assigns ! (of-opd ! (load ! (from ! (hop ! (look ! 28 refl) (stop !))) (look-raw ! 0 refl))) (from ! (stop !)) (init ! 20 refl (LL.lawful S.the-type S′.the-laws 𝓤 H A W .typed h _ was .0)) $
-        assigns ! (of-opd ! (load ! (from ! (fld ! refl (stop !))) (look-in ! 22 (sub ! 1 refl (whole !))))) (from ! (stop !)) (init ! 14 refl (tt, record { fits = room .0 })) $
+        -- [the record's cell; the open borrow; obs; auth; _12 4; _11 6; _10 8; _9 10; _8 12; _7 14; _6 16; _5 18; _4 20; _3 22; _2 24; _1 26; room for _0 28; what the slice owns 30; true; the slice's token 32]
+        assigns ! (of-opd ! (load ! (from ! (hop ! (look ! 26 refl) (stop !))) (look-raw ! 0 refl))) (from ! (stop !)) (init ! 18 refl (LL.lawful S.the-type S′.the-laws 𝓤 H A W .typed h _ was .0)) $
+        assigns ! (of-opd ! (load ! (from ! (fld ! refl (stop !))) (look-in ! 20 (sub ! 1 refl (whole !))))) (from ! (stop !)) (init ! 12 refl (tt, record { fits = room .0 })) $
         -- `settle`
         use0 W (raw (Settle 𝓤 H A at-mem run .pre to-settle)) (goes-settle (room .0) was) $
-        calls-at ! fm (Settle 𝓤 H A at-mem run) known-settle to-settle (and-then ! (load ! (from ! (stop !)) (look ! 21 refl)) (and-then ! (load ! (from ! (stop !)) (look ! 27 refl)) (and-then ! (load ! (from ! (stop !)) (look ! 25 refl)) (and-then ! (load ! (from ! (stop !)) (look ! 15 refl)) (no-more !))))) (λ w. use1 W (later (some (λ (r : Heard). (‵ ftrue ⊛ ‵ (E.the-row .own r (w ∷ []))) ⊛ raw (ensured 𝓤 H A settle.ended (settle.clauses 𝓤 H A at-mem run) tt (h, (n, (n₁, (length ys, tt)))) tt r)))) (id⊢ 𝓤 _) $ await ! tt $ pick ! (λ r.
+        calls-at ! fm (Settle 𝓤 H A at-mem run) known-settle to-settle (and-then ! (load ! (from ! (stop !)) (look ! 19 refl)) (and-then ! (load ! (from ! (stop !)) (look ! 25 refl)) (and-then ! (load ! (from ! (stop !)) (look ! 23 refl)) (and-then ! (load ! (from ! (stop !)) (look ! 13 refl)) (no-more !))))) (λ w. use1 W (later (some (λ (r : Heard). (‵ ftrue ⊛ ‵ (E.the-row .own r (w ∷ []))) ⊛ raw (ensured 𝓤 H A settle.ended (settle.clauses 𝓤 H A at-mem run) tt (h, (n, (n₁, (length ys, tt)))) tt r)))) (id⊢ 𝓤 _) $ await ! tt $ pick ! (λ r.
         split ! $ move ! (1 ∷ []) $ use1 W (raw (fact 𝓤 (r ≡ settles h (length ys) event))) (settle-says 𝓤 H A at-mem run h n n₁ (length ys) r) $ heard ! (r ≡ settles h (length ys) event) (λ e. split ! $ drop ! $
-        peeks ! E.the-row (Is E.the-row) (shows 𝓤 H A E.the-row) r (w ∷ []) (λ is. land ! (from ! (stop !)) (init ! 19 refl (LL.lawful E.the-type E′.the-laws 𝓤 H A W .typed r _ is .0)) $
+        peeks ! E.the-row (Is E.the-row) (shows 𝓤 H A E.the-row) r (w ∷ []) (λ is. land ! (from ! (stop !)) (init ! 17 refl (LL.lawful E.the-type E′.the-laws 𝓤 H A W .typed r _ is .0)) $
         -- `is_settled`
         use1 W (raw (Settled 𝓤 H A at-mem run .pre (to-settled r w))) (goes-settled r w) $
-        calls-at ! fm (Settled 𝓤 H A at-mem run) known-settled (to-settled r w) (and-then ! (load ! (from ! (stop !)) (look ! 19 refl)) (no-more !)) (λ v. use1 W (later (some (λ (z : Bool). (‵ ftrue ⊛ ‵ (Boolean .own z (v ∷ []))) ⊛ raw (ensured 𝓤 H A settled.ended (settled.clauses 𝓤 H A at-mem run) tt (r, tt) tt z)))) (id⊢ 𝓤 _) $ await ! tt $ pick ! (λ z.
+        calls-at ! fm (Settled 𝓤 H A at-mem run) known-settled (to-settled r w) (and-then ! (load ! (from ! (stop !)) (look ! 17 refl)) (no-more !)) (λ v. use1 W (later (some (λ (z : Bool). (‵ ftrue ⊛ ‵ (Boolean .own z (v ∷ []))) ⊛ raw (ensured 𝓤 H A settled.ended (settled.clauses 𝓤 H A at-mem run) tt (r, tt) tt z)))) (id⊢ 𝓤 _) $ await ! tt $ pick ! (λ z.
         split ! $ move ! (1 ∷ []) $ use1 W (raw (fact 𝓤 (z ≡ r .settled))) (settled-says 𝓤 H A at-mem run r z) $ heard ! (z ≡ r .settled) (λ ez. split ! $ drop ! $
-        facts ! Boolean (Is Boolean) (shows 𝓤 H A Boolean) z (v ∷ []) (λ is-z. land ! (from ! (stop !)) (init ! 12 refl (subst (λ (u : Val). T (hasTy tyBool u) × WT u) (sym (ap only is-z)) (tt, tt))) $
-        rewrite ! 12 (λ (u : Val). ‵ (fat fullShare tyBool l₉ 0 u)) (ap only is-z) refl $
-        first ! $ branches ! (load ! (from ! (stop !)) (look ! 12 refl))
-        -- settled: `receiver_of`
-        (λ on. owned ! E.the-row (Is E.the-row) (LL.makes E.the-type E′.the-plain 𝓤 H A) r (w ∷ []) is $ use1 W (raw (ReceiverOf 𝓤 H A at-mem run .pre (to-receiver r w))) (goes-receiver r w) $
-        calls-at ! fm (ReceiverOf 𝓤 H A at-mem run) known-receiver (to-receiver r w) (and-then ! (load ! (from ! (stop !)) (look ! 19 refl)) (no-more !)) (λ c. use1 W (later (some (λ (k : Receiver). (‵ ftrue ⊛ ‵ (R.the-row .own k (c ∷ []))) ⊛ raw (ensured 𝓤 H A receiver.ended (receiver.clauses 𝓤 H A at-mem run) tt (r, tt) tt k)))) (id⊢ 𝓤 _) $ await ! tt $ pick ! (λ k.
-        split ! $ move ! (1 ∷ []) $ use1 W (raw (fact 𝓤 (k ≡ r .receiver))) (receiver-says 𝓤 H A at-mem run r k) $ heard ! (k ≡ r .receiver) (λ ek. split ! $ drop ! $
-        peeks ! R.the-row (Is R.the-row) (shows 𝓤 H A R.the-row) k (c ∷ []) (λ is-k. land ! (from ! (stop !)) (init ! 11 refl (LL.lawful R.the-type R′.the-laws 𝓤 H A W .typed k _ is-k .0)) $
-        -- the receiver is stored, and the borrow is closed at the record with it
-        assigns ! (of-opd ! (load ! (from ! (stop !)) (look ! 11 refl))) (from ! (hop ! (look ! 29 refl) (fld ! refl (stop !)))) (store-in ! 1 (behind ! (sub ! 3 refl (whole !))) (LL.lawful R.the-type R′.the-laws 𝓤 H A W .typed k _ is-k .0)) $
-        drop ! $ owned ! S.the-row (Is S.the-row) (LL.makes S.the-type S′.the-plain 𝓤 H A) (withReceiver h k) _ (made k c is-k was) $ move ! (1 ∷ 0 ∷ []) $ closes ! tt S.the-row (withReceiver h k) (mach c ∷ []) b o $
+        facts ! Boolean (Is Boolean) (shows 𝓤 H A Boolean) z (v ∷ []) (λ is-z. land ! (from ! (stop !)) (init ! 10 refl (subst (λ (u : Val). T (hasTy tyBool u) × WT u) (sym (ap only is-z)) (tt, tt))) $
+        rewrite ! 10 (λ (u : Val). ‵ (fat fullShare tyBool l₉ 0 u)) (ap only is-z) refl $
+        first ! $ branches ! (load ! (from ! (stop !)) (look ! 10 refl))
+        -- settled: what was heard lies in its local as the record of its fields
+        (λ on. let is-all = subst (Is E.the-row r) (LL.tells E.the-type E′.the-laws r (w ∷ []) is) is in let all = LL.owed E.the-type E′.the-laws r (lain r) is-all .1 .1 .1 in
+        rewrite ! 16 (λ (u : Val). ‵ (fat fullShare E′.mir l₆ 0 u)) (ap only (LL.tells E.the-type E′.the-laws r (w ∷ []) is)) refl $
+        -- receiver, clock and counters are stored, and the borrow is closed at the record with them
+        assigns ! (of-opd ! (load ! (from ! (fld ! {d = 3} refl (stop !))) (look-in ! 16 (sub ! 3 {d = 3} refl (whole !))))) (from ! (hop ! (look ! 26 refl) (fld ! {d = 3} refl (stop !)))) (store-in ! 0 (behind ! (sub ! 3 {d = 3} refl (whole !))) (LL.lawful R.the-type R′.the-laws 𝓤 H A W .typed (r .receiver) _ (all .0) .0)) $
+        assigns ! (of-opd ! (load ! (from ! (fld ! {d = 70} refl (stop !))) (look-in ! 16 (sub ! 4 {d = 70} refl (whole !))))) (from ! (hop ! (look ! 26 refl) (fld ! {d = 72} refl (fld ! {d = 32} refl (stop !))))) (store-in ! 0 (behind ! (sub ! 2 {d = 32} refl (sub ! 4 {d = 72} refl (whole !)))) (LL.lawful K.the-type K′.the-laws 𝓤 H A W .typed (r .clock) _ (all .1 .0) .0)) $
+        assigns ! (of-opd ! (load ! (from ! (fld ! {d = 80} refl (stop !))) (look-in ! 16 (sub ! 5 {d = 80} refl (whole !))))) (from ! (hop ! (look ! 26 refl) (fld ! {d = 72} refl (fld ! {d = 40} refl (stop !))))) (store-in ! 0 (behind ! (sub ! 3 {d = 40} refl (sub ! 4 {d = 72} refl (whole !)))) (LL.lawful U.the-type U′.the-laws 𝓤 H A W .typed (r .counters) _ (all .1 .1 .0) .0)) $
+        assigns ! (of-opd ! (load ! (from ! (fld ! {d = 100} refl (stop !))) (look-in ! 16 (sub ! 6 {d = 100} refl (whole !))))) (from ! (hop ! (look ! 26 refl) (fld ! {d = 72} refl (fld ! {d = 60} refl (stop !))))) (store-in ! 0 (behind ! (sub ! 4 {d = 60} refl (sub ! 4 {d = 72} refl (whole !)))) (LL.lawful U.the-type U′.the-laws 𝓤 H A W .typed (r .exported) _ (all .1 .1 .1 .0) .0)) $
+        owned ! S.the-row (Is S.the-row) (LL.makes S.the-type S′.the-plain 𝓤 H A) (after h r) _ (settled-row r is-all was) $ move ! (1 ∷ 0 ∷ []) $ closes ! tt S.the-row (after h r) (LL.vals S.the-type S′.the-laws (after h r)) b o $
         -- `short_reply`
-        owned ! E.the-row (Is E.the-row) (LL.makes E.the-type E′.the-plain 𝓤 H A) r (w ∷ []) is $ use1 W (raw (Short 𝓤 H A at-mem run .pre (to-short r w))) (goes-short r w) $
-        calls-at ! fm (Short 𝓤 H A at-mem run) known-short (to-short r w) (and-then ! (load ! (from ! (stop !)) (look ! 18 refl)) (no-more !)) (λ u. use1 W (later (some (λ (t : Reply). (‵ ftrue ⊛ ‵ (P.the-row .own t (u ∷ []))) ⊛ raw (ensured 𝓤 H A short.ended (short.clauses 𝓤 H A at-mem run) tt (r, tt) tt t)))) (id⊢ 𝓤 _) $ await ! tt $ pick ! (λ t.
+        owned ! E.the-row (Is E.the-row) (LL.makes E.the-type E′.the-plain 𝓤 H A) r (lain r) is-all $ use1 W (raw (Short 𝓤 H A at-mem run .pre (to-short r (only (lain r))))) (goes-short r (only (lain r))) $
+        calls-at ! fm (Short 𝓤 H A at-mem run) known-short (to-short r (only (lain r))) (and-then ! (load ! (from ! (stop !)) (look ! 16 refl)) (no-more !)) (λ u. use1 W (later (some (λ (t : Reply). (‵ ftrue ⊛ ‵ (P.the-row .own t (u ∷ []))) ⊛ raw (ensured 𝓤 H A short.ended (short.clauses 𝓤 H A at-mem run) tt (r, tt) tt t)))) (id⊢ 𝓤 _) $ await ! tt $ pick ! (λ t.
         split ! $ move ! (1 ∷ []) $ use1 W (raw (fact 𝓤 (t ≡ settledReply r))) (short-says 𝓤 H A at-mem run r t) $ heard ! (t ≡ settledReply r) (λ et. split ! $ drop ! $
-        peeks ! P.the-row (Is P.the-row) (shows 𝓤 H A P.the-row) t (u ∷ []) (λ is-t. land ! (from ! (stop !)) (init ! 30 refl (LL.lawful P.the-type P′.the-laws 𝓤 H A W .typed t _ is-t .0)) $
-        returns-within ! Post refl (look ! 30 refl) $ forget ! 10 refl $ forget ! 12 refl $ forget ! 14 refl $ forget ! 18 refl $ forget ! 20 refl $ forget ! 22 refl $ forget ! 24 refl $ forget ! 26 refl $ forget ! 28 refl $ forget ! 30 refl $
-        move ! (30 ∷ 31 ∷ []) $ free1 ! $ move ! (28 ∷ 29 ∷ []) $ free1 ! $ move ! (26 ∷ 27 ∷ []) $ free1 ! $ move ! (24 ∷ 25 ∷ []) $ free1 ! $ move ! (22 ∷ 23 ∷ []) $ free1 ! $ move ! (20 ∷ 21 ∷ []) $ free1 ! $ move ! (18 ∷ 19 ∷ []) $ free1 ! $ move ! (16 ∷ 17 ∷ []) $ free1 ! $ move ! (14 ∷ 15 ∷ []) $ free1 ! $ move ! (12 ∷ 13 ∷ []) $ free1 ! $ move ! (10 ∷ 11 ∷ []) $ free1 ! $ move ! (8 ∷ 9 ∷ []) $ free1 ! $ move ! (6 ∷ 7 ∷ []) $ free1 ! $ move ! (4 ∷ 5 ∷ []) $ free1 ! $ free0 ! $
+        peeks ! P.the-row (Is P.the-row) (shows 𝓤 H A P.the-row) t (u ∷ []) (λ is-t. land ! (from ! (stop !)) (init ! 28 refl (LL.lawful P.the-type P′.the-laws 𝓤 H A W .typed t _ is-t .0)) $
+        returns-within ! Post refl (look ! 28 refl) $ forget ! 10 refl $ forget ! 12 refl $ forget ! 16 refl $ forget ! 18 refl $ forget ! 20 refl $ forget ! 22 refl $ forget ! 24 refl $ forget ! 26 refl $ forget ! 28 refl $
+        move ! (28 ∷ 29 ∷ []) $ free1 ! $ move ! (26 ∷ 27 ∷ []) $ free1 ! $ move ! (24 ∷ 25 ∷ []) $ free1 ! $ move ! (22 ∷ 23 ∷ []) $ free1 ! $ move ! (20 ∷ 21 ∷ []) $ free1 ! $ move ! (18 ∷ 19 ∷ []) $ free1 ! $ move ! (16 ∷ 17 ∷ []) $ free1 ! $ move ! (14 ∷ 15 ∷ []) $ free1 ! $ move ! (12 ∷ 13 ∷ []) $ free1 ! $ move ! (10 ∷ 11 ∷ []) $ free1 ! $ move ! (8 ∷ 9 ∷ []) $ free1 ! $ move ! (6 ∷ 7 ∷ []) $ free1 ! $ move ! (4 ∷ 5 ∷ []) $ free1 ! $ free0 ! $
         move ! (4 ∷ []) $ use1 W (‵ (finally u8 γ₁ ys)) gives-up $ keep ! (1 ∷ 2 ∷ 3 ∷ 4 ∷ 6 ∷ 0 ∷ []) $
-        by ! (exits t u (withReceiver h k) ys (said-settled h event ys r t k e (sym ez ∙ is-true z on) ek et) refl))))))))))
+        by ! (exits t u (after h r) ys (said-settled h event ys r t e (sym ez ∙ is-true z on) et) refl))))))
         -- left to the meter
         (λ off. skips ! $ exec ! C Λ _ body.t-6 (atRet _ Post) $ let left = left-is h (length ys) event (ap (λ (a : Heard). a .settled) (sym e) ∙ (sym ez ∙ is-false z off)) in
-        assigns ! (of-opd ! (load ! (from ! (hop ! (look ! 28 refl) (stop !))) (look-raw ! 0 refl))) (from ! (stop !)) (init ! 8 refl (LL.lawful S.the-type S′.the-laws 𝓤 H A W .typed h _ was .0)) $
-        assigns ! (addr ! (from ! (fld ! refl (hop ! (look-in ! 22 (sub ! 0 refl (whole !))) (stop !))))) (from ! (stop !)) (init ! 6 refl (tt, tt)) $
-        assigns ! (agg ! (and-then ! (load ! (from ! (stop !)) (look ! 6 refl)) (and-then ! (load ! (from ! (fld ! refl (stop !))) (look-in ! 22 (sub ! 1 refl (whole !)))) (no-more !)))) (from ! (stop !)) (init ! 4 refl (tt, (tt, (record { fits = room .0 }, tt)))) $
+        assigns ! (of-opd ! (load ! (from ! (hop ! (look ! 26 refl) (stop !))) (look-raw ! 0 refl))) (from ! (stop !)) (init ! 8 refl (LL.lawful S.the-type S′.the-laws 𝓤 H A W .typed h _ was .0)) $
+        assigns ! (addr ! (from ! (fld ! refl (hop ! (look-in ! 20 (sub ! 0 refl (whole !))) (stop !))))) (from ! (stop !)) (init ! 6 refl (tt, tt)) $
+        assigns ! (agg ! (and-then ! (load ! (from ! (stop !)) (look ! 6 refl)) (and-then ! (load ! (from ! (fld ! refl (stop !))) (look-in ! 20 (sub ! 1 refl (whole !)))) (no-more !)))) (from ! (stop !)) (init ! 4 refl (tt, (tt, (record { fits = room .0 }, tt)))) $
         -- `act`
-        move ! (34 ∷ 32 ∷ []) $ use2 W (raw (Act 𝓤 H A at-mem run .pre to-act)) (goes-act was left) $
-        calls-at ! fm (Act 𝓤 H A at-mem run) known-act to-act (and-then ! (load ! (from ! (stop !)) (look ! 9 refl)) (and-then ! (load ! (from ! (stop !)) (look ! 27 refl)) (and-then ! (load ! (from ! (stop !)) (look ! 25 refl)) (and-then ! (load ! (from ! (stop !)) (look ! 5 refl)) (no-more !))))) (λ w₁.
+        move ! (32 ∷ 30 ∷ []) $ use2 W (raw (Act 𝓤 H A at-mem run .pre to-act)) (goes-act was left) $
+        calls-at ! fm (Act 𝓤 H A at-mem run) known-act to-act (and-then ! (load ! (from ! (stop !)) (look ! 9 refl)) (and-then ! (load ! (from ! (stop !)) (look ! 25 refl)) (and-then ! (load ! (from ! (stop !)) (look ! 23 refl)) (and-then ! (load ! (from ! (stop !)) (look ! 5 refl)) (no-more !))))) (λ w₁.
         use1 W (later (some (λ (a : Answer). ((‵ (flft κ₁ q₁) ⊛ ‵ ftrue) ⊛ ‵ (N.the-row .own a (w₁ ∷ []))) ⊛ raw (ensured 𝓤 H A act.ended (act.clauses 𝓤 H A at-mem run) (κ₁, tt) (h, (n, (n₁, (y, tt)))) tt a)))) (id⊢ 𝓤 _) $ await ! tt $ pick ! (λ a.
         split ! $ move ! (1 ∷ []) $ use1 W (some (λ (zs : Unit {0} × (Unit {0} × (Unit {0} × (List ℕ × Unit {0})))). ‵ (lasts act.ended (κ₁, tt) (h, (n, (n₁, (y, tt)))) zs) ⊛ (raw (fact 𝓤 (a ≡ answerOf (happened h event))) ⊛ raw (fact 𝓤 (zs .1 .1 .1 .0 ≡ holding ys (onWire (happened h event .reply))))))) (id⊢ 𝓤 _) $ pick ! (λ zs.
         split ! $ move ! (1 ∷ []) $ split ! $ heard ! (a ≡ answerOf (happened h event)) (λ ea. heard ! (zs .1 .1 .1 .0 ≡ holding ys (onWire (happened h event .reply))) (λ ezs.
         fsplit ! $ move ! (1 ∷ []) $ fsplit ! $ move ! (1 ∷ []) $ fsplit ! $ move ! (1 ∷ []) $ fsplit ! $ fsplit ! $ move ! (1 ∷ []) $ feqL ! (λ l.
         -- [the last list; four of nothing; the token and what the answer owns 5; the record's cell 6; …]
         move ! (5 ∷ []) $ split ! $ move ! (1 ∷ []) $ peeks ! N.the-row (Is N.the-row) (shows 𝓤 H A N.the-row) a (w₁ ∷ []) (λ is-a.
-        land ! (from ! (stop !)) (init ! 23 refl (LL.lawful N.the-type N′.the-laws 𝓤 H A W .typed a _ is-a .0)) $
+        land ! (from ! (stop !)) (init ! 21 refl (LL.lawful N.the-type N′.the-laws 𝓤 H A W .typed a _ is-a .0)) $
         -- `next_of`
         use1 W (raw (Next 𝓤 H A at-mem run .pre (to-next a w₁))) (goes-next a w₁) $
-        calls-at ! fm (Next 𝓤 H A at-mem run) known-next (to-next a w₁) (and-then ! (load ! (from ! (stop !)) (look ! 23 refl)) (no-more !)) (λ d. use1 W (later (some (λ (s : Meter). (‵ ftrue ⊛ ‵ (S.the-row .own s (d ∷ []))) ⊛ raw (ensured 𝓤 H A next.ended (next.clauses 𝓤 H A at-mem run) tt (a, tt) tt s)))) (id⊢ 𝓤 _) $ await ! tt $ pick ! (λ s.
+        calls-at ! fm (Next 𝓤 H A at-mem run) known-next (to-next a w₁) (and-then ! (load ! (from ! (stop !)) (look ! 21 refl)) (no-more !)) (λ d. use1 W (later (some (λ (s : Meter). (‵ ftrue ⊛ ‵ (S.the-row .own s (d ∷ []))) ⊛ raw (ensured 𝓤 H A next.ended (next.clauses 𝓤 H A at-mem run) tt (a, tt) tt s)))) (id⊢ 𝓤 _) $ await ! tt $ pick ! (λ s.
         split ! $ move ! (1 ∷ []) $ use1 W (raw (fact 𝓤 (s ≡ a .next))) (next-says 𝓤 H A at-mem run a s) $ heard ! (s ≡ a .next) (λ es. split ! $ drop ! $
         peeks ! S.the-row (Is S.the-row) (shows 𝓤 H A S.the-row) s (d ∷ []) (λ is-s. land ! (from ! (stop !)) (store ! 15 refl (LL.lawful S.the-type S′.the-laws 𝓤 H A W .typed s _ is-s .0)) $
         -- the next state is stored, and the borrow is closed at it
-        assigns ! (of-opd ! (load ! (from ! (stop !)) (look ! 15 refl))) (from ! (hop ! (look ! 35 refl) (stop !))) (store-raw ! 7 refl (LL.lawful S.the-type S′.the-laws 𝓤 H A W .typed s _ is-s .0)) $
+        assigns ! (of-opd ! (load ! (from ! (stop !)) (look ! 15 refl))) (from ! (hop ! (look ! 33 refl) (stop !))) (store-raw ! 7 refl (LL.lawful S.the-type S′.the-laws 𝓤 H A W .typed s _ is-s .0)) $
         move ! (7 ∷ 0 ∷ 8 ∷ 9 ∷ 10 ∷ []) $ closes ! tt S.the-row s (d ∷ []) b o $
         -- `reply_of`
         owned ! N.the-row (Is N.the-row) (LL.makes N.the-type N′.the-plain 𝓤 H A) a (w₁ ∷ []) is-a $ use1 W (raw (ReplyOf 𝓤 H A at-mem run .pre (to-reply a w₁))) (goes-reply a w₁) $
-        calls-at ! fm (ReplyOf 𝓤 H A at-mem run) known-reply (to-reply a w₁) (and-then ! (load ! (from ! (stop !)) (look ! 22 refl)) (no-more !)) (λ u. use1 W (later (some (λ (t : Reply). (‵ ftrue ⊛ ‵ (P.the-row .own t (u ∷ []))) ⊛ raw (ensured 𝓤 H A reply.ended (reply.clauses 𝓤 H A at-mem run) tt (a, tt) tt t)))) (id⊢ 𝓤 _) $ await ! tt $ pick ! (λ t.
+        calls-at ! fm (ReplyOf 𝓤 H A at-mem run) known-reply (to-reply a w₁) (and-then ! (load ! (from ! (stop !)) (look ! 20 refl)) (no-more !)) (λ u. use1 W (later (some (λ (t : Reply). (‵ ftrue ⊛ ‵ (P.the-row .own t (u ∷ []))) ⊛ raw (ensured 𝓤 H A reply.ended (reply.clauses 𝓤 H A at-mem run) tt (a, tt) tt t)))) (id⊢ 𝓤 _) $ await ! tt $ pick ! (λ t.
         split ! $ move ! (1 ∷ []) $ use1 W (raw (fact 𝓤 (t ≡ replyTo a))) (reply-says 𝓤 H A at-mem run a t) $ heard ! (t ≡ replyTo a) (λ et. split ! $ drop ! $
-        peeks ! P.the-row (Is P.the-row) (shows 𝓤 H A P.the-row) t (u ∷ []) (λ is-t. land ! (from ! (stop !)) (init ! 36 refl (LL.lawful P.the-type P′.the-laws 𝓤 H A W .typed t _ is-t .0)) $
-        returns ! (look ! 36 refl) $ forget ! 10 refl $ forget ! 12 refl $ forget ! 14 refl $ forget ! 18 refl $ forget ! 20 refl $ forget ! 22 refl $ forget ! 24 refl $ forget ! 26 refl $ forget ! 28 refl $ forget ! 30 refl $ forget ! 32 refl $ forget ! 34 refl $ forget ! 36 refl $
-        move ! (36 ∷ 37 ∷ []) $ free1 ! $ move ! (34 ∷ 35 ∷ []) $ free1 ! $ move ! (32 ∷ 33 ∷ []) $ free1 ! $ move ! (30 ∷ 31 ∷ []) $ free1 ! $ move ! (28 ∷ 29 ∷ []) $ free1 ! $ move ! (26 ∷ 27 ∷ []) $ free1 ! $ move ! (24 ∷ 25 ∷ []) $ free1 ! $ move ! (22 ∷ 23 ∷ []) $ free1 ! $ move ! (20 ∷ 21 ∷ []) $ free1 ! $ move ! (18 ∷ 19 ∷ []) $ free1 ! $ move ! (16 ∷ 17 ∷ []) $ free1 ! $ move ! (14 ∷ 15 ∷ []) $ free1 ! $ move ! (12 ∷ 13 ∷ []) $ free1 ! $ move ! (10 ∷ 11 ∷ []) $ free1 ! $ free0 ! $
-        keep ! (0 ∷ 1 ∷ 2 ∷ 3 ∷ 4 ∷ 5 ∷ []) $ by ! (exits t u s (zs .1 .1 .1 .0) (said _ _ ys (zs .1 .1 .1 .0) a t s (left .all) ea ezs es et) l)))))))))))))))))))))))))))))))))))))))))
+        peeks ! P.the-row (Is P.the-row) (shows 𝓤 H A P.the-row) t (u ∷ []) (λ is-t. land ! (from ! (stop !)) (init ! 34 refl (LL.lawful P.the-type P′.the-laws 𝓤 H A W .typed t _ is-t .0)) $
+        returns ! (look ! 34 refl) $ forget ! 10 refl $ forget ! 12 refl $ forget ! 14 refl $ forget ! 16 refl $ forget ! 18 refl $ forget ! 20 refl $ forget ! 22 refl $ forget ! 24 refl $ forget ! 26 refl $ forget ! 28 refl $ forget ! 30 refl $ forget ! 32 refl $ forget ! 34 refl $
+        move ! (34 ∷ 35 ∷ []) $ free1 ! $ move ! (32 ∷ 33 ∷ []) $ free1 ! $ move ! (30 ∷ 31 ∷ []) $ free1 ! $ move ! (28 ∷ 29 ∷ []) $ free1 ! $ move ! (26 ∷ 27 ∷ []) $ free1 ! $ move ! (24 ∷ 25 ∷ []) $ free1 ! $ move ! (22 ∷ 23 ∷ []) $ free1 ! $ move ! (20 ∷ 21 ∷ []) $ free1 ! $ move ! (18 ∷ 19 ∷ []) $ free1 ! $ move ! (16 ∷ 17 ∷ []) $ free1 ! $ move ! (14 ∷ 15 ∷ []) $ free1 ! $ move ! (12 ∷ 13 ∷ []) $ free1 ! $ move ! (10 ∷ 11 ∷ []) $ free1 ! $ free0 ! $
+        keep ! (0 ∷ 1 ∷ 2 ∷ 3 ∷ 4 ∷ 5 ∷ []) $ by ! (exits t u s (zs .1 .1 .1 .0) (said _ _ ys (zs .1 .1 .1 .0) a t s (left .all) ea ezs es et) l))))))))))))))))))))))))))))))))))))))))
 
 module _ {M : Type 1} (𝓤 : URA M) (H : Heap 𝓤) (A : Atoms 𝓤) (W : Given 𝓤 H A) (at-mem : Memory → SProp 𝓤) (run : Routine → Fun 𝓤) where
-  walks : (C : Calls 𝓤 H) (Λ : Loops 𝓤 H) → FmC 𝓤 H (W .laws) C → Triple 𝓤 (C #settling·settle) (Settle 𝓤 H A at-mem run) → Triple 𝓤 (C #firmware·is-settled) (Settled 𝓤 H A at-mem run) → Triple 𝓤 (C #firmware·receiver-of) (ReceiverOf 𝓤 H A at-mem run) → Triple 𝓤 (C #firmware·short-reply) (Short 𝓤 H A at-mem run) → Triple 𝓤 (C #meter·events·act) (Act 𝓤 H A at-mem run) → Triple 𝓤 (C #firmware·next-of) (Next 𝓤 H A at-mem run) → Triple 𝓤 (C #firmware·reply-of) (ReplyOf 𝓤 H A at-mem run)
+  walks : (C : Calls 𝓤 H) (Λ : Loops 𝓤 H) → FmC 𝓤 H (W .laws) C → Triple 𝓤 (C #settling·settle) (Settle 𝓤 H A at-mem run) → Triple 𝓤 (C #firmware·is-settled) (Settled 𝓤 H A at-mem run) → Triple 𝓤 (C #firmware·short-reply) (Short 𝓤 H A at-mem run) → Triple 𝓤 (C #meter·events·act) (Act 𝓤 H A at-mem run) → Triple 𝓤 (C #firmware·next-of) (Next 𝓤 H A at-mem run) → Triple 𝓤 (C #firmware·reply-of) (ReplyOf 𝓤 H A at-mem run)
       → Walks 𝓤 H A f.ended stayed (WpFn 𝓤 H C Λ code.function) (f.clauses 𝓤 H A at-mem run)
-  walks C Λ fm known-settle known-settled known-receiver known-short known-act known-next known-reply = walked 𝓤 H A f.ended stayed (f.clauses 𝓤 H A at-mem run) (WpFn 𝓤 H C Λ code.function)
+  walks C Λ fm known-settle known-settled known-short known-act known-next known-reply = walked 𝓤 H A f.ended stayed (f.clauses 𝓤 H A at-mem run) (WpFn 𝓤 H C Λ code.function)
       (λ κs. (ptr-vals, (uint-vals w8, (uint-vals w32, (slice-vals, tt))))) (λ κs. (mut-tells (named 0) (κs .0) S.the-row, (uint-tells w8, (uint-tells w32, (mut-slice-tells (named 1) (κs .1 .0) u8, tt)))))
       (λ κs qs bounds a g are. via 𝓤 _ (fst∗ 𝓤 _ (emp 𝓤)) (walk 𝓤 H A W at-mem run (κs .0) (κs .1 .0) (qs .0) (qs .1 .0) (a .0 .ptr .0) (a .0 .ptr .1) (a .0 .name) (a .0 .now) (a .1 .0) (a .1 .1 .0) (a .1 .1 .1 .0 .ptr .0) (a .1 .1 .1 .0 .ptr .1) (a .1 .1 .1 .0 .name) (a .1 .1 .1 .0 .now) (are .1 .0 .1) (are .1 .1 .0 .1)
-      C Λ fm known-settle known-settled known-receiver known-short known-act known-next known-reply (are .1 .1 .1 .0 .0 .1)))
+      C Λ fm known-settle known-settled known-short known-act known-next known-reply (are .1 .1 .1 .0 .0 .1)))
 
   goes : AllGo 𝓤 H A W 2 (f.signature .params) (f.ended .kept) stayed
   goes = (goes-ref 𝓤 H A W 2 0 tt (plain (λ _. S.the-row)), (goes-none 𝓤 H A W 2 (λ _. u8) yes (λ κs x f. refl), (goes-none 𝓤 H A W 2 (λ _. u32) yes (λ κs x f. refl), (goes-gave-slice 𝓤 H A W 2 1 tt (plain (λ _. u8)), tt))))
 
 meets : {M : Type 1} (𝓤 : URA M) (H : Heap 𝓤) (A : Atoms 𝓤) → Given 𝓤 H A → (at-mem : Memory → SProp 𝓤) (run : Routine → Fun 𝓤) (𝓣 : Tables 𝓤 H)
-    → Triple 𝓤 (𝓣 .C #settling·settle) (Settle 𝓤 H A at-mem run) → Triple 𝓤 (𝓣 .C #firmware·is-settled) (Settled 𝓤 H A at-mem run) → Triple 𝓤 (𝓣 .C #firmware·receiver-of) (ReceiverOf 𝓤 H A at-mem run) → Triple 𝓤 (𝓣 .C #firmware·short-reply) (Short 𝓤 H A at-mem run) → Triple 𝓤 (𝓣 .C #meter·events·act) (Act 𝓤 H A at-mem run) → Triple 𝓤 (𝓣 .C #firmware·next-of) (Next 𝓤 H A at-mem run) → Triple 𝓤 (𝓣 .C #firmware·reply-of) (ReplyOf 𝓤 H A at-mem run)
+    → Triple 𝓤 (𝓣 .C #settling·settle) (Settle 𝓤 H A at-mem run) → Triple 𝓤 (𝓣 .C #firmware·is-settled) (Settled 𝓤 H A at-mem run) → Triple 𝓤 (𝓣 .C #firmware·short-reply) (Short 𝓤 H A at-mem run) → Triple 𝓤 (𝓣 .C #meter·events·act) (Act 𝓤 H A at-mem run) → Triple 𝓤 (𝓣 .C #firmware·next-of) (Next 𝓤 H A at-mem run) → Triple 𝓤 (𝓣 .C #firmware·reply-of) (ReplyOf 𝓤 H A at-mem run)
     → Meets 𝓤 H A f.signature (WpFn 𝓤 H (𝓣 .C) (𝓣 .Λ) code.function) (f.spec 𝓤 H A at-mem run)
-meets 𝓤 H A W at-mem run 𝓣 known-settle known-settled known-receiver known-short known-act known-next known-reply = walk-meets 𝓤 H A f.ended stayed W (goes 𝓤 H A W at-mem run) (f.clauses 𝓤 H A at-mem run) (WpFn 𝓤 H (𝓣 .C) (𝓣 .Λ) code.function) (WpFn-mono 𝓤 H (W .laws) 𝓣 code.function)
-    (walks 𝓤 H A W at-mem run (𝓣 .C) (𝓣 .Λ) (fmOf 𝓤 H (W .laws) 𝓣) known-settle known-settled known-receiver known-short known-act known-next known-reply)
+meets 𝓤 H A W at-mem run 𝓣 known-settle known-settled known-short known-act known-next known-reply = walk-meets 𝓤 H A f.ended stayed W (goes 𝓤 H A W at-mem run) (f.clauses 𝓤 H A at-mem run) (WpFn 𝓤 H (𝓣 .C) (𝓣 .Λ) code.function) (WpFn-mono 𝓤 H (W .laws) 𝓣 code.function)
+    (walks 𝓤 H A W at-mem run (𝓣 .C) (𝓣 .Λ) (fmOf 𝓤 H (W .laws) 𝓣) known-settle known-settled known-short known-act known-next known-reply)
 
 pub meet-in-place-spec : {M : Type 1} → stated.statement M
 unfolding code.routine tablesOf
@@ -361,7 +355,6 @@ meet-in-place-spec 𝓤 H 𝓜 𝓖 𝓡 =
     (meets 𝓤 H (𝓖 .A) (givenOf 𝓤 H 𝓜 𝓖) (𝓜 .mem) (𝓡 .run) (tablesOf 𝓤 H 𝓜 (tables 𝓤 H 𝓜 𝓡 code.env))
     (cited 𝓤 H (Settle 𝓤 H (𝓖 .A) (𝓜 .mem) (𝓡 .run)) 𝓜 𝓡 code.env #settling·settle settle-def.routine code.calls-settling·settle (settle-thm.met 𝓤 H 𝓜 𝓖 𝓡))
     (cited 𝓤 H (Settled 𝓤 H (𝓖 .A) (𝓜 .mem) (𝓡 .run)) 𝓜 𝓡 code.env #firmware·is-settled settled-def.routine code.calls-firmware·is-settled (settled-thm.met 𝓤 H 𝓜 𝓖 𝓡))
-    (cited 𝓤 H (ReceiverOf 𝓤 H (𝓖 .A) (𝓜 .mem) (𝓡 .run)) 𝓜 𝓡 code.env #firmware·receiver-of receiver-def.routine code.calls-firmware·receiver-of (receiver-thm.met 𝓤 H 𝓜 𝓖 𝓡))
     (cited 𝓤 H (Short 𝓤 H (𝓖 .A) (𝓜 .mem) (𝓡 .run)) 𝓜 𝓡 code.env #firmware·short-reply short-def.routine code.calls-firmware·short-reply (short-thm.met 𝓤 H 𝓜 𝓖 𝓡))
     (cited 𝓤 H (Act 𝓤 H (𝓖 .A) (𝓜 .mem) (𝓡 .run)) 𝓜 𝓡 code.env #meter·events·act act-def.routine code.calls-meter·events·act (act-thm.met 𝓤 H 𝓜 𝓖 𝓡))
     (cited 𝓤 H (Next 𝓤 H (𝓖 .A) (𝓜 .mem) (𝓡 .run)) 𝓜 𝓡 code.env #firmware·next-of next-def.routine code.calls-firmware·next-of (next-thm.met 𝓤 H 𝓜 𝓖 𝓡))

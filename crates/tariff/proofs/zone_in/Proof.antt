@@ -1,4 +1,4 @@
--- `tariff::zone_in` meets its contract: the place of the hour in the day's row, and the digit there. Assumes nothing.
+-- `tariff::zone_in` meets its contract: the zone of its own rows, edition and clock. Assumes nothing.
 use Rattle.tariff.specs.Zones.{zoneIn}
 use borrow.Author.Needs.{needs}
 use Rattle.tariff.proofs.zone_in.Statement.{statement}
@@ -6,9 +6,7 @@ use Rattle.tariff.proofs.zone_in.Tie as tie
 
 returns : tie.Need-returns
 unfolding zoneIn
-returns c =
-    let placed = c .before .before .before .before in
-    rw (c .digit .ensures, c .before .at .ensures, placed .row-start .ensures, placed .before .table-for .ensures)
+returns c = c .zone-at .ensures
 
 pub zone-in-spec : {M : Type 1} → statement M
-zone-in-spec = tie.close (tie.spec (λ c κs. search needs) (λ c κs. search needs) (λ c. search needs) (λ c. search needs) (λ c. search needs) (λ c κs. search needs) (λ c κs. search needs) returns)
+zone-in-spec = tie.close (tie.spec (λ c. search needs) (λ c κs. search needs) returns)

@@ -4,6 +4,7 @@ use mathlib.Core.List.{map}
 use Prim.Native.Nat.{ℕ}
 use native.Mathlib.Omega.{arith}
 use borrow.Author.Needs.{needs}
+use Rattle.state.specs.Sizes.{heldPlaces}
 use lib.ListN.{length, replicate, length-replicate}
 use Rattle.damage.proofs.First.{first-hurt}
 use Rattle.text.specs.Writing.{stored}
@@ -13,7 +14,7 @@ use Rattle.whole.proofs.fill.Statement.{statement}
 use Rattle.whole.proofs.fill.Tie as tie
 
 put-requires : tie.Need-put-requires
-put-requires c κs = rw (c .before .before .empty-receiver .ensures) (omega (arith, c .before .before .before .before .pre, length-replicate {A = ℕ} 63 0))
+put-requires c κs = rw (c .before .before .empty-receiver .ensures) (omega (arith, c .before .before .before .before .pre, length-replicate {A = ℕ} heldPlaces 0))
 
 returns : tie.Need-returns
 returns c =

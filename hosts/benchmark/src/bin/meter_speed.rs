@@ -22,8 +22,8 @@ const WRITE: usize = 36;
 trait Side {
     fn of(meter: &Meter) -> Self;
     fn character(&mut self, byte: u8, buffer: &mut [u8]) -> Answer;
-    /// A second goes by on the last of a month, just before midnight; the clock is put back.
-    fn midnight(&mut self) -> u8;
+    /// A second goes by on the last of a month, just before tick; the clock is put back.
+    fn tick(&mut self) -> u8;
     /// Energy goes out.
     fn out(&mut self, units: u32) -> u8;
     /// Waits for the LF of a confirmation whose first five characters are these.
@@ -41,7 +41,7 @@ impl Side for ByHand {
         fast_meter::character(&mut self.0, byte, buffer)
     }
 
-    fn midnight(&mut self) -> u8 {
+    fn tick(&mut self) -> u8 {
         let before = self.0.clock;
         let number = fast_meter::tick(&mut self.0).number;
         self.0.clock = before;
@@ -74,7 +74,7 @@ impl Side for library::Meter {
         }
     }
 
-    fn midnight(&mut self) -> u8 {
+    fn tick(&mut self) -> u8 {
         let before = self.registers.clock;
         let number = self.meet(Event::Tick, &mut []).number;
         self.registers.clock = before;
@@ -134,6 +134,14 @@ fn meter_of(mode: u8, decimals: u8) -> Meter {
 
 fn meter(mode: u8) -> Meter {
     meter_of(mode, 0)
+}
+
+/// A meter of edition 2, with its table of Saturdays.
+fn kilns(mode: u8) -> Meter {
+    let mut meter = meter(mode);
+    meter.edition = 2;
+    meter.tables[24] = *b"111111112222222233333333";
+    meter
 }
 
 /// A frame on the wire.
@@ -235,11 +243,10 @@ fn send(side: &mut impl Side, held: &[u8; 5], length: usize, buffer: &mut [u8]) 
 }
 
 /// Nanoseconds for the call that sends the data block, with or without the closed periods.
-fn block(held: &[u8; 5], decimals: u8) -> (f64, f64) {
-    let start = meter_of(1, decimals);
+fn block(held: &[u8; 5], start: &Meter) -> (f64, f64) {
     let periods = if held[3] == b'6' { PERIODS } else { 0 };
     let length = start.block_length() + periods * start.period_length();
-    let (mut rust, mut library) = (ByHand::of(&start), library::Meter::of(&start));
+    let (mut rust, mut library) = (ByHand::of(start), library::Meter::of(start));
     let (mut one, mut other) = ([0xAA; ROOM], [0xAA; ROOM]);
     let times = medians(
         TURNS as usize,
@@ -250,21 +257,26 @@ fn block(held: &[u8; 5], decimals: u8) -> (f64, f64) {
     times
 }
 
-/// Nanoseconds for the tick that closes a month.
-fn closing() -> (f64, f64) {
-    let mut start = meter(4);
-    (start.clock.minute, start.clock.second) = (59, 59);
-    let (mut rust, mut library) = (ByHand::of(&start), library::Meter::of(&start));
+/// A meter at the last second of a month.
+fn at_the_end() -> Meter {
+    let mut meter = meter(4);
+    (meter.clock.minute, meter.clock.second) = (59, 59);
+    meter
+}
+
+/// Nanoseconds for a tick, the clock being put back.
+fn tick(start: &Meter) -> (f64, f64) {
+    let (mut rust, mut library) = (ByHand::of(start), library::Meter::of(start));
     let times = medians(
         TURNS as usize,
         || {
             for _ in 0..TURNS {
-                assert_eq!(black_box(black_box(&mut rust).midnight()), 1);
+                assert_eq!(black_box(black_box(&mut rust).tick()), 1);
             }
         },
         || {
             for _ in 0..TURNS {
-                assert_eq!(black_box(black_box(&mut library).midnight()), 1);
+                assert_eq!(black_box(black_box(&mut library).tick()), 1);
             }
         },
     );
@@ -335,12 +347,29 @@ fn main() {
         ("a character of table writes", stream(&writes)),
         ("a character of mixed frames", stream(&mixed)),
         ("a table write that comes whole", whole(&writes)),
-        ("the call that sends the data block", block(b"\x06050\r", 0)),
-        ("the same with twelve periods", block(b"\x06056\r", 0)),
-        ("the data block of an EQM meter", block(b"\x06050\r", 3)),
-        ("the same with twelve periods", block(b"\x06056\r", 3)),
+        (
+            "the call that sends the data block",
+            block(b"\x06050\r", &meter(1)),
+        ),
+        (
+            "the same with twelve periods",
+            block(b"\x06056\r", &meter(1)),
+        ),
+        (
+            "the data block of edition 2",
+            block(b"\x06050\r", &kilns(1)),
+        ),
+        (
+            "the data block of an EQM meter",
+            block(b"\x06050\r", &meter_of(1, 3)),
+        ),
+        (
+            "the same with twelve periods",
+            block(b"\x06056\r", &meter_of(1, 3)),
+        ),
         ("a pulse out of an EQM meter", pulse_out()),
-        ("the tick that closes a month", closing()),
+        ("a second", tick(&meter(4))),
+        ("the second that closes a month", tick(&at_the_end())),
         ("the total for a display", display()),
     ];
     if only_compares() {
