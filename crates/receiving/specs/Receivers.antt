@@ -7,6 +7,8 @@ use Rattle.state.specs.declared.Receiver.{Receiver}
 use Rattle.state.specs.WellFormed.{marked}
 use Rattle.state.specs.Making.{emptyReceiver}
 use Rattle.state.specs.Setting.{withHeld, withMark}
+use Rattle.receiving.specs.declared.Holding.{Holding}
+use Rattle.receiving.specs.declared.Holding.the-variants.{Same, More, Anew}
 
 -- what is held
 abbrev pub heldText : Receiver → List ℕ
@@ -26,3 +28,9 @@ keptReceiver r c damaged = withMark (withHeld r (set (r .held) (r .count) c) (r 
 -- this one alone, and no mark
 abbrev pub restartedReceiver : ℕ → Receiver
 restartedReceiver c = withHeld emptyReceiver (set (emptyReceiver .held) 0 c) 1
+
+-- the places after a character, as `Holding` says it: as they are, one more at a place, or this one alone
+unfoldable pub heldAfter : Holding → List ℕ → List ℕ
+heldAfter Same held = held
+heldAfter (More at c) held = set held at c
+heldAfter (Anew c) held = set (emptyReceiver .held) 0 c

@@ -16,7 +16,7 @@ use Rattle.state.specs.WellFormed.{editionOf, familyOf, wellFormed}
 use Rattle.receiving.specs.declared.Hearing.{Hearing}
 use Rattle.receiving.specs.declared.Hearing.the-variants.{Drop, Hold, Restart, Empty, Line, Confirm, Frame, TooLong}
 use Rattle.receiving.specs.Hearing.{hearing}
-use Rattle.receiving.specs.Receivers.{lastHeld}
+use Rattle.receiving.specs.Receivers.{lastHeld, heldAfter}
 use Rattle.meter.specs.Outcomes.{Outcome, silent, unheard}
 use Rattle.meter.specs.Events.{afterTick, afterPulse}
 use Rattle.meter.specs.Character.{symbol, heard, taken}
@@ -28,7 +28,7 @@ use Rattle.settling.specs.declared.Heard.{Heard}
 use Rattle.settling.specs.Settling.{ends, refuses, movesOn, heardAs, heardBy, tickedBy, pulsedBy, toldBy, heardOf, settles, settledOutcome}
 
 heard-settled : (m : Meter) (c : ℕ) (damaged : Bool) (h : Hearing) → heardAs m c damaged h .settled ≡ true → heard m c damaged h ≡ settledOutcome m (heardAs m c damaged h)
-unfolding heardAs heard
+unfolding heardAs heard heldAfter
 heard-settled m c damaged Drop e = refl
 heard-settled m c damaged Hold e = refl
 heard-settled m c damaged Restart e = refl
@@ -39,7 +39,7 @@ heard-settled m c damaged Frame e = absurd (let z : _≡_ {A = ℕ} 0 1 = cc in 
 heard-settled m c damaged TooLong e = absurd (let z : _≡_ {A = ℕ} 0 1 = cc in omega arith)
 
 tick-settled : (m : Meter) → tickedBy m .settled ≡ true → afterTick m ≡ settledOutcome m (tickedBy m)
-unfolding tickedBy monthClosed
+unfolding tickedBy monthClosed heldAfter
 tick-settled m = go (monthStarts (nextSecond (m .registers .clock)))
   where
     go : (b : Bool) → cond b (ends m) (movesOn m (nextSecond (m .registers .clock)) (m .registers .counters) (m .registers .exported)) .settled ≡ true
@@ -49,7 +49,7 @@ tick-settled m = go (monthStarts (nextSecond (m .registers .clock)))
     go false s = refl
 
 pulse-settled : (m : Meter) (out : Bool) (units : ℕ) → afterPulse m out units ≡ settledOutcome m (pulsedBy m out units)
-unfolding pulsedBy
+unfolding pulsedBy heldAfter
 pulse-settled m true units = refl
 pulse-settled m false units = refl
 
@@ -76,7 +76,7 @@ pulse-told m family room (PulseOut units) t h = (refl, pulse-out-small family ro
 pulse-told m family room Unknown t h = absurd (let z : _≡_ {A = ℕ} 0 1 = cc in omega arith)
 
 pub settled-is : (m : Meter) (room : ℕ) (e : Event) → settles m room e .settled ≡ true → met m room e ≡ settledOutcome m (settles m room e)
-unfolding settles
+unfolding settles heldAfter
 settled-is m room e s = met-in-order m room e ∙ go (isEdition (editionOf m)) (refusal (familyOf m) room e) (eqb (refusal (familyOf m) room e) 0) (wellFormed m) (happened m e) (heardOf m e) (event-settled m e) s
   where
     go : (k : Bool) (n : ℕ) (p q : Bool) (o : Outcome) (h : Heard) → (h .settled ≡ true → o ≡ settledOutcome m h)

@@ -1,7 +1,7 @@
 -- What an event does that has no reply and changes little: the receiver, the clock or the counters, and nothing else of the meter.
 use mathlib.Core.Bool.{Bool, true, false, cond}
 use mathlib.Core.List.{[]}
-use Prim.Native.Nat.{ℕ}
+use Prim.Native.Nat.{ℕ, _+_}
 use lib.Dec.{eqb}
 use Rattle.line.specs.Characters.{damagedAt}
 use Rattle.values.specs.Edition.{isEdition}
@@ -13,11 +13,12 @@ use Rattle.clock.specs.Seconds.{nextSecond}
 use Rattle.tariff.specs.Zones.{countedIn, countedOut}
 use Rattle.tariff.specs.Months.{monthStarts}
 use Rattle.state.specs.WellFormed.{editionOf, familyOf, wellFormed}
-use Rattle.state.specs.Making.{emptyReceiver}
 use Rattle.receiving.specs.declared.Hearing.{Hearing}
 use Rattle.receiving.specs.declared.Hearing.the-variants.{Drop, Hold, Restart, Empty, Line, Confirm, Frame, TooLong}
 use Rattle.receiving.specs.Hearing.{hearing}
-use Rattle.receiving.specs.Receivers.{lastHeld, keptReceiver, restartedReceiver}
+use Rattle.receiving.specs.declared.Holding.{Holding}
+use Rattle.receiving.specs.declared.Holding.the-variants.{Same, More, Anew}
+use Rattle.receiving.specs.Receivers.{lastHeld, hurtPlace, heldAfter}
 use Rattle.state.specs.Setting.{withReceiver, withRegisters, withClock, withCounters, withExported}
 use Rattle.meter.specs.Outcomes.{Outcome, speedOf}
 use Rattle.meter.specs.Character.{symbol}
@@ -27,41 +28,68 @@ use Rattle.meter.specs.Life.{refusal}
 use Rattle.settling.specs.declared.Heard.{Heard}
 use Rattle.settling.specs.declared.Told.{Told}
 
--- settled or not, with this number and speed, this receiver, and clock and counters as they are
-abbrev pub standing : Meter → Bool → ℕ → ℕ → Receiver → Heard
-standing m settled number speed r =
+-- settled or not, with this number and speed, and all as it is
+abbrev pub standing : Meter → Bool → ℕ → ℕ → Heard
+standing m settled number speed =
     record {
       settled = settled;
       number = number;
       speed = speed;
-      receiver = r;
+      holding = Same;
+      count = m .receiver .count;
+      mark = m .receiver .mark;
+      place = m .receiver .place;
       clock = m .registers .clock;
       counters = m .registers .counters;
       exported = m .registers .exported;
     }
 
--- answer 0, and the receiver after the character
-abbrev pub goesOn : Meter → Receiver → Heard
-goesOn m r = standing m true 0 (speedOf m) r
+-- answer 0, and the receiver after the character: what it holds, how many, and the mark with its place
+abbrev pub goesOn : Meter → Holding → ℕ → ℕ → ℕ → Heard
+goesOn m holding count mark place =
+    record {
+      settled = true;
+      number = 0;
+      speed = speedOf m;
+      holding = holding;
+      count = count;
+      mark = mark;
+      place = place;
+      clock = m .registers .clock;
+      counters = m .registers .counters;
+      exported = m .registers .exported;
+    }
 
 -- the character ends a line, a confirmation or a frame, or is one too many of a frame: the meter has to act
 abbrev pub ends : Meter → Heard
-ends m = standing m false 0 0 (m .receiver)
+ends m = standing m false 0 0
 
 -- 16, 99, 13, 12 or 14: nothing changed, speed 0
 abbrev pub refuses : Meter → ℕ → Heard
-refuses m number = standing m true number 0 (m .receiver)
+refuses m number = standing m true number 0
 
 -- answer 1, with this clock and these counters
 abbrev pub movesOn : Meter → Clock → Counters → Counters → Heard
 movesOn m clock counters exported =
-    record { settled = true; number = 1; speed = speedOf m; receiver = m .receiver; clock = clock; counters = counters; exported = exported }
+    record {
+      settled = true;
+      number = 1;
+      speed = speedOf m;
+      holding = Same;
+      count = m .receiver .count;
+      mark = m .receiver .mark;
+      place = m .receiver .place;
+      clock = clock;
+      counters = counters;
+      exported = exported;
+    }
 
 unfoldable pub heardAs : Meter → ℕ → Bool → Hearing → Heard
-heardAs m c damaged Drop = goesOn m (m .receiver)
-heardAs m c damaged Hold = goesOn m (keptReceiver (m .receiver) c damaged)
-heardAs m c damaged Restart = goesOn m (restartedReceiver c)
-heardAs m c damaged Empty = goesOn m emptyReceiver
+heardAs m c damaged Drop = standing m true 0 (speedOf m)
+heardAs m c damaged Hold =
+    goesOn m (More (m .receiver .count) c) (m .receiver .count + 1) (cond damaged 1 (m .receiver .mark)) (hurtPlace (m .receiver) damaged)
+heardAs m c damaged Restart = goesOn m (Anew c) 1 0 0
+heardAs m c damaged Empty = goesOn m (Anew 0) 0 0 0
 heardAs m c damaged Line = ends m
 heardAs m c damaged Confirm = ends m
 heardAs m c damaged Frame = ends m
@@ -110,18 +138,16 @@ settles m room e =
     (refuses m (refusal (familyOf m) room e)))
     (refuses m 16)
 
--- the meter with the receiver, the clock and the counters of a settled event, and all else as it was
-abbrev pub settledMeter : Meter → Receiver → Clock → Counters → Counters → Meter
-settledMeter m r clock counters exported =
-    withRegisters (withReceiver m r) (withExported (withCounters (withClock (m .registers) clock) counters) exported)
+-- the receiver after a settled event
+abbrev pub receiverAfter : Receiver → Heard → Receiver
+receiverAfter r h = record { count = h .count; held = heldAfter (h .holding) (r .held); mark = h .mark; place = h .place }
+
+-- the meter with that receiver, the clock and the counters of the event, and all else as it was
+abbrev pub settledMeter : Meter → Heard → Meter
+settledMeter m h =
+    withRegisters (withReceiver m (receiverAfter (m .receiver) h))
+    (withExported (withCounters (withClock (m .registers) (h .clock)) (h .counters)) (h .exported))
 
 -- all that comes of it
 abbrev pub settledOutcome : Meter → Heard → Outcome
-settledOutcome m h =
-    record {
-      number = h .number;
-      speed = h .speed;
-      reply = [];
-      place = 0;
-      next = settledMeter m (h .receiver) (h .clock) (h .counters) (h .exported);
-    }
+settledOutcome m h = record { number = h .number; speed = h .speed; reply = []; place = 0; next = settledMeter m h }

@@ -2,18 +2,20 @@
 // without the rest of the state, which firmware then need not copy.
 ghost use mathlib.Core.Path.{_≡_};
 ghost use mathlib.Core.Bool.{true, false};
-ghost use Prim.Native.Nat.{_≤_};
+ghost use Prim.Native.Nat.{_≤_, _<_};
 ghost use Rattle.state.specs.WellFormed.{wellFormed};
 ghost use Rattle.meter.specs.Life.{eventOf};
-ghost use Rattle.settling.specs.Settling.{standing, movesOn, heardBy, tickedBy, pulsedBy, toldBy, heardOf, settles};
+ghost use Rattle.settling.specs.Settling.{standing, goesOn, movesOn, heardAs, heardBy, tickedBy, pulsedBy, toldBy, heardOf, settles};
 use clock::Clock;
 use meter::Event;
 use meter::events;
 use meter::passing;
 use receiving::Hearing;
+use receiving::Holding;
+use state::ALL_ROWS;
 use state::Counters;
+use state::HELD_PLACES;
 use state::Meter;
-use state::Receiver;
 use values::family;
 
 // What an event does: where it is settled, the answer's number and speed, and the next receiver, clock and counters; otherwise the meter has to act.
@@ -21,7 +23,10 @@ pub struct Heard {
     pub settled: bool,
     pub number: u8,
     pub speed: u8,
-    pub receiver: Receiver,
+    pub holding: Holding,
+    pub count: u8,
+    pub mark: u8,
+    pub place: u8,
     pub clock: Clock,
     pub counters: Counters,
     pub exported: Counters,
@@ -34,10 +39,11 @@ pub struct Told {
     pub units: u32,
 }
 
-// Clock and counters as they are.
-fn stand(m: Meter, settled: bool, number: u8, speed: u8, receiver: Receiver) -> Heard
-    ensures { λ r. ⌜ r ≡ standing m settled number speed receiver ⌝ }
+// All as it is.
+fn stand(m: Meter, settled: bool, number: u8, speed: u8) -> Heard
+    ensures { λ r. ⌜ r ≡ standing m settled number speed ⌝ }
 {
+    let r = m.receiver;
     let g = m.registers;
     let clock = g.clock;
     let counters = g.counters;
@@ -46,7 +52,32 @@ fn stand(m: Meter, settled: bool, number: u8, speed: u8, receiver: Receiver) -> 
         settled,
         number,
         speed,
-        receiver,
+        holding: Holding::Same,
+        count: r.count,
+        mark: r.mark,
+        place: r.place,
+        clock,
+        counters,
+        exported,
+    }
+}
+
+// Answer 0, with a receiver that holds this, so many, and this mark with its place.
+fn go_on(m: Meter, holding: Holding, count: u8, mark: u8, place: u8) -> Heard
+    ensures { λ r. ⌜ r ≡ goesOn m holding count mark place ⌝ }
+{
+    let g = m.registers;
+    let clock = g.clock;
+    let counters = g.counters;
+    let exported = g.exported;
+    Heard {
+        settled: true,
+        number: 0,
+        speed: m.speed,
+        holding,
+        count,
+        mark,
+        place,
         clock,
         counters,
         exported,
@@ -57,35 +88,55 @@ fn stand(m: Meter, settled: bool, number: u8, speed: u8, receiver: Receiver) -> 
 fn move_on(m: Meter, clock: Clock, counters: Counters, exported: Counters) -> Heard
     ensures { λ r. ⌜ r ≡ movesOn m clock counters exported ⌝ }
 {
-    let receiver = m.receiver;
+    let r = m.receiver;
     Heard {
         settled: true,
         number: 1,
         speed: m.speed,
-        receiver,
+        holding: Holding::Same,
+        count: r.count,
+        mark: r.mark,
+        place: r.place,
         clock,
         counters,
         exported,
     }
 }
 
+// A character that is held.
+fn keep(m: Meter, c: u8, damaged: bool) -> Heard
+    requires { ⌜ m .receiver .count < 255 ⌝ }
+    ensures { λ r. ⌜ r ≡ heardAs m c damaged Hearing.Hold ⌝ }
+{
+    let r = m.receiver;
+    let mark = receiving::mark_after(r, damaged);
+    go_on(
+        m,
+        Holding::More(r.count, c),
+        r.count + 1,
+        mark,
+        receiving::hurt_place(r, damaged),
+    )
+}
+
 // A character, heard by a well-formed meter with room for any reply.
-fn hear(m: Meter, b: u8) -> Heard
+fn hear(m: Meter, held: &[u8; HELD_PLACES as usize], b: u8) -> Heard
+    requires { ⌜ now held ≡ m .receiver .held ⌝ }
     ensures { λ r. ⌜ r ≡ heardBy m b ⌝ }
 {
     let damaged = line::damaged(b);
     let c = meter::symbol_of(b);
     let r = m.receiver;
-    let h = receiving::hear(m.mode, r.count, receiving::last_held(r), c);
+    let h = receiving::hear(m.mode, r.count, receiving::last_in(held, r.count), c);
     match h {
-        Hearing::Drop => stand(m, true, 0, m.speed, r),
-        Hearing::Hold => stand(m, true, 0, m.speed, receiving::keep(r, c, damaged)),
-        Hearing::Restart => stand(m, true, 0, m.speed, receiving::restart(c)),
-        Hearing::Empty => stand(m, true, 0, m.speed, state::setting::empty_receiver()),
-        Hearing::Line => stand(m, false, 0, 0, r),
-        Hearing::Confirm => stand(m, false, 0, 0, r),
-        Hearing::Frame => stand(m, false, 0, 0, r),
-        Hearing::TooLong => stand(m, false, 0, 0, r),
+        Hearing::Drop => stand(m, true, 0, m.speed),
+        Hearing::Hold => keep(m, c, damaged),
+        Hearing::Restart => go_on(m, Holding::Anew(c), 1, 0, 0),
+        Hearing::Empty => go_on(m, Holding::Anew(0), 0, 0, 0),
+        Hearing::Line => stand(m, false, 0, 0),
+        Hearing::Confirm => stand(m, false, 0, 0),
+        Hearing::Frame => stand(m, false, 0, 0),
+        Hearing::TooLong => stand(m, false, 0, 0),
     }
 }
 
@@ -96,21 +147,19 @@ fn tick(m: Meter) -> Heard
     let g = m.registers;
     let next = clock::next_second(g.clock);
     if tariff::month_starts(next) {
-        return stand(m, false, 0, 0, m.receiver);
+        return stand(m, false, 0, 0);
     }
     move_on(m, next, g.counters, g.exported)
 }
 
 // A pulse, counted in its direction.
-fn pulse(m: Meter, out: bool, units: u32) -> Heard
-    requires { ⌜ (wellFormed m ≡ true) × (units ≤ 1000000) ⌝ }
+fn pulse(m: Meter, tables: &[u8; ALL_ROWS], out: bool, units: u32) -> Heard
+    requires { ⌜ (now tables ≡ m .registers .tables) × ((wellFormed m ≡ true) × (units ≤ 1000000)) ⌝ }
     ensures { λ r. ⌜ r ≡ pulsedBy m out units ⌝ }
 {
     let g = m.registers;
     let f = g.facts;
-    // by the rows alone: a call with all registers would have them copied at every event
-    let rows = g.tables;
-    let zone = tariff::zone_at(&rows, f.edition, g.clock);
+    let zone = tariff::zone_at(tables, f.edition, g.clock);
     if out {
         let x = tariff::count(g.exported, zone, units, family::export_end(f.decimals));
         return move_on(m, g.clock, g.counters, x);
@@ -152,42 +201,66 @@ fn told_by(e: Event) -> Told
 }
 
 // A character or a second, but no pulse; all else is left to the meter.
-fn hear_or_leave(m: Meter, e: Event) -> Heard
-    requires { ⌜ toldBy e .pulse ≡ false ⌝ }
+fn hear_or_leave(m: Meter, held: &[u8; HELD_PLACES as usize], e: Event) -> Heard
+    requires { ⌜ (now held ≡ m .receiver .held) × (toldBy e .pulse ≡ false) ⌝ }
     ensures { λ r. ⌜ r ≡ heardOf m e ⌝ }
 {
-    let r = m.receiver;
     match e {
-        Event::Character(b) => hear(m, b),
-        Event::Silence => stand(m, false, 0, 0, r),
+        Event::Character(b) => hear(m, held, b),
+        Event::Silence => stand(m, false, 0, 0),
         Event::Tick => tick(m),
-        Event::Pulse(units) => stand(m, false, 0, 0, r),
-        Event::PowerUp => stand(m, false, 0, 0, r),
-        Event::PulseOut(units) => stand(m, false, 0, 0, r),
-        Event::Unknown => stand(m, false, 0, 0, r),
+        Event::Pulse(units) => stand(m, false, 0, 0),
+        Event::PowerUp => stand(m, false, 0, 0),
+        Event::PulseOut(units) => stand(m, false, 0, 0),
+        Event::Unknown => stand(m, false, 0, 0),
     }
 }
 
-// An event, told by a number and a value, with so much room for a reply.
-pub fn settle(m: Meter, kind: u8, value: u32, room: usize) -> Heard
+// An event, told by a number and a value, with so much room for a reply. What the receiver holds and the tables are lent beside the state.
+fn settle<'a>(
+    m: Meter,
+    formed: bool,
+    held: &'a [u8; HELD_PLACES as usize],
+    tables: &'a [u8; ALL_ROWS],
+    kind: u8,
+    value: u32,
+    room: usize,
+) -> Heard
+    requires { ⌜ (formed ≡ wellFormed m) × ((now held ≡ m .receiver .held) × (now tables ≡ m .registers .tables)) ⌝ }
     ensures { λ r. ⌜ r ≡ settles m room (eventOf kind value) ⌝ }
 {
-    let r = m.receiver;
     if !state::has_edition(m) {
-        return stand(m, true, 16, 0, r);
+        return stand(m, true, 16, 0);
     }
     let e = events::event_of(kind, value);
     let number = events::refusal_of(e, passing::family_of(m), room);
     if number != 0 {
-        return stand(m, true, number, 0, r);
+        return stand(m, true, number, 0);
     }
-    if state::is_well_formed(m) {
+    if formed {
         // One call for both directions: what two places call is not compiled in, and the state would be copied for it at every event.
         let told = told_by(e);
         if told.pulse {
-            return pulse(m, told.out, told.units);
+            return pulse(m, tables, told.out, told.units);
         }
-        return hear_or_leave(m, e);
+        return hear_or_leave(m, held, e);
     }
-    stand(m, true, 14, 0, r)
+    stand(m, true, 14, 0)
+}
+
+// The same of a record that is lent.
+pub fn look(m: &Meter, kind: u8, value: u32, room: usize) -> Heard
+    ensures { λ r. ⌜ r ≡ settles (now (m .entry)) room (eventOf kind value) ⌝ }
+{
+    let before = *m;
+    let formed = lent::is_formed(m);
+    settle(
+        before,
+        formed,
+        &m.receiver.held,
+        &m.registers.tables,
+        kind,
+        value,
+        room,
+    )
 }
