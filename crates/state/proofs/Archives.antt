@@ -77,6 +77,17 @@ formed-archive family a h =
       rest = and-right g u back;
     }
 
+-- four counters below an end, named one by one
+pub four-below : (end : ℕ) (z : List ℕ) → length z ≡ 4
+    → (below end (getD z 0 0) && (below end (getD z 1 0) && (below end (getD z 2 0) && below end (getD z 3 0)))) ≡ zonesBelow end z
+unfolding zonesBelow every
+four-below end [] n = absurd (omega (arith, n))
+four-below end (a ∷ []) n = absurd (omega (arith, n))
+four-below end (a ∷ b ∷ []) n = absurd (omega (arith, n))
+four-below end (a ∷ b ∷ c ∷ []) n = absurd (omega (arith, n))
+four-below end (a ∷ b ∷ c ∷ d ∷ []) n = rw (and-true (below end d))
+four-below end (a ∷ b ∷ c ∷ d ∷ e ∷ z) n = absurd (omega (arith, n))
+
 -- an unused place is the one that holds nothing
 zeros : (z : List ℕ) → every (below 1) z ≡ true → z ≡ replicate (length z) 0
 unfolding every below
