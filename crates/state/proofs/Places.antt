@@ -6,13 +6,23 @@ use Prim.Native.Nat.{ℕ, zero, suc, _+_, _<_, _≤_}
 use native.Mathlib.Omega.{arith}
 use borrow.Author.Tests.{eq-eqb, lt-ltb, le-ltb}
 use lib.Dec.{leb}
-use lib.ListN.{length, getD, take, drop, drop-of-length-le}
+use lib.ListN.{length, getD, take, drop, drop-of-length-le, length-map}
+use mir.Val.{Val}
+use denote.Laws.{Is}
+use denote.Struct.Laws.{owed}
 use Rattle.line.proofs.Runs.{and-assoc}
 use Rattle.state.specs.declared.Period.{Period}
 use Rattle.state.specs.declared.Archive.{Archive}
 use Rattle.state.specs.Sizes.{periodPlaces}
 use Rattle.state.specs.WellFormed.{periodGood, unused, placeGood, everyPeriod, archiveGood}
 use Rattle.state.proofs.Archives.{period-next}
+use Rattle.state.proofs.Archive as S
+use Rattle.state.proofs.Archive.Laws as S′
+use Rattle.state.proofs.Period as P
+
+-- an archive in memory has all its places
+pub all-there : (a : Archive) (vs : List Val) → Is S.the-row a vs → length (a .periods) ≡ periodPlaces
+all-there a vs is = sym (length-map (a .periods) (P.the-field .into)) ∙ owed S.the-type S′.the-laws a vs is .0 .1 .0 .1
 
 -- the places from the i-th on, where so many periods are kept
 unfoldable pub placesGood : ℕ → ℕ → ℕ → List Period → Bool

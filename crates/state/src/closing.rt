@@ -83,38 +83,6 @@ fn is_unused(p: Period) -> bool
     has_no_time(p.closed) & both_below(p, 1, 1)
 }
 
-// How many places there are.
-fn places(periods: [Period; PERIODS]) -> usize
-    ensures { λ r. ⌜ r ≡ length periods ⌝ }
-    ensures twelve { λ r. ⌜ r ≡ periodPlaces ⌝ }
-{
-    PERIODS
-}
-
-// Whether an archive is well-formed: the first so many places hold good periods, and those behind them are unused. One copy of the places serves both loops.
-pub fn archive_good(a: Archive, family: u8) -> bool
-    ensures { λ r. ⌜ r ≡ archiveGood family a ⌝ }
-{
-    let q = a.periods;
-    let count = a.count;
-    if places(q) < count as usize {
-        return false;
-    }
-    let mut ok = true;
-    let mut i = 0;
-    while i < count {
-        let p = q[i as usize];
-        ok = ok & period_good(p, family);
-        i += 1;
-    }
-    while i < PERIODS as u8 {
-        let p = q[i as usize];
-        ok = ok & is_unused(p);
-        i += 1;
-    }
-    ok
-}
-
 // Whether there are places for so many periods.
 fn count_good(count: u8) -> bool
     ensures { λ r. ⌜ r ≡ leb count periodPlaces ⌝ }
@@ -139,7 +107,22 @@ fn still_good(ok: bool, p: Period, i: usize, count: u8, family: u8) -> bool
     ok & place_good(p, i, count, family)
 }
 
-// Whether an archive that is lent is well-formed: each place is looked at where it lies.
+// Whether an archive is well-formed: the first so many places hold good periods, and those behind them are unused.
+pub fn archive_good(a: Archive, family: u8) -> bool
+    ensures { λ r. ⌜ r ≡ archiveGood family a ⌝ }
+{
+    let count = a.count;
+    let mut ok = count_good(count);
+    let mut i = 0;
+    while i < PERIODS {
+        let p = a.periods[i];
+        ok = still_good(ok, p, i, count, family);
+        i += 1;
+    }
+    ok
+}
+
+// The same of an archive that is lent: each place is looked at where it lies.
 pub fn lent_good(a: &Archive, family: u8) -> bool
     ensures { λ r. ⌜ r ≡ archiveGood family (now (a .entry)) ⌝ }
 {
