@@ -38,6 +38,7 @@ use Rattle.state.proofs.Receiver as R
 use Rattle.state.proofs.Receiver.Laws as R′
 use Rattle.state.proofs.Registers as G
 use Rattle.state.proofs.Registers.Laws as G′
+use Rattle.state.proofs.Archive as K
 
 module _ {M : Type 1} (𝓤 : URA M) (H : Heap 𝓤) (A : Atoms 𝓤) (W : Given 𝓤 H A) where
   receiver : Parts 𝓤 H A S.the-row R.the-row (λ o. o + 3) (λ (m : Meter). m .receiver)
@@ -51,6 +52,13 @@ module _ {M : Type 1} (𝓤 : URA M) (H : Heap 𝓤) (A : Atoms 𝓤) (W : Given
       part-cut 𝓤 H A W S.the-row G.the-row 72 (λ (m : Meter). m .registers)
       (λ s m b o. cut-record 𝓤 H A s S.the-row G.the-type 72 m m (m .registers) (m .registers) (b, o) (look-at 𝓤 H A W s S.the-type S′.the-laws 4 72 refl refl (b, o) m (S.struct .as-values m) refl))
       (halves 𝓤 H A W (cStruct S.the-type S′.the-laws S′.the-copy))
+
+  pub archive-part : Parts 𝓤 H A S.the-row K.the-row (λ o. o + 72 + 680) (λ (m : Meter). m .registers .archive)
+  archive-part =
+      part-then 𝓤 H A W S.the-row G.the-row K.the-row (λ o. o + 72) (λ o. o + 680) (λ (m : Meter). m .registers) (λ (g : Registers). g .archive) registers
+      (part-cut 𝓤 H A W G.the-row K.the-row 680 (λ (g : Registers). g .archive)
+      (λ s g b o. cut-record 𝓤 H A s G.the-row K.the-type 680 g g (g .archive) (g .archive) (b, o) (look-at 𝓤 H A W s G.the-type G′.the-laws 6 680 refl refl (b, o) g (G.struct .as-values g) refl))
+      (halves 𝓤 H A W (cStruct G.the-type G′.the-laws G′.the-copy)))
 
   -- a field that is a run of characters has its list as it stands
   plain : (R : RattleType) (n : ℕ) (at : ℕ → ℕ) (f : R .Denot → List ℕ) → Parts 𝓤 H A R (Array u8 n) at (λ x. map (λ v. v) (f x)) → Parts 𝓤 H A R (Array u8 n) at f

@@ -10,6 +10,6 @@ pub fn is_formed(m: &Meter) -> bool
     ensures { λ r. ⌜ r ≡ wellFormed (now (m .entry)) ⌝ }
 {
     let before = *m;
-    let kept = closing::kept_good(before);
+    let kept = closing::lent_good(&m.registers.archive, before.registers.facts.decimals);
     pieces::is_formed(before, kept, &m.receiver.held, &m.registers.tables)
 }
