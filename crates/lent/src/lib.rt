@@ -9,7 +9,25 @@ use state::pieces;
 pub fn is_formed(m: &Meter) -> bool
     ensures { λ r. ⌜ r ≡ wellFormed (now (m .entry)) ⌝ }
 {
-    let before = *m;
-    let kept = closing::lent_good(&m.registers.archive, before.registers.facts.decimals);
-    pieces::is_formed(before, kept, &m.receiver.held, &m.registers.tables)
+    let kept = closing::lent_good(&m.registers.archive, m.registers.facts.decimals);
+    let small = pieces::small_good(
+        m.mode,
+        m.attempts,
+        m.speed,
+        m.registers.facts,
+        m.registers.account,
+        m.registers.clock,
+        m.registers.counters,
+        m.registers.exported,
+    );
+    let runs = pieces::runs_good(
+        m.mode,
+        m.receiver.count,
+        &m.receiver.held,
+        m.receiver.mark,
+        m.receiver.place,
+        m.registers.facts.edition,
+        &m.registers.tables,
+    );
+    small & (runs & kept)
 }

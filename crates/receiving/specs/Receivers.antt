@@ -4,7 +4,7 @@ use mathlib.Core.List.{List}
 use Prim.Native.Nat.{ℕ, _+_, _-_}
 use lib.ListN.{getD, set, take}
 use Rattle.state.specs.declared.Receiver.{Receiver}
-use Rattle.state.specs.WellFormed.{marked}
+use lib.Dec.{eqb}
 use Rattle.state.specs.Making.{emptyReceiver}
 use Rattle.state.specs.Setting.{withHeld, withMark}
 use Rattle.receiving.specs.declared.Holding.{Holding}
@@ -18,8 +18,11 @@ abbrev pub lastHeld : Receiver → ℕ
 lastHeld r = getD (r .held) (r .count - 1) 0
 
 -- [2]: the place of the first damaged character, counted from the first held one at 0: the mark's, or where this one is damaged its own, behind the last held one
+abbrev pub hurtAt : ℕ → ℕ → ℕ → Bool → ℕ
+hurtAt count mark place damaged = cond (eqb mark 1) place (cond damaged count 0)
+
 abbrev pub hurtPlace : Receiver → Bool → ℕ
-hurtPlace r damaged = cond (marked r) (r .place) (cond damaged (r .count) 0)
+hurtPlace r damaged = hurtAt (r .count) (r .mark) (r .place) damaged
 
 -- one more; a damaged one sets the mark
 abbrev pub keptReceiver : Receiver → ℕ → Bool → Receiver

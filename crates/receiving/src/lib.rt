@@ -4,7 +4,7 @@ ghost use mathlib.Core.Bool.{cond};
 ghost use Prim.Native.Nat.{_<_, _-_};
 ghost use lib.ListN.{length, take, getD, set};
 ghost use Rattle.receiving.specs.Hearing.{listening, confirming, framing, hearing};
-ghost use Rattle.receiving.specs.Receivers.{hurtPlace, keptReceiver, restartedReceiver, lastHeld, heldAfter};
+ghost use Rattle.receiving.specs.Receivers.{hurtAt, hurtPlace, keptReceiver, restartedReceiver, lastHeld, heldAfter};
 ghost use Rattle.state.specs.Sizes.{heldPlaces};
 use state::HELD_PLACES;
 use state::MOST_HELD;
@@ -137,18 +137,24 @@ fn put_at(held: &mut [u8], at: u8, c: u8)
 }
 
 // The place of the first damaged character: that of the mark, else this one's, behind the last held one.
+pub fn hurt_at(count: u8, mark: u8, place: u8, damaged: bool) -> u8
+    ensures { λ x. ⌜ x ≡ hurtAt count mark place damaged ⌝ }
+{
+    let here = chosen(damaged, count, 0);
+    chosen(mark == 1, place, here)
+}
+
 pub fn hurt_place(r: Receiver, damaged: bool) -> u8
     ensures { λ x. ⌜ x ≡ hurtPlace r damaged ⌝ }
 {
-    let here = chosen(damaged, r.count, 0);
-    chosen(r.mark == 1, r.place, here)
+    hurt_at(r.count, r.mark, r.place, damaged)
 }
 
 // The mark after one character more.
-pub fn mark_after(r: Receiver, damaged: bool) -> u8
-    ensures { λ x. ⌜ x ≡ cond damaged 1 (r .mark) ⌝ }
+pub fn mark_after(mark: u8, damaged: bool) -> u8
+    ensures { λ x. ⌜ x ≡ cond damaged 1 mark ⌝ }
 {
-    chosen(damaged, 1, r.mark)
+    chosen(damaged, 1, mark)
 }
 
 // The receiver with one character more.
@@ -159,7 +165,7 @@ pub fn keep(r: Receiver, c: u8, damaged: bool) -> Receiver
     let mut held = r.held;
     put_at(&mut held, r.count, c);
     let next = with_held(r, held, r.count + 1);
-    with_mark(next, mark_after(r, damaged), hurt_place(r, damaged))
+    with_mark(next, mark_after(r.mark, damaged), hurt_place(r, damaged))
 }
 
 // The receiver with this character alone.

@@ -1,15 +1,13 @@
 // Most events have no reply and change little: a character the receiver, a second the clock, a pulse its counters; or they are refused. They are settled here
-// without the rest of the state, which firmware then need not copy.
+// from what they ask of the state, so that none of it is copied for them but that.
 ghost use mathlib.Core.Path.{_≡_};
 ghost use mathlib.Core.Bool.{true, false};
 ghost use Prim.Native.Nat.{_≤_, _<_};
-ghost use Rattle.state.specs.WellFormed.{wellFormed};
 ghost use Rattle.meter.specs.Life.{eventOf};
-ghost use Rattle.settling.specs.Settling.{standing, goesOn, movesOn, heardAs, heardBy, tickedBy, pulsedBy, toldBy, heardOf, settles};
+ghost use Rattle.settling.specs.Settling.{standing, goesOn, movesOn, heardAs, heardBy, tickedBy, pulsedBy, toldBy, heardOf, settlesBy, settles, Countable};
 use clock::Clock;
 use meter::Event;
 use meter::events;
-use meter::passing;
 use receiving::Hearing;
 use receiving::Holding;
 use state::ALL_ROWS;
@@ -17,6 +15,20 @@ use state::Counters;
 use state::HELD_PLACES;
 use state::Meter;
 use values::family;
+
+// What an event that is settled asks of a state, besides what the receiver holds and the tables: a state is too long to be handed on.
+pub struct Seen {
+    pub mode: u8,
+    pub speed: u8,
+    pub count: u8,
+    pub mark: u8,
+    pub place: u8,
+    pub edition: u8,
+    pub family: u8,
+    pub clock: Clock,
+    pub counters: Counters,
+    pub exported: Counters,
+}
 
 // What an event does: where it is settled, the answer's number and speed, and the next receiver, clock and counters; otherwise the meter has to act.
 pub struct Heard {
@@ -40,22 +52,20 @@ pub struct Told {
 }
 
 // All as it is.
-fn stand(m: Meter, settled: bool, number: u8, speed: u8) -> Heard
-    ensures { λ r. ⌜ r ≡ standing m settled number speed ⌝ }
+fn stand(s: Seen, settled: bool, number: u8, speed: u8) -> Heard
+    ensures { λ r. ⌜ r ≡ standing s settled number speed ⌝ }
 {
-    let r = m.receiver;
-    let g = m.registers;
-    let clock = g.clock;
-    let counters = g.counters;
-    let exported = g.exported;
+    let clock = s.clock;
+    let counters = s.counters;
+    let exported = s.exported;
     Heard {
         settled,
         number,
         speed,
         holding: Holding::Same,
-        count: r.count,
-        mark: r.mark,
-        place: r.place,
+        count: s.count,
+        mark: s.mark,
+        place: s.place,
         clock,
         counters,
         exported,
@@ -63,17 +73,16 @@ fn stand(m: Meter, settled: bool, number: u8, speed: u8) -> Heard
 }
 
 // Answer 0, with a receiver that holds this, so many, and this mark with its place.
-fn go_on(m: Meter, holding: Holding, count: u8, mark: u8, place: u8) -> Heard
-    ensures { λ r. ⌜ r ≡ goesOn m holding count mark place ⌝ }
+fn go_on(s: Seen, holding: Holding, count: u8, mark: u8, place: u8) -> Heard
+    ensures { λ r. ⌜ r ≡ goesOn s holding count mark place ⌝ }
 {
-    let g = m.registers;
-    let clock = g.clock;
-    let counters = g.counters;
-    let exported = g.exported;
+    let clock = s.clock;
+    let counters = s.counters;
+    let exported = s.exported;
     Heard {
         settled: true,
         number: 0,
-        speed: m.speed,
+        speed: s.speed,
         holding,
         count,
         mark,
@@ -85,18 +94,17 @@ fn go_on(m: Meter, holding: Holding, count: u8, mark: u8, place: u8) -> Heard
 }
 
 // Answer 1, with this clock and these counters.
-fn move_on(m: Meter, clock: Clock, counters: Counters, exported: Counters) -> Heard
-    ensures { λ r. ⌜ r ≡ movesOn m clock counters exported ⌝ }
+fn move_on(s: Seen, clock: Clock, counters: Counters, exported: Counters) -> Heard
+    ensures { λ r. ⌜ r ≡ movesOn s clock counters exported ⌝ }
 {
-    let r = m.receiver;
     Heard {
         settled: true,
         number: 1,
-        speed: m.speed,
+        speed: s.speed,
         holding: Holding::Same,
-        count: r.count,
-        mark: r.mark,
-        place: r.place,
+        count: s.count,
+        mark: s.mark,
+        place: s.place,
         clock,
         counters,
         exported,
@@ -104,68 +112,57 @@ fn move_on(m: Meter, clock: Clock, counters: Counters, exported: Counters) -> He
 }
 
 // A character that is held.
-fn keep(m: Meter, c: u8, damaged: bool) -> Heard
-    requires { ⌜ m .receiver .count < 255 ⌝ }
-    ensures { λ r. ⌜ r ≡ heardAs m c damaged Hearing.Hold ⌝ }
+fn keep(s: Seen, c: u8, damaged: bool) -> Heard
+    requires { ⌜ s .count < 255 ⌝ }
+    ensures { λ r. ⌜ r ≡ heardAs s c damaged Hearing.Hold ⌝ }
 {
-    let r = m.receiver;
-    let mark = receiving::mark_after(r, damaged);
-    go_on(
-        m,
-        Holding::More(r.count, c),
-        r.count + 1,
-        mark,
-        receiving::hurt_place(r, damaged),
-    )
+    let mark = receiving::mark_after(s.mark, damaged);
+    let place = receiving::hurt_at(s.count, s.mark, s.place, damaged);
+    go_on(s, Holding::More(s.count, c), s.count + 1, mark, place)
 }
 
 // A character, heard by a well-formed meter with room for any reply.
-fn hear(m: Meter, held: &[u8; HELD_PLACES as usize], b: u8) -> Heard
-    requires { ⌜ now held ≡ m .receiver .held ⌝ }
-    ensures { λ r. ⌜ r ≡ heardBy m b ⌝ }
+fn hear(s: Seen, held: &[u8; HELD_PLACES as usize], b: u8) -> Heard
+    ensures { λ r. ⌜ r ≡ heardBy s (now (held .entry)) b ⌝ }
 {
     let damaged = line::damaged(b);
     let c = meter::symbol_of(b);
-    let r = m.receiver;
-    let h = receiving::hear(m.mode, r.count, receiving::last_in(held, r.count), c);
+    let h = receiving::hear(s.mode, s.count, receiving::last_in(held, s.count), c);
     match h {
-        Hearing::Drop => stand(m, true, 0, m.speed),
-        Hearing::Hold => keep(m, c, damaged),
-        Hearing::Restart => go_on(m, Holding::Anew(c), 1, 0, 0),
-        Hearing::Empty => go_on(m, Holding::Anew(0), 0, 0, 0),
-        Hearing::Line => stand(m, false, 0, 0),
-        Hearing::Confirm => stand(m, false, 0, 0),
-        Hearing::Frame => stand(m, false, 0, 0),
-        Hearing::TooLong => stand(m, false, 0, 0),
+        Hearing::Drop => stand(s, true, 0, s.speed),
+        Hearing::Hold => keep(s, c, damaged),
+        Hearing::Restart => go_on(s, Holding::Anew(c), 1, 0, 0),
+        Hearing::Empty => go_on(s, Holding::Anew(0), 0, 0, 0),
+        Hearing::Line => stand(s, false, 0, 0),
+        Hearing::Confirm => stand(s, false, 0, 0),
+        Hearing::Frame => stand(s, false, 0, 0),
+        Hearing::TooLong => stand(s, false, 0, 0),
     }
 }
 
 // A second; the meter has to act where a month starts.
-fn tick(m: Meter) -> Heard
-    ensures { λ r. ⌜ r ≡ tickedBy m ⌝ }
+fn tick(s: Seen) -> Heard
+    ensures { λ r. ⌜ r ≡ tickedBy s ⌝ }
 {
-    let g = m.registers;
-    let next = clock::next_second(g.clock);
+    let next = clock::next_second(s.clock);
     if tariff::month_starts(next) {
-        return stand(m, false, 0, 0);
+        return stand(s, false, 0, 0);
     }
-    move_on(m, next, g.counters, g.exported)
+    move_on(s, next, s.counters, s.exported)
 }
 
 // A pulse, counted in its direction.
-fn pulse(m: Meter, tables: &[u8; ALL_ROWS], out: bool, units: u32) -> Heard
-    requires { ⌜ (now tables ≡ m .registers .tables) × ((wellFormed m ≡ true) × (units ≤ 1000000)) ⌝ }
-    ensures { λ r. ⌜ r ≡ pulsedBy m out units ⌝ }
+fn pulse(s: Seen, tables: &[u8; ALL_ROWS], out: bool, units: u32) -> Heard
+    requires { ⌜ Countable s × (units ≤ 1000000) ⌝ }
+    ensures { λ r. ⌜ r ≡ pulsedBy s (now (tables .entry)) out units ⌝ }
 {
-    let g = m.registers;
-    let f = g.facts;
-    let zone = tariff::zone_at(tables, f.edition, g.clock);
+    let zone = tariff::zone_at(tables, s.edition, s.clock);
     if out {
-        let x = tariff::count(g.exported, zone, units, family::export_end(f.decimals));
-        return move_on(m, g.clock, g.counters, x);
+        let x = tariff::count(s.exported, zone, units, family::export_end(s.family));
+        return move_on(s, s.clock, s.counters, x);
     }
-    let c = tariff::count(g.counters, zone, units, family::counter_end(f.decimals));
-    move_on(m, g.clock, c, g.exported)
+    let c = tariff::count(s.counters, zone, units, family::counter_end(s.family));
+    move_on(s, s.clock, c, s.exported)
 }
 
 fn no_pulse() -> Told
@@ -201,24 +198,29 @@ fn told_by(e: Event) -> Told
 }
 
 // A character or a second, but no pulse; all else is left to the meter.
-fn hear_or_leave(m: Meter, held: &[u8; HELD_PLACES as usize], e: Event) -> Heard
-    requires { ⌜ (now held ≡ m .receiver .held) × (toldBy e .pulse ≡ false) ⌝ }
-    ensures { λ r. ⌜ r ≡ heardOf m e ⌝ }
+fn hear_or_leave<'a>(
+    s: Seen,
+    held: &'a [u8; HELD_PLACES as usize],
+    tables: &'a [u8; ALL_ROWS],
+    e: Event,
+) -> Heard
+    requires { ⌜ toldBy e .pulse ≡ false ⌝ }
+    ensures { λ r. ⌜ r ≡ heardOf s (now (held .entry)) (now (tables .entry)) e ⌝ }
 {
     match e {
-        Event::Character(b) => hear(m, held, b),
-        Event::Silence => stand(m, false, 0, 0),
-        Event::Tick => tick(m),
-        Event::Pulse(units) => stand(m, false, 0, 0),
-        Event::PowerUp => stand(m, false, 0, 0),
-        Event::PulseOut(units) => stand(m, false, 0, 0),
-        Event::Unknown => stand(m, false, 0, 0),
+        Event::Character(b) => hear(s, held, b),
+        Event::Silence => stand(s, false, 0, 0),
+        Event::Tick => tick(s),
+        Event::Pulse(units) => stand(s, false, 0, 0),
+        Event::PowerUp => stand(s, false, 0, 0),
+        Event::PulseOut(units) => stand(s, false, 0, 0),
+        Event::Unknown => stand(s, false, 0, 0),
     }
 }
 
-// An event, told by a number and a value, with so much room for a reply. What the receiver holds and the tables are lent beside the state.
+// An event, told by a number and a value, with so much room for a reply.
 fn settle<'a>(
-    m: Meter,
+    s: Seen,
     formed: bool,
     held: &'a [u8; HELD_PLACES as usize],
     tables: &'a [u8; ALL_ROWS],
@@ -226,36 +228,46 @@ fn settle<'a>(
     value: u32,
     room: usize,
 ) -> Heard
-    requires { ⌜ (formed ≡ wellFormed m) × ((now held ≡ m .receiver .held) × (now tables ≡ m .registers .tables)) ⌝ }
-    ensures { λ r. ⌜ r ≡ settles m room (eventOf kind value) ⌝ }
+    requires { ⌜ (formed ≡ true → Countable s) ⌝ }
+    ensures { λ r. ⌜ r ≡ settlesBy s formed (now (held .entry)) (now (tables .entry)) room (eventOf kind value) ⌝ }
 {
-    if !state::has_edition(m) {
-        return stand(m, true, 16, 0);
+    if !values::is_edition(s.edition) {
+        return stand(s, true, 16, 0);
     }
     let e = events::event_of(kind, value);
-    let number = events::refusal_of(e, passing::family_of(m), room);
+    let number = events::refusal_of(e, s.family, room);
     if number != 0 {
-        return stand(m, true, number, 0);
+        return stand(s, true, number, 0);
     }
     if formed {
-        // One call for both directions: what two places call is not compiled in, and the state would be copied for it at every event.
         let told = told_by(e);
         if told.pulse {
-            return pulse(m, tables, told.out, told.units);
+            return pulse(s, tables, told.out, told.units);
         }
-        return hear_or_leave(m, held, e);
+        return hear_or_leave(s, held, tables, e);
     }
-    stand(m, true, 14, 0)
+    stand(s, true, 14, 0)
 }
 
 // The same of a record that is lent.
 pub fn look(m: &Meter, kind: u8, value: u32, room: usize) -> Heard
     ensures { λ r. ⌜ r ≡ settles (now (m .entry)) room (eventOf kind value) ⌝ }
 {
-    let before = *m;
     let formed = lent::is_formed(m);
+    let s = Seen {
+        mode: m.mode,
+        speed: m.speed,
+        count: m.receiver.count,
+        mark: m.receiver.mark,
+        place: m.receiver.place,
+        edition: m.registers.facts.edition,
+        family: m.registers.facts.decimals,
+        clock: m.registers.clock,
+        counters: m.registers.counters,
+        exported: m.registers.exported,
+    };
     settle(
-        before,
+        s,
         formed,
         &m.receiver.held,
         &m.registers.tables,

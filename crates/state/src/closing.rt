@@ -5,11 +5,10 @@ ghost use lib.Dec.{leb};
 ghost use Prim.Native.Nat.{_≤_};
 ghost use lib.ListN.{length, take, drop};
 ghost use Rattle.state.specs.Sizes.{periodPlaces};
-ghost use Rattle.state.specs.WellFormed.{zonesBelow, bothBelow, periodGood, noTime, unused, placeGood, everyPeriod, archiveGood, familyOf};
+ghost use Rattle.state.specs.WellFormed.{zonesBelow, bothBelow, periodGood, noTime, unused, placeGood, everyPeriod, archiveGood};
 ghost use Rattle.state.specs.Closing.{oneMore, closedWith, closing};
 ghost use Rattle.state.specs.Making.{noPeriod, emptyArchive};
 use crate::Archive;
-use crate::Meter;
 use crate::PERIODS;
 use crate::Period;
 use crate::Registers;
@@ -135,15 +134,6 @@ pub fn lent_good(a: &Archive, family: u8) -> bool
         i += 1;
     }
     ok
-}
-
-// Whether the archive of a state is.
-pub fn kept_good(m: Meter) -> bool
-    ensures { λ r. ⌜ r ≡ archiveGood (familyOf m) (m .registers .archive) ⌝ }
-{
-    let g = m.registers;
-    let f = g.facts;
-    archive_good(g.archive, f.decimals)
 }
 
 fn one_more(count: u8) -> u8

@@ -259,8 +259,21 @@ pub fn is_well_formed(m: Meter) -> bool
     let r = m.receiver;
     let held = r.held;
     let g = m.registers;
+    let account = g.account;
     let tables = g.tables;
-    pieces::is_formed(m, closing::kept_good(m), &held, &tables)
+    let f = g.facts;
+    let small = pieces::small_good(
+        m.mode,
+        m.attempts,
+        m.speed,
+        f,
+        account,
+        g.clock,
+        g.counters,
+        g.exported,
+    );
+    let runs = pieces::runs_good(m.mode, r.count, &held, r.mark, r.place, f.edition, &tables);
+    small & (runs & closing::archive_good(g.archive, f.decimals))
 }
 
 // A row of '1' for each table of an edition, and 0 in the places behind them.

@@ -1,16 +1,15 @@
-// A state tested by its parts. Its runs of characters are lent beside it, so that they are looked at where they lie and nothing long is copied to be tested.
+// A state tested by its pieces. What is small is handed over, and the runs of characters are lent, so that nothing long is copied to be tested.
 ghost use mathlib.Core.Path.{_≡_};
-ghost use Rattle.state.specs.WellFormed.{receiverGood, archiveGood, familyOf, wellFormed};
+ghost use Rattle.state.specs.WellFormed.{receiverGood};
 ghost use Rattle.state.specs.Pieces.{smallGood, receiverOf, runsGood};
 use crate::ALL_ROWS;
 use crate::Counters;
 use crate::Facts;
 use crate::HELD_PLACES;
-use crate::Meter;
 use clock::Clock;
 
 // Mode, attempts and speed; what the meter was made from; its counters.
-fn small_good(
+pub fn small_good(
     mode: u8,
     attempts: u8,
     speed: u8,
@@ -48,44 +47,17 @@ fn receiver_good(
 }
 
 // The receiver's characters, and those of the tables of an edition.
-fn runs_good(
+pub fn runs_good<'a>(
     mode: u8,
     count: u8,
-    held: &[u8; HELD_PLACES as usize],
+    held: &'a [u8; HELD_PLACES as usize],
     mark: u8,
     place: u8,
     edition: u8,
-    tables: &[u8; ALL_ROWS],
+    tables: &'a [u8; ALL_ROWS],
 ) -> bool
     ensures { λ r. ⌜ r ≡ runsGood mode (receiverOf count (now (held .entry)) mark place) edition (now (tables .entry)) ⌝ }
 {
     receiver_good(mode, count, held, mark, place)
         & crate::tables_good(tables, values::tables_of(edition))
-}
-
-// Whether a state is well-formed, where it is known whether its archive is.
-pub fn is_formed<'a>(
-    m: Meter,
-    kept: bool,
-    held: &'a [u8; HELD_PLACES as usize],
-    tables: &'a [u8; ALL_ROWS],
-) -> bool
-    requires { ⌜ (kept ≡ archiveGood (familyOf m) (m .registers .archive)) × ((now held ≡ m .receiver .held) × (now tables ≡ m .registers .tables)) ⌝ }
-    ensures { λ r. ⌜ r ≡ wellFormed m ⌝ }
-{
-    let g = m.registers;
-    let account = g.account;
-    let f = g.facts;
-    let r = m.receiver;
-    let small = small_good(
-        m.mode,
-        m.attempts,
-        m.speed,
-        f,
-        account,
-        g.clock,
-        g.counters,
-        g.exported,
-    );
-    small & (runs_good(m.mode, r.count, held, r.mark, r.place, f.edition, tables) & kept)
 }

@@ -84,8 +84,9 @@ use Rattle.settling.proofs.look.Symbol.{name as #settling·look}
 use Rattle.settling.proofs.look.Met as look-thm
 use Rattle.firmware.specs.declared.Reply.{Reply}
 use Rattle.firmware.specs.Replies.{replyTo, replyOf, settledReply}
-use Rattle.firmware.proofs.Behind.{behind}
-use Rattle.firmware.proofs.Lending.{places, inField, valOf, lends-held, held-back}
+use Rattle.lent.proofs.Behind.{behind}
+use Rattle.lent.proofs.Known.{inField}
+use Rattle.firmware.proofs.Lending.{places, valOf, lends-held, held-back}
 use Rattle.firmware.proofs.Reply as P
 use Rattle.firmware.proofs.Reply.Laws as P′
 use Rattle.firmware.proofs.is_settled as settled

@@ -28,7 +28,7 @@ returns-4 : tie.Need-returns-4
 unfolding toldBy
 returns-4 c =
     let told = c .before .before .before .before in
-    absurd (none (toldBy (told .args .e) .pulse) (rw (c .before .before .e2 .given .1)) (told .pre .1))
+    absurd (none (toldBy (told .args .e) .pulse) (rw (c .before .before .e2 .given .1)) (told .pre))
 
 returns-5 : tie.Need-returns-5
 unfolding heardOf
@@ -38,7 +38,7 @@ returns-6 : tie.Need-returns-6
 unfolding toldBy
 returns-6 c =
     let told = c .before .before .before .before in
-    absurd (none (toldBy (told .args .e) .pulse) (rw (c .before .before .e3 .given .1)) (told .pre .1))
+    absurd (none (toldBy (told .args .e) .pulse) (rw (c .before .before .e3 .given .1)) (told .pre))
 
 returns-7 : tie.Need-returns-7
 unfolding heardOf

@@ -6,7 +6,7 @@ use Rattle.settling.proofs.keep.Tie as tie
 
 returns : tie.Need-returns
 unfolding heardAs
-returns c = rw (c .go-on .ensures, c .before .hurt-place .ensures, c .before .before .before .mark-after .ensures)
+returns c = rw (c .go-on .ensures, c .before .before .hurt-at .ensures, c .before .before .before .mark-after .ensures)
 
 pub keep-spec : {M : Type 1} → statement M
-keep-spec = tie.close (tie.spec (λ c κs. search needs) (λ c. search needs) (λ c κs. search needs) (λ c κs. search needs) returns)
+keep-spec = tie.close (tie.spec (λ c κs. search needs) (λ c κs. search needs) (λ c. search needs) (λ c κs. search needs) returns)
