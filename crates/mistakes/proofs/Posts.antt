@@ -52,6 +52,8 @@ record Computed : Type 0 where
   second-row : getD (holding (replicate 72 0) (framesOf two)) 50 0 ≡ 177
   first-row : getD (framesOf (entry 7 twos ∷ entry 8 twos ∷ [])) 50 0 ≡ 178
   frame-start : getD (take 35 (framesOf one)) 0 0 ≡ 129
+  second-start : getD (holding (replicate 72 0) (framesOf two)) 36 0 ≡ 129
+  second-none : getD (framesOf one ++ replicate 36 0) 36 0 ≡ 0
   first-unit : getD (holding (replicate 72 0) (framesOf two)) 7 0 ≡ 0xB7
   swapped-unit : getD (framesOf (entry 8 (replicate 24 49) ∷ entry 7 twos ∷ [])) 7 0 ≡ 0xB8
   right-sum : getD (holding (replicate 36 0) (framesOf one)) 35 0 ≡ 0
@@ -75,6 +77,8 @@ computed =
       second-row = refl;
       first-row = refl;
       frame-start = refl;
+      second-start = refl;
+      second-none = refl;
       first-unit = refl;
       swapped-unit = refl;
       right-sum = refl;
@@ -172,6 +176,7 @@ exports =
         λ size place after e. let d = no-room-of 24 (postText one) (replicate 36 0) size place after e in
             omega (arith, d .short, ap (λ (es : List Entry). length es) (entries-of one (computed .good-one) (d .is-post))),
       );
+      exports-the-first-row = λ size place e. omega (arith, computed .second-start, computed .second-none, written two (replicate 72 0) (framesOf one ++ replicate 36 0) size place 36 (computed .good-two) e);
       swaps-two-frames =
           λ size place e. omega (arith, computed .first-unit, computed .swapped-unit, written two (replicate 72 0) (framesOf (entry 8 (replicate 24 49) ∷ entry 7 twos ∷ [])) size place 7 (computed .good-two) e);
       sums-wrongly = λ size place e. omega (arith, computed .right-sum, computed .wrong-sum, written one (replicate 36 0) (take 35 (framesOf one) ++ 0x81 ∷ []) size place 35 (computed .good-one) e);

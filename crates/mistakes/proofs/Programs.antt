@@ -60,11 +60,12 @@ use Rattle.blocks.specs.Parts.{isCharacter, notEtx, isBlock, bccFits, partOf, b
 use Rattle.reading.specs.Whole.{setOf, also, readFrom, readAll, placeAfter}
 use Rattle.finding.specs.Finding.{among, position, answered, lookup, pointedAt}
 use Rattle.showing.specs.Shown.{setLine, setLines, foundShown, setsShown, refusalShown, lookupShown, firstShown, blockShown, replyShown, readoutShown, registerShown}
+use Rattle.history.proofs.Examples.{examples}
 use Rattle.facts.proofs.Facts.{facts}
 use Rattle.mistakes.specs.Samples.{serial, account, password, twos, newMeter, heldIn}
 use Rattle.mistakes.specs.Replying.{twoSets}
 use Rattle.mistakes.specs.Events.{slowConfirmed}
-use Rattle.mistakes.specs.Programs.{begun, trailed, fast, wrongPassword, wrongTried, bracketWithin, badSecond, State, Meters, Head, Readouts, Post}
+use Rattle.mistakes.specs.Programs.{begun, trailed, fast, wrongPassword, wrongTried, bracketWithin, badSecond, State, Meters, Head, Readouts, Histories, Post}
 use Rattle.mistakes.proofs.Differing.{seen, number, flag, byte}
 use Rattle.mistakes.proofs.Posts.{strays}
 
@@ -103,6 +104,17 @@ head =
 pub readouts : Readouts
 unfolding ones damagedAt seven sent undamagedAll firstDamaged bccOf every between isDigit isLetter isPrintable isAddress isValue matching sameText decimal closed blockOf strippedOf isCharacter notEtx within isBlock bccFits partOf dataSet ofKind leading startsWith3 isSet addressLength valueLength setHere setRead setOf also readFrom readAll placeAfter among position answered lookup pointedAt widthWithin widthOf digitsOf numberLine setLine setLines foundShown setsShown refusalShown lookupShown firstShown blockShown replyShown readoutShown registerShown twoSets badSecond
 readouts = record { shows-place-0 = byte 7 refl; loses-the-bad-set = byte 3 refl; shows-every-set = byte 0 refl }
+
+-- as many writes told as the examples say, and no more
+pub histories : Histories
+histories =
+    record {
+      applies-a-write-twice = λ e. omega (arith, ap length (e ∙ examples .programmed));
+      takes-a-frame-in-read-only-mode = λ e. omega (arith, ap length (e ∙ examples .only-read));
+      tells-edition-1-of-table-25 = λ e. omega (arith, ap length (e ∙ examples .no-saturday));
+      keeps-a-frame-over-silence = λ e. omega (arith, ap length (e ∙ examples .cut-by-silence));
+      hears-a-question-for-what-went-out = λ e. omega (arith, ap length (e ∙ examples .no-out));
+    }
 
 row-good : goodRow twos ≡ true
 unfolding every between goodRow twos

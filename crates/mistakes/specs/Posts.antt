@@ -52,6 +52,8 @@ pub record Exports : Type 0 where
   -- the first row again for the second line; 21 for a buffer that is just large enough
   pub export-lines : ((size place : ℕ) → ExportedAs 24 (postText two) (replicate 72 0) 1 size place (framesOf (entry 7 twos ∷ entry 8 twos ∷ [])) → ⊥)
       × ((size place : ℕ) (after : List ℕ) → ExportedAs 24 (postText one) (replicate 36 0) 21 size place after → ⊥)
+  -- the first frame again and again to its own place, and nothing behind it
+  pub exports-the-first-row : (size place : ℕ) → ExportedAs 24 (postText two) (replicate 72 0) 1 size place (framesOf one ++ replicate 36 0) → ⊥
   -- the two frames in each other's place
   pub swaps-two-frames : (size place : ℕ) → ExportedAs 24 (postText two) (replicate 72 0) 1 size place (framesOf (entry 8 (replicate 24 49) ∷ entry 7 twos ∷ [])) → ⊥
   -- a BCC of 1 where it is 0

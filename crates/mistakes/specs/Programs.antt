@@ -2,14 +2,14 @@
 use mathlib.Core.Bool.{true}
 use mathlib.Core.List.{List, [], _∷_, _++_}
 use Prim.Native.Nat.{ℕ, _*_}
-use lib.ListN.{getD, take, replicate}
+use lib.ListN.{getD, take, drop, replicate}
 use Rattle.line.specs.Controls.{SOH}
 use Rattle.line.specs.Quoted.{chars}
 use Rattle.line.specs.Characters.{sent}
 use Rattle.text.specs.Writing.{stored, holding}
 use Rattle.values.specs.Registers.{goodSerial}
 use Rattle.frames.specs.Frames.{frameOf, blockOf, onWire}
-use Rattle.frames.specs.Commands.{P1, bracketed}
+use Rattle.frames.specs.Commands.{P1, R1, bracketed, askExport}
 use Rattle.frames.specs.Session.{wiredSignOn, wiredAnswer}
 use Rattle.state.specs.Sizes.{rowLength, tablePlaces, replyRoom}
 use Rattle.state.specs.declared.Meter.{Meter}
@@ -25,6 +25,8 @@ use Rattle.meter.specs.declared.Event.the-variants.{Silence}
 use Rattle.meter.specs.Life.{refusal}
 use Rattle.settling.specs.Settling.{goesOn}
 use Rattle.firmware.specs.Replies.{settledReply}
+use Rattle.history.specs.Frames.{account as accountTold}
+use Rattle.history.specs.Examples.{spoken, tellsUs, tellsThere, programming, readOnly, programmingThere, newAccount, accountWrite, onesWrite, ones as allOnes}
 use Rattle.post.specs.Grammar.{lineText, postText}
 use Rattle.post.specs.Place.{CheckedAs}
 use Rattle.datasets.specs.Sets.{dataSet}
@@ -109,6 +111,19 @@ pub record Readouts : Type 0 where
   pub loses-the-bad-set : RuledOut (registerShown badSecond (chars "B") .text) (chars "25 0\n")
   -- all data sets where one is asked for
   pub shows-every-set : RuledOut (registerShown (onWire (blockOf twoSets)) (chars "B") .text) (chars "A 1\nB 22\n")
+
+-- a meter that was told something else by what happened to it
+pub record Histories : Type 0 where
+  -- one write told twice
+  pub applies-a-write-twice : RuledOut (tellsUs (spoken (programming ++ accountWrite))) (accountTold newAccount ∷ accountTold newAccount ∷ [])
+  -- a write in a session that may only read
+  pub takes-a-frame-in-read-only-mode : RuledOut (tellsUs (spoken (readOnly ++ accountWrite))) (accountTold newAccount ∷ [])
+  -- table 25 told to edition 1
+  pub tells-edition-1-of-table-25 : RuledOut (tellsUs (spoken (programming ++ onesWrite 25))) (allOnes 25 ∷ [])
+  -- a frame that goes on behind silence
+  pub keeps-a-frame-over-silence : RuledOut (tellsUs (spoken (programming ++ take 12 accountWrite) ++ (replyRoom, Silence) ∷ spoken (drop 12 accountWrite))) (accountTold newAccount ∷ [])
+  -- `G` taken for a question by a meter of document 01's family, whose session then goes on
+  pub hears-a-question-for-what-went-out : RuledOut (tellsThere (spoken (programmingThere ++ onWire (frameOf R1 (askExport 4)) ++ accountWrite))) (accountTold newAccount ∷ [])
 
 pub record Post : Type 0 where
   -- the line's place twice over, for a '1' below table 24
