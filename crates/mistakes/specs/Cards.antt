@@ -46,11 +46,12 @@ pub record Cards : Type 0 where
   pub «read_of» : ((size place : ℕ) (after : List ℕ) → ReadAs 6 sample (replicate 55 0) 1 size place after → ⊥)
       × ((size place : ℕ) (after : List ℕ) → ReadAs 7 sample (replicate 55 0) 40 size place after → ⊥)
 
--- the card of that state; the same with tables 0 to 23, and with the account's length the other way about
+-- so many tables from this number on, each with the row of the next
 unfoldable pub fromZero : ℕ → ℕ → List ℕ → List Entry
 fromZero n zero rows = []
 fromZero n (suc k) rows = record { number = n; row = rowOf rows (suc n) } ∷ fromZero (suc n) k rows
 
+-- the card of that state with the account's length the other way about
 unfoldable pub lowByteFirst : List ℕ
 lowByteFirst = 1 ∷ 10 ∷ 0 ∷ drop 3 (cardOf 24 (ready .registers))
 
@@ -59,6 +60,7 @@ pub record CardsWritten : Type 0 where
   -- 14 for a good state without room; 41 before 14
   pub write : RuledOut (writtenIn ready []) (record { number = 14; length = 0 })
       × RuledOut (writtenIn (withAttempts ready 4) []) (record { number = 41; length = 0 })
-  -- tables 0 to 23; the low byte of the account's length first
+  -- tables 0 to 23
   pub numbers-from-zero : RuledOut (writtenTo ready (replicate 685 0)) (cardText account (fromZero 0 24 (ready .registers .tables)))
+  -- the low byte of the account's length first
   pub writes-the-low-byte-first : RuledOut (writtenTo ready (replicate 685 0)) lowByteFirst

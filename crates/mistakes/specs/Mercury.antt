@@ -38,7 +38,7 @@ pub record Asking : Type 0 where
   -- the CRC's bytes the other way about
   pub sends-the-high-byte-first : (r : Asked) → Asks six (goodFields 3 1 0) january r (take 4 january ++ getD january 5 0 ∷ getD january 4 0 ∷ []) → ⊥
 
--- active energy in and out, reactive energy in and out; the second not measured
+-- active energy that came in, a quantity of what went out, and reactive energy that came in
 abbrev pub energy : ℕ → Quantity → ℕ → Energy
 energy a q r = record { «active_in» = Measured a; «active_out» = q; «reactive_in» = Measured r; «reactive_out» = Measured 0 }
 
