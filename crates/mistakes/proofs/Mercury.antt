@@ -53,6 +53,7 @@ unfolding bitOut out joined crcFrom crcOf withCrc checks numberFrom quantityOf q
 answering =
     record {
       read = (seen answerNumber refl, seen answerNumber refl);
+      takes-status-0-for-data = seen answerNumber refl;
       measures-all-ones = seen activeOut refl;
       numbers-in-plain-order = seen activeIn refl;
       «number_of» = (number refl, number refl);

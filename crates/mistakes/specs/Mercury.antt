@@ -47,6 +47,8 @@ pub record Answering : Type 0 where
   -- the address before the CRC; a status of code 0 as data
   pub read : RuledOut (readOf 0x81 (0x80 ∷ 0x05 ∷ 0x00 ∷ 0x00 ∷ [])) OtherAddress
       × RuledOut (readOf 0x80 (statusOf 0x80 0)) (Data (record { «active_in» = Measured 0; «active_out» = Measured 0; «reactive_in» = Measured 0; «reactive_out» = Measured 0 }))
+  -- by the byte behind the address and not by the length: data of 65536 taken for the status 1
+  pub takes-status-0-for-data : RuledOut (readOf 0x80 (answerOf 0x80 (energy 65536 NotMeasured 1000))) (Status 1)
   -- FF FF FF FF as a number
   pub measures-all-ones : RuledOut (readOf 0x80 (answerOf 0x80 (energy 2672 NotMeasured 1000))) (Data (energy 2672 (Measured 0xFFFFFFFF) 1000))
   -- the bytes from the highest down: 00 00 70 0A as 700A hex, 00 00 E8 03 as E803
