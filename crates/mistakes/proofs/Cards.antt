@@ -163,6 +163,12 @@ room-enough out after size place h (inr (inl x)) =
     omega (arith, x .short, ap length (sample-entries (x .is-card)), computed .sample-room)
 room-enough out after size place h (inr (inr x)) = omega (arith, x .refused)
 
+no-length : (place : ℕ) (after : List ℕ) → ReadAs 24 sample (replicate 55 0) 1 0 place after → ⊥
+unfolding ReadAs
+no-length place after (inl x) = omega (arith, x .long, ap length (sample-entries (x .is-card)), computed .sample-room)
+no-length place after (inr (inl x)) = omega (arith, x .refused)
+no-length place after (inr (inr x)) = omega (arith, x .refused)
+
 read-other : (tables : ℕ) (text out after : List ℕ) (size place : ℕ) → (IsCard tables text → ⊥) → ReadAs tables text out 1 size place after → ⊥
 unfolding ReadAs
 read-other tables text out after size place h (inl x) = h (x .is-card)
@@ -184,6 +190,7 @@ cards =
       takes-a-second-account = λ c. omega (arith, one-answer 24 secondAccount 40 15 40 13 c second-place .1);
       «check_of» = (accepted-other 6 sample 0 no-high, λ place. refused-card 7 sample place (sample-card 7 (computed .rises-of-7)));
       read = (λ place. room-first swapped [] [] 0 place no-swapped, λ size place after. room-enough (replicate 55 0) after size place refl);
+      hands-out-the-place-as-length = no-length;
       «read_of» =
           (λ size place after. read-other 6 sample (replicate 55 0) after size place no-high, λ size place after. card-refused 7 sample (replicate 55 0) after size place (sample-card 7 (computed .rises-of-7)));
     }

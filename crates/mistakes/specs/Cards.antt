@@ -42,6 +42,8 @@ pub record Cards : Type 0 where
   -- 41 before 40; 41 for a buffer that is just large enough
   pub read : ((place : ℕ) → ReadAs 24 swapped [] 41 0 place [] → ⊥)
       × ((size place : ℕ) (after : List ℕ) → ReadAs 24 sample (replicate 55 0) 41 size place after → ⊥)
+  -- the place for the length, which is 0 where a card is read
+  pub hands-out-the-place-as-length : (place : ℕ) (after : List ℕ) → ReadAs 24 sample (replicate 55 0) 1 0 place after → ⊥
   -- table 7 of 6 read; table 7 of 7 refused
   pub «read_of» : ((size place : ℕ) (after : List ℕ) → ReadAs 6 sample (replicate 55 0) 1 size place after → ⊥)
       × ((size place : ℕ) (after : List ℕ) → ReadAs 7 sample (replicate 55 0) 40 size place after → ⊥)
