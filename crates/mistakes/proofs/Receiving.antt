@@ -15,7 +15,7 @@ use Rattle.clock.specs.Weekday.{daysBefore, dayNumber, weekday}
 use Rattle.values.specs.Edition.{tablesOf}
 use Rattle.values.specs.Family.{isEqm, counterEnd, exportEnd}
 use Rattle.values.specs.Texts.{tableText}
-use Rattle.frames.specs.Frames.{closed, frameOf}
+use Rattle.frames.specs.Frames.{closed, frameOf, bareFrame}
 use Rattle.frames.specs.Commands.{bracketed, askClock, askSerial, askAccount, askExport, setTable}
 use Rattle.state.specs.declared.Receiver.{Receiver}
 use Rattle.state.specs.declared.Meter.{Meter}
@@ -40,7 +40,7 @@ use Rattle.deciding.specs.Verdict.{entry, bareVerdict, framedVerdict, shapeVerd
 use Rattle.tariff.specs.Zones.{ownDay, tableFor, zoneIn, counted}
 use Rattle.tariff.specs.Months.{monthStarts, monthClosed}
 use Rattle.mistakes.specs.Samples.{serial, account, twos, newMeter, used, newEqm, usedEqm, heldIn, closedTwice, oldestFirst}
-use Rattle.mistakes.specs.Receiving.{Setting, Hearings, Decisions, Closing, Tariff}
+use Rattle.mistakes.specs.Receiving.{fullEqm, Setting, Hearings, Decisions, Closing, Tariff}
 use Rattle.mistakes.proofs.Differing.{seen, number, flag, byte}
 
 -- each case as a number
@@ -82,11 +82,17 @@ hearings =
       restart = (seen (λ (r : Receiver). r .mark) refl, seen (λ (r : Receiver). r .count) refl);
       «hurt_place» = (number refl, number refl);
       keep-place = (seen (λ (r : Receiver). r .place) refl, seen (λ (r : Receiver). r .place) refl);
+      puts-it-a-place-early = seen (λ (r : Receiver). getD (r .held) 0 0) refl;
     }
 
 pub decisions : Decisions
-unfolding seven bccOf every between isDigit isPrintable matching sameText decimal layoutText agrees fits tableText closed frameOf bracketed setTable startGood bareShape content framedShape entry bareVerdict framedVerdict shapeVerdict verdict asked energyAsked energyNamed energyAt tableAsked isEqm askClock askSerial askAccount askExport askCase verdictCase twos
-decisions = record { decide = (seen verdictCase refl, seen verdictCase refl); decide-out = (seen verdictCase refl, seen verdictCase refl) }
+unfolding seven bccOf every between isDigit isPrintable matching sameText decimal layoutText agrees fits tableText closed frameOf bareFrame bracketed setTable startGood bareShape content framedShape entry bareVerdict framedVerdict shapeVerdict verdict asked energyAsked energyNamed energyAt tableAsked isEqm askClock askSerial askAccount askExport askCase verdictCase twos
+decisions =
+    record {
+      decide = (seen verdictCase refl, seen verdictCase refl);
+      decide-out = (seen verdictCase refl, seen verdictCase refl);
+      sums-the-soh = (seen verdictCase refl, seen verdictCase refl);
+    }
 
 pub setting : Setting
 unfolding stored decimal serial account twos newMeter used heldIn tablesOf newRows isWired restSpeed
@@ -101,6 +107,7 @@ setting =
       ten = (byte 0 refl, byte 0 refl);
       «with_row» = (byte 144 refl, byte 145 refl);
       «row_start» = (number refl, number refl);
+      one-place = number refl;
       «with_zones» = (seen (λ (c : Counters). counterOf c 1) refl, seen (λ (c : Counters). counterOf c 2) refl);
       «with_total» = (seen (λ (c : Counters). c .total) refl, seen (λ (c : Counters). c .total) refl);
       «zone_place» = (number refl, number refl);
@@ -117,7 +124,7 @@ closings =
     }
 
 pub tariff : Tariff
-unfolding stored decimal leap thirty daysIn nextMonth nextDay nextSecond monthStarts monthClosed periodsOf closedWith daysBefore dayNumber weekday tableFor zoneIn counterEnd exportEnd counted serial account twos newMeter used newEqm usedEqm heldIn tablesOf newRows ownDay
+unfolding stored decimal leap thirty daysIn nextMonth nextDay nextSecond monthStarts monthClosed periodsOf closedWith daysBefore dayNumber weekday tableFor zoneIn counterEnd exportEnd counted serial account twos newMeter used newEqm usedEqm fullEqm heldIn tablesOf newRows ownDay
 tariff =
     record {
       table-for-kilns = (number refl, number refl);
@@ -130,6 +137,9 @@ tariff =
       count-eqm = (seen (λ (c : Counters). counterOf c 1) refl, seen (λ (c : Counters). c .total) refl);
       «count_in» = (seen (λ (g : Registers). counterOf (g .counters) 1) refl, seen (λ (g : Registers). g .counters .total) refl);
       «count_out» = (seen (λ (g : Registers). counterOf (g .exported) 1) refl, seen (λ (g : Registers). g .counters .total) refl);
+      counts-export-as-import = seen (λ (g : Registers). g .exported .total) refl;
+      forgets-the-fourth-zone = seen (λ (c : Counters). counterOf c 4) refl;
+      rolls-over-a-digit-late = seen (λ (g : Registers). g .counters .total) refl;
       «second_later» = (seen (λ (g : Registers). g .archive .count) refl, seen (λ (g : Registers). g .archive .count) refl);
       second-later-month =
           (seen (λ (g : Registers). g .archive .count) refl, seen (λ (g : Registers). getD (g .archive .periods) 0 noPeriod .closed .date .day) refl);
