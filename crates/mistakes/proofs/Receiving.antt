@@ -82,6 +82,7 @@ hearings =
       restart = (seen (λ (r : Receiver). r .mark) refl, seen (λ (r : Receiver). r .count) refl);
       «hurt_place» = (number refl, number refl);
       keep-place = (seen (λ (r : Receiver). r .place) refl, seen (λ (r : Receiver). r .place) refl);
+      hold = (seen (λ (l : List ℕ). getD l 1 0) refl, seen (λ (l : List ℕ). getD l 1 0) refl);
       puts-it-a-place-early = seen (λ (r : Receiver). getD (r .held) 0 0) refl;
     }
 

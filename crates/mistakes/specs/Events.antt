@@ -21,7 +21,8 @@ use Rattle.meter.specs.Character.{symbol, character}
 use Rattle.meter.specs.Events.{silence, tick, pulseRefused, pulse, powerUp}
 use Rattle.meter.specs.declared.Event.the-variants.{Character, Silence, Tick, Pulse, Unknown}
 use Rattle.meter.specs.Life.{eventOf, met, refusal, happened}
-use Rattle.settling.specs.Settling.{standing, goesOn, refuses, movesOn, settles}
+use Rattle.receiving.specs.declared.Holding.the-variants.{Anew}
+use Rattle.settling.specs.Settling.{seenIn, standing, goesOn, refuses, movesOn, settles}
 use Rattle.keeping.specs.Shown.{checkedAs, shownAs}
 use Rattle.firmware.specs.Replies.{replyOf}
 use Rattle.mistakes.specs.RuledOut.{RuledOut}
@@ -193,17 +194,17 @@ pub record Happening : Type 0 where
 -- of `settling`
 pub record Settling : Type 0 where
   -- the last character of a frame settled with nothing said; a character taken in a short buffer
-  pub settle : RuledOut (settles told replyRoom (Character (sent (getD (frameOf W1 (setTable 7 twos)) 35 0)))) (goesOn told emptyReceiver)
-      × RuledOut (settles newMeter 2047 (Character (sent 47))) (goesOn newMeter (restartedReceiver 47))
+  pub look : RuledOut (settles told replyRoom (Character (sent (getD (frameOf W1 (setTable 7 twos)) 35 0)))) (goesOn (seenIn told) (Anew 0) 0 0 0)
+      × RuledOut (settles newMeter 2047 (Character (sent 47))) (goesOn (seenIn newMeter) (Anew 47) 1 0 0)
   -- a malformed state said before a pulse that is too much; an event that is none left to the meter
-  pub settle-refused : RuledOut (settles (withAttempts newMeter 4) 0 (Pulse 1000001)) (refuses (withAttempts newMeter 4) 14)
+  pub look-refused : RuledOut (settles (withAttempts newMeter 4) 0 (Pulse 1000001)) (refuses (seenIn (withAttempts newMeter 4)) 14)
       × RuledOut (settles newMeter replyRoom Unknown) (settles newMeter replyRoom Silence)
   -- the last character of a frame settled, and nothing changed
-  pub settles-all : RuledOut (settles told replyRoom (Character (sent (getD (frameOf W1 (setTable 7 twos)) 35 0)))) (standing told true 0 0 (told .receiver))
+  pub settles-all : RuledOut (settles told replyRoom (Character (sent (getD (frameOf W1 (setTable 7 twos)) 35 0)))) (standing (seenIn told) true 0 0)
   -- the second that starts a month settled
-  pub settles-a-month : RuledOut (settles monthEnds replyRoom Tick) (movesOn monthEnds (clockAt 2000 2 1 0 0 0) (monthEnds .registers .counters) (monthEnds .registers .exported))
+  pub settles-a-month : RuledOut (settles monthEnds replyRoom Tick) (movesOn (seenIn monthEnds) (clockAt 2000 2 1 0 0 0) (monthEnds .registers .counters) (monthEnds .registers .exported))
   -- 12 for an edition that there is not
-  pub says-16-after-12 : RuledOut (settles noEdition 2047 (Character 47)) (refuses noEdition 12)
+  pub says-16-after-12 : RuledOut (settles noEdition 2047 (Character 47)) (refuses (seenIn noEdition) 12)
 
 -- of `firmware`
 pub record Lent : Type 0 where

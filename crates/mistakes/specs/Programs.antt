@@ -23,7 +23,8 @@ use Rattle.meter.specs.Character.{character}
 use Rattle.meter.specs.Events.{tick}
 use Rattle.meter.specs.declared.Event.the-variants.{Silence}
 use Rattle.meter.specs.Life.{refusal}
-use Rattle.settling.specs.Settling.{goesOn}
+use Rattle.receiving.specs.declared.Holding.the-variants.{Anew}
+use Rattle.settling.specs.Settling.{seenIn, goesOn}
 use Rattle.firmware.specs.Replies.{settledReply}
 use Rattle.history.specs.Frames.{account as accountTold}
 use Rattle.history.specs.Examples.{spoken, tellsUs, tellsThere, programming, readOnly, programmingThere, newAccount, accountWrite, onesWrite, ones as allOnes}
@@ -92,7 +93,7 @@ pub record Meters : Type 0 where
   -- the mode for the speed, where nothing is replied
   pub gives-the-wrong-speed : RuledOut (answerOf (tick fast)) (answerOf (saying 1 4 [] (tick fast .next)))
   -- a settled character with a reply of one byte
-  pub says-a-byte-was-sent : RuledOut (settledReply (goesOn fast emptyReceiver)) (record { number = 0; length = 1; speed = 5; place = 0 })
+  pub says-a-byte-was-sent : RuledOut (settledReply (goesOn (seenIn fast) (Anew 0) 0 0 0)) (record { number = 0; length = 1; speed = 5; place = 0 })
 
 pub record Head : Type 0 where
   -- what a meter answers for the head's own call on the wire

@@ -18,7 +18,8 @@ use Rattle.state.specs.WellFormed.{archiveGood}
 use Rattle.state.specs.Closing.{closing}
 use Rattle.receiving.specs.declared.Hearing.the-variants.{Hold, Restart}
 use Rattle.receiving.specs.Hearing.{hearing}
-use Rattle.receiving.specs.Receivers.{lastHeld, hurtPlace, keptReceiver, restartedReceiver}
+use Rattle.receiving.specs.Receivers.{lastHeld, hurtPlace, keptReceiver, restartedReceiver, heldAfter}
+use Rattle.receiving.specs.declared.Holding.the-variants.{More, Anew}
 use Rattle.deciding.specs.declared.Verdict.the-variants.{Refuse, Leave, Password, Read, WriteTable}
 use Rattle.replies.specs.declared.Ask.the-variants.{Energy, Export}
 use Rattle.deciding.specs.Verdict.{verdict}
@@ -44,6 +45,9 @@ pub record Hearings : Type 0 where
   -- the place of the last damaged one kept; none kept
   pub keep-place : RuledOut (keptReceiver (keptReceiver (restartedReceiver 1) 0 true) 0 true) (withMark (keptReceiver (keptReceiver (restartedReceiver 1) 0 true) 0 true) 1 2)
       × RuledOut (keptReceiver (restartedReceiver 1) 0 true) (withMark (keptReceiver (restartedReceiver 1) 0 true) 1 0)
+  -- a place early; the characters before a restart kept
+  pub hold : RuledOut (heldAfter (More 1 66) (restartedReceiver 1 .held)) (set (restartedReceiver 1 .held) 0 66)
+      × RuledOut (heldAfter (Anew 1) (keptReceiver (restartedReceiver 1) 66 false .held)) (keptReceiver (restartedReceiver 1) 66 false .held)
   -- a character over the one before it
   pub puts-it-a-place-early : RuledOut (keptReceiver (restartedReceiver 1) 66 false) (withHeld emptyReceiver (set (emptyReceiver .held) 0 66) 2)
 
