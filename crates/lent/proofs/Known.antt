@@ -40,6 +40,7 @@ pub record Known (h : Meter) : Type 1 where
   pub account : Is (Array u8 10) (inField (h .registers .account)) (accountVal (h .registers .account) ∷ [])
   pub clock : Is C.the-row (h .registers .clock) (LL.vals C.the-type C′.the-laws (h .registers .clock))
   pub counters : Is U.the-row (h .registers .counters) (LL.vals U.the-type U′.the-laws (h .registers .counters))
+  pub total : h .registers .counters .total < 2 ^ 32
   pub exported : Is U.the-row (h .registers .exported) (LL.vals U.the-type U′.the-laws (h .registers .exported))
 
 pub known : (h : Meter) → Is S.the-row h (LL.vals S.the-type S′.the-laws h) → Known h
@@ -48,6 +49,7 @@ known h was =
     let r = LL.owed R.the-type R′.the-laws (h .receiver) (LL.vals R.the-type R′.the-laws (h .receiver)) (m .1 .1 .1 .0) in
     let g = LL.owed G.the-type G′.the-laws (h .registers) (LL.vals G.the-type G′.the-laws (h .registers)) (m .1 .1 .1 .1 .0) in
     let life = LL.owed F.the-type F′.the-laws (h .registers .facts) (LL.vals F.the-type F′.the-laws (h .registers .facts)) (g .0) in
+    let counts = LL.owed U.the-type U′.the-laws (h .registers .counters) (LL.vals U.the-type U′.the-laws (h .registers .counters)) (g .1 .1 .1 .0) in
     record {
       mode = m .0 .1;
       attempts = m .1 .0 .1;
@@ -61,5 +63,6 @@ known h was =
       account = g .1 .0;
       clock = g .1 .1 .0;
       counters = g .1 .1 .1 .0;
+      total = counts .1 .0 .1;
       exported = g .1 .1 .1 .1 .0;
     }
