@@ -1,6 +1,8 @@
 -- The wrong answers for `state::setting`, `receiving`, `deciding` and `tariff` are ruled out, by computing. Assumes nothing.
 use mathlib.Core.Path.{refl}
+use mathlib.Core.List.{List}
 use lib.ListN.{getD}
+use Rattle.receiving.specs.Receivers.{heldAfter}
 use Prim.Native.Nat.{ℕ, _+_}
 use Rattle.line.specs.Characters.{seven}
 use Rattle.line.specs.Checksum.{bccOf}
@@ -73,7 +75,7 @@ verdictCase WriteAccount = 105
 verdictCase (WriteTable t) = 106
 
 pub hearings : Hearings
-unfolding hearing listening confirming framing hearingCase stored newMeter heldIn tablesOf newRows
+unfolding heldAfter hearing listening confirming framing hearingCase stored newMeter heldIn tablesOf newRows
 hearings =
     record {
       hear = (seen hearingCase refl, seen hearingCase refl);
