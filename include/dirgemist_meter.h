@@ -11,10 +11,10 @@
  * Each is proved, for all records, numbers and buffers, to do what its paragraph says. Pointers
  * must not be null, and what they point to must not overlap.
  *
- * Stack: an event takes some 14,600 bytes (x86-64), a whole frame 13,800, a test 3,800, making
- * 4,100; DIRGEMIST_STACK is above each, and hosts/stack and hosts/chip/count.c measure them. The
- * steps of an event hand the state on by value, and up to eight copies of its tables and its archive
- * are alive at once.
+ * Stack: an event takes some 15,900 bytes (64-bit processors), a whole frame 14,200, making 2,000, a
+ * test or the total 350; DIRGEMIST_STACK is above each, and hosts/stack and hosts/chip/count.c measure
+ * them. An event that has a reply hands the state on by value, and up to eight copies of its tables
+ * and its archive are alive at once.
  *
  * Link with libfirmware.a for events, and with libkeeping.a for making, testing and showing.
  */

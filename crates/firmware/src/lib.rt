@@ -4,10 +4,12 @@ ghost use mathlib.Core.Path.{_≡_};
 ghost use lib.ListN.{length};
 ghost use Rattle.text.specs.Writing.{holding};
 ghost use Rattle.frames.specs.Frames.{onWire};
+ghost use Rattle.receiving.specs.Receivers.{heldAfter};
 ghost use Rattle.meter.specs.Life.{eventOf, met};
 ghost use Rattle.firmware.specs.Replies.{replyTo, replyOf, settledReply};
 use meter::Answer;
 use settling::Heard;
+use state::HELD_PLACES;
 use state::Meter;
 
 // What is left of an answer once its next state lies in the record.
@@ -41,10 +43,12 @@ fn is_settled(h: Heard) -> bool
     h.settled
 }
 
-// A settled event has no reply.
-fn short_reply(h: Heard) -> Reply
-    ensures { λ r. ⌜ r ≡ settledReply h ⌝ }
+// What a settled event leaves of the held characters, where they lie; it has no reply.
+fn settle(held: &mut [u8; HELD_PLACES as usize], h: Heard) -> Reply
+    ensures { λ r. ⌜ (r ≡ settledReply h) × (now (held .exit) ≡ heldAfter (h .holding) (now (held .entry))) ⌝ }
 {
+    let holding = h.holding;
+    receiving::hold(held, holding);
     Reply {
         number: h.number,
         length: 0,
@@ -59,15 +63,16 @@ pub fn meet_in_place(m: &mut Meter, kind: u8, value: u32, reply: &mut [u8]) -> R
         × (now (m .exit) ≡ met (now (m .entry)) (length (now (reply .entry))) (eventOf kind value) .next)
         × (now (reply .exit) ≡ holding (now (reply .entry)) (onWire (met (now (m .entry)) (length (now (reply .entry))) (eventOf kind value) .reply))) ⌝ }
 {
-    // Two locals for the two copies: one would lie whole in memory at every call.
-    let before = *m;
-    let heard = settling::settle(before, kind, value, reply.len());
+    let heard = settling::look(&*m, kind, value, reply.len());
     if is_settled(heard) {
-        m.receiver = heard.receiver;
+        let settled = settle(&mut m.receiver.held, heard);
+        m.receiver.count = heard.count;
+        m.receiver.mark = heard.mark;
+        m.receiver.place = heard.place;
         m.registers.clock = heard.clock;
         m.registers.counters = heard.counters;
         m.registers.exported = heard.exported;
-        return short_reply(heard);
+        return settled;
     }
     let a = meter::events::act(*m, kind, value, reply);
     *m = next_of(a);

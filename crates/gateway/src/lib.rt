@@ -40,7 +40,8 @@ pub fn frame_in_place(m: &mut Meter, frame: &[u8], reply: &mut [u8]) -> Reply
         × (now (m .exit) ≡ frameAt (now (m .entry)) (length (now (reply .entry))) (now (frame .entry)) .next)
         × (now (reply .exit) ≡ holding (now (reply .entry)) (onWire (frameAt (now (m .entry)) (length (now (reply .entry))) (now (frame .entry)) .reply))) ⌝ }
 {
-    let a = whole::receive_frame(*m, frame, reply);
+    let formed = lent::is_formed(&*m);
+    let a = whole::receive_frame_of(*m, formed, frame, reply);
     *m = next_of(a);
     reply_of(a)
 }

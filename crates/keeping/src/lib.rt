@@ -3,7 +3,7 @@
 ghost use mathlib.Core.Path.{_≡_};
 ghost use Rattle.state.specs.Making.{factsOf, madeOf};
 ghost use Rattle.keeping.specs.Making.{clockOf};
-ghost use Rattle.keeping.specs.Shown.{checkedAs, shownAs};
+ghost use Rattle.keeping.specs.Shown.{checkedBy, checkedAs, shownBy, shownAs};
 use state::Meter;
 
 mod making;
@@ -52,13 +52,14 @@ pub extern "C" fn dirgemist_meter_make(
     making::number_of(a)
 }
 
-fn check(m: Meter) -> u8
-    ensures { λ r. ⌜ r ≡ checkedAs m ⌝ }
+// What the test of a record answers, from its edition and from whether it is well-formed: a record is too long to be handed on.
+fn check(edition: u8, formed: bool) -> u8
+    ensures { λ r. ⌜ r ≡ checkedBy edition formed ⌝ }
 {
-    if !state::has_edition(m) {
+    if !values::is_edition(edition) {
         return 16;
     }
-    if state::is_well_formed(m) {
+    if formed {
         return 1;
     }
     14
@@ -69,25 +70,21 @@ fn check(m: Meter) -> u8
 pub extern "C" fn dirgemist_meter_check(m: &Meter) -> u8
     ensures { λ r. ⌜ r ≡ checkedAs (now (m .entry)) ⌝ }
 {
-    check(*m)
+    let formed = lent::is_formed(m);
+    check(m.registers.facts.edition, formed)
 }
 
-fn show(m: Meter) -> Shown
-    ensures { λ r. ⌜ r ≡ shownAs m ⌝ }
+fn show(edition: u8, formed: bool, total: u32) -> Shown
+    ensures { λ r. ⌜ r ≡ shownBy edition formed total ⌝ }
 {
-    let g = m.registers;
-    let c = g.counters;
-    if !state::has_edition(m) {
+    if !values::is_edition(edition) {
         return Shown {
             number: 16,
             total: 0,
         };
     }
-    if state::is_well_formed(m) {
-        return Shown {
-            number: 1,
-            total: c.total,
-        };
+    if formed {
+        return Shown { number: 1, total };
     }
     Shown {
         number: 14,
@@ -107,6 +104,11 @@ fn hand_out(s: Shown, total: &mut u32) -> u8
 pub extern "C" fn dirgemist_meter_total(m: &Meter, total: &mut u32) -> u8
     ensures { λ r. ⌜ (r ≡ shownAs (now (m .entry)) .number) × (now (total .exit) ≡ shownAs (now (m .entry)) .total) ⌝ }
 {
-    let s = show(*m);
+    let formed = lent::is_formed(m);
+    let s = show(
+        m.registers.facts.edition,
+        formed,
+        m.registers.counters.total,
+    );
     hand_out(s, total)
 }

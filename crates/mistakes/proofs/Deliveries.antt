@@ -57,4 +57,4 @@ changed-by-refusal place (inl a) = omega (arith, a .done)
 changed-by-refusal place (inr b) = omega (arith, ap (λ (m : Meter). m .attempts) (b .kept))
 
 pub deliveries : Deliveries
-deliveries = record { feed = (λ e. omega (arith, e, counted-once), keeps-no-state); deliver = (all-acknowledged, changed-by-refusal) }
+deliveries = record { feed = (λ e. omega (arith, e, counted-once), keeps-no-state); feed-none = λ e. omega (arith, e, counted-once); deliver = (all-acknowledged, changed-by-refusal) }

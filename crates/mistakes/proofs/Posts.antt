@@ -7,6 +7,7 @@ use Prim.Native.Nat.{ℕ, _<_}
 use native.Mathlib.Omega.{arith}
 use lib.Count.{ones}
 use lib.ListN.{length, getD, take, drop, replicate}
+use Rattle.line.specs.Quoted.{chars}
 use Rattle.line.specs.Characters.{seven, sent}
 use Rattle.line.specs.Checksum.{bccOf}
 use Rattle.line.specs.Runs.{every}
@@ -51,6 +52,12 @@ record Computed : Type 0 where
   second-row : getD (holding (replicate 72 0) (framesOf two)) 50 0 ≡ 177
   first-row : getD (framesOf (entry 7 twos ∷ entry 8 twos ∷ [])) 50 0 ≡ 178
   frame-start : getD (take 35 (framesOf one)) 0 0 ≡ 129
+  second-start : getD (holding (replicate 72 0) (framesOf two)) 36 0 ≡ 129
+  second-none : getD (framesOf one ++ replicate 36 0) 36 0 ≡ 0
+  first-unit : getD (holding (replicate 72 0) (framesOf two)) 7 0 ≡ 0xB7
+  swapped-unit : getD (framesOf (entry 8 (replicate 24 49) ∷ entry 7 twos ∷ [])) 7 0 ≡ 0xB8
+  right-sum : getD (holding (replicate 36 0) (framesOf one)) 35 0 ≡ 0
+  wrong-sum : getD (take 35 (framesOf one) ++ 0x81 ∷ []) 35 0 ≡ 0x81
 
 computed : Computed
 unfolding ones seven sent bccOf every holding between decimal layoutText tableText closed frameOf inBrackets setTable goodRow goodTable goodEntry rising goodEntries lineText linesText lastLine postText lowest highest columnFits columnsFit numberOf mayFollow pick nextNumber entryFrame framesOf twos broken twice bracketed
@@ -70,6 +77,12 @@ computed =
       second-row = refl;
       first-row = refl;
       frame-start = refl;
+      second-start = refl;
+      second-none = refl;
+      first-unit = refl;
+      swapped-unit = refl;
+      right-sum = refl;
+      wrong-sum = refl;
     }
 
 few : 24 < 100
@@ -139,10 +152,17 @@ module _ (tables : ℕ) (text out : List ℕ) (size place : ℕ) (after : List �
   no-post-of (inr (inl d)) = absurd (omega (arith, d .refused))
   no-post-of (inr (inr d)) = d
 
-first-row-again : (size place : ℕ) → Done 24 (postText two) (replicate 72 0) 1 size place (framesOf (entry 7 twos ∷ entry 8 twos ∷ [])) → ⊥
-first-row-again size place d =
-    let right = d .written ∙ ap (λ (es : List Entry). holding (replicate 72 0) (framesOf es)) (entries-of two (computed .good-two) (d .is-post)) in
-    omega (arith, computed .first-row, computed .second-row, ap (λ (s : List ℕ). getD s 50 0) right)
+-- what is written of a post is its frames, so no byte of them is another
+written : (es : List Entry) (out after : List ℕ) (size place at : ℕ) → goodEntries 24 es ≡ true → ExportedAs 24 (postText es) out 1 size place after → getD after at 0 ≡ getD (holding out (framesOf es)) at 0
+written es out after size place at g e =
+    let d = done-of 24 (postText es) out size place after e in
+    ap (λ (s : List ℕ). getD s at 0) (d .written ∙ ap (λ (x : List Entry). holding out (framesOf x)) (entries-of es g (d .is-post)))
+
+made-up : (size : ℕ) (after : List ℕ) → ExportedAs 24 (chars "!") [] 20 size 1 after → ⊥
+unfolding CheckedAs
+made-up size after e =
+    let d = no-post-of 24 (chars "!") [] size 1 after e in
+    omega (arith, facts .only-last .only 20 1 (inr (record { refused = refl; no-post = d .no-post; longest = d .longest })) .1)
 
 pub exports : Exports
 exports =
@@ -152,10 +172,15 @@ exports =
         λ place e. omega (arith, computed .frame-start, ap (λ (s : List ℕ). getD s 0 0) (no-room-of 24 (postText one) (replicate 35 0) 0 place (take 35 (framesOf one)) e .kept)),
       );
       export-lines = (
-        λ size place e. first-row-again size place (done-of 24 (postText two) (replicate 72 0) size place (framesOf (entry 7 twos ∷ entry 8 twos ∷ [])) e),
+        λ size place e. omega (arith, computed .first-row, computed .second-row, written two (replicate 72 0) (framesOf (entry 7 twos ∷ entry 8 twos ∷ [])) size place 50 (computed .good-two) e),
         λ size place after e. let d = no-room-of 24 (postText one) (replicate 36 0) size place after e in
             omega (arith, d .short, ap (λ (es : List Entry). length es) (entries-of one (computed .good-one) (d .is-post))),
       );
+      exports-the-first-row = λ size place e. omega (arith, computed .second-start, computed .second-none, written two (replicate 72 0) (framesOf one ++ replicate 36 0) size place 36 (computed .good-two) e);
+      swaps-two-frames =
+          λ size place e. omega (arith, computed .first-unit, computed .swapped-unit, written two (replicate 72 0) (framesOf (entry 8 (replicate 24 49) ∷ entry 7 twos ∷ [])) size place 7 (computed .good-two) e);
+      sums-wrongly = λ size place e. omega (arith, computed .right-sum, computed .wrong-sum, written one (replicate 36 0) (take 35 (framesOf one) ++ 0x81 ∷ []) size place 35 (computed .good-one) e);
+      makes-up-the-place = made-up;
       «export_of» = (
         λ size place after e. no-high (done-of 6 (postText one) (replicate 36 0) size place after e .is-post),
         λ size place after e. no-post-of 7 (postText one) (replicate 36 0) size place after e .no-post (post-of 7 one (computed .good-of-7)),

@@ -1,10 +1,16 @@
 -- What the wrong programs would answer is ruled out, by computing. Assumes nothing.
-use mathlib.Core.Path.{_≡_, refl}
+use mathlib.Core.Path.{_≡_, refl, sym, ap, _∙_}
 use mathlib.Core.Bool.{true}
+use mathlib.Core.List.{List, [], _∷_, _++_}
 use mathlib.Core.Logic.{inl, inr}
+use Prim.Native.Nat.{ℕ, zero, suc, _+_, _≤_, _<_}
 use native.Mathlib.Omega.{arith}
 use lib.Count.{ones}
-use Rattle.line.specs.Characters.{damagedAt, seven, sent}
+use lib.ListN.{length, getD, drop, length-append}
+use lib.Seq.{drop-at}
+use Rattle.line.specs.Quoted.{chars}
+use Rattle.line.specs.Characters.{damagedAt, seven, sent, undamagedAll}
+use Rattle.damage.specs.First.{firstDamaged}
 use Rattle.line.specs.Checksum.{bccOf}
 use Rattle.line.specs.Runs.{every}
 use Rattle.text.specs.Writing.{stored, holding}
@@ -17,7 +23,7 @@ use Rattle.values.specs.Edition.{isEdition, tablesOf}
 use Rattle.values.specs.Family.{isFamily, isEqm, counterEnd, exportEnd}
 use Rattle.values.specs.Registers.{goodDigits, isAccountCharacter, goodAccount, goodRow}
 use Rattle.values.specs.Texts.{serialText, wiredText, tableText}
-use Rattle.frames.specs.Frames.{closed, frameOf}
+use Rattle.frames.specs.Frames.{closed, frameOf, blockOf}
 use Rattle.frames.specs.Commands.{bracketed}
 use Rattle.frames.specs.Session.{wiredLine, confirmation, speedSaid}
 use Rattle.datasets.specs.Sets.{dataSet}
@@ -42,17 +48,29 @@ use Rattle.reading.specs.declared.SetRead.{SetRead}
 use Rattle.reading.specs.Sets.{ofKind, leading, startsWith3, isSet, addressLength, valueLength, setHere, setRead}
 use Rattle.post.specs.Grammar.{lineText, linesText, lastLine, postText}
 use Rattle.post.specs.Place.{CheckedAs}
-use Rattle.post.specs.Columns.{lowest, highest, columnFits, columnsFit, numberOf, mayFollow, pick, nextNumber}
+use Rattle.post.specs.Columns.{lowest, highest, columnFits, columnsFit, numberOf, mayFollow, pick, nextNumber, LinePlace, FirstStray}
+use Rattle.post.specs.Rest.{Passed, Scanned}
+use Rattle.post.proofs.Lines.{length-line}
+use Rattle.post.proofs.LinePlaces.{place-tens, place-stray}
+use Rattle.post.proofs.Places.{Stands, passed-none, passed-more, longest-line}
+use Rattle.post.proofs.Answers.{one-answer, refused}
+use Rattle.numerals.specs.Numerals.{widthWithin, widthOf, digitsOf, numberLine}
+use Rattle.blocks.specs.Stripping.{strippedOf}
+use Rattle.blocks.specs.Parts.{isCharacter, notEtx, isBlock, bccFits, partOf, between as within}
+use Rattle.reading.specs.Whole.{setOf, also, readFrom, readAll, placeAfter}
+use Rattle.finding.specs.Finding.{among, position, answered, lookup, pointedAt}
+use Rattle.showing.specs.Shown.{setLine, setLines, foundShown, setsShown, refusalShown, lookupShown, firstShown, blockShown, replyShown, readoutShown, registerShown}
+use Rattle.history.proofs.Examples.{examples}
 use Rattle.facts.proofs.Facts.{facts}
 use Rattle.mistakes.specs.Samples.{serial, account, password, twos, newMeter, heldIn}
 use Rattle.mistakes.specs.Replying.{twoSets}
 use Rattle.mistakes.specs.Events.{slowConfirmed}
-use Rattle.mistakes.specs.Programs.{begun, fast, wrongPassword, wrongTried, bracketWithin, State, Meters, Head, Post}
+use Rattle.mistakes.specs.Programs.{begun, trailed, fast, wrongPassword, wrongTried, bracketWithin, badSecond, State, Meters, Head, Readouts, Histories, Post}
 use Rattle.mistakes.proofs.Differing.{seen, number, flag, byte}
 use Rattle.mistakes.proofs.Posts.{strays}
 
 pub state : State
-unfolding every stored between isDigit isLetter decimal leap thirty daysIn realDate realTime realClock isEdition tablesOf goodDigits isAccountCharacter goodAccount limit firstGood heldGood markGood hurtGood receiverGood below zonesBelow bothBelow isFamily isEqm counterEnd exportEnd sumOf total tablesGood noTime unused periodGood everyPeriod archiveGood linkGood factsGood factoryGood registersGood speedGood wellFormed newRows factsRefused madeOf isWired restSpeed serial account password newMeter heldIn begun
+unfolding every stored between isDigit isLetter decimal leap thirty daysIn realDate realTime realClock isEdition tablesOf goodDigits isAccountCharacter goodAccount limit firstGood heldGood markGood hurtGood receiverGood below zonesBelow bothBelow isFamily isEqm counterEnd exportEnd sumOf total tablesGood noTime unused periodGood everyPeriod archiveGood linkGood factsGood factoryGood registersGood speedGood wellFormed newRows factsRefused madeOf isWired restSpeed serial account password newMeter heldIn begun trailed
 state =
     record {
       first-row-only = number refl;
@@ -60,6 +78,7 @@ state =
       takes-9600-outside-a-session = flag refl;
       takes-a-mark-of-two = flag refl;
       takes-a-third-link = (number refl, flag refl);
+      overlooks-an-unused-place = flag refl;
       total-of-three = flag refl;
     }
 
@@ -82,6 +101,21 @@ head =
       hands-out-the-next-place-as-length = seen (λ (s : SetRead). s .«value_length») refl;
     }
 
+pub readouts : Readouts
+unfolding ones damagedAt seven sent undamagedAll firstDamaged bccOf every between isDigit isLetter isPrintable isAddress isValue matching sameText decimal closed blockOf strippedOf isCharacter notEtx within isBlock bccFits partOf dataSet ofKind leading startsWith3 isSet addressLength valueLength setHere setRead setOf also readFrom readAll placeAfter among position answered lookup pointedAt widthWithin widthOf digitsOf numberLine setLine setLines foundShown setsShown refusalShown lookupShown firstShown blockShown replyShown readoutShown registerShown twoSets badSecond
+readouts = record { shows-place-0 = byte 7 refl; loses-the-bad-set = byte 3 refl; shows-every-set = byte 0 refl }
+
+-- as many writes told as the examples say, and no more
+pub histories : Histories
+histories =
+    record {
+      applies-a-write-twice = λ e. omega (arith, ap length (e ∙ examples .programmed));
+      takes-a-frame-in-read-only-mode = λ e. omega (arith, ap length (e ∙ examples .only-read));
+      tells-edition-1-of-table-25 = λ e. omega (arith, ap length (e ∙ examples .no-saturday));
+      keeps-a-frame-over-silence = λ e. omega (arith, ap length (e ∙ examples .cut-by-silence));
+      hears-a-question-for-what-went-out = λ e. omega (arith, ap length (e ∙ examples .no-out));
+    }
+
 row-good : goodRow twos ≡ true
 unfolding every between goodRow twos
 row-good = refl
@@ -95,9 +129,74 @@ unfolding CheckedAs
 accepts-it (inl a) = strays 24 bracketWithin (omega arith) no-line (a .is-post)
 accepts-it (inr b) = omega (arith, b .refused)
 
+-- the beginning of a line up to its tens digit, behind a first line
+columns : (d : ℕ) → columnFits (chars "131.0." ++ d ∷ []) 6 ≡ true → (j : ℕ) → j < 7 → columnFits (chars "131.0." ++ d ∷ []) j ≡ true
+unfolding between lowest highest columnFits
+columns d e zero h = refl
+columns d e (suc zero) h = refl
+columns d e (suc (suc zero)) h = refl
+columns d e (suc (suc (suc zero))) h = refl
+columns d e (suc (suc (suc (suc zero)))) h = refl
+columns d e (suc (suc (suc (suc (suc zero))))) h = refl
+columns d e (suc (suc (suc (suc (suc (suc zero)))))) h = e
+columns d e (suc (suc (suc (suc (suc (suc (suc j))))))) h = absurd (omega arith)
+
+module _ (tables n d : ℕ) (few : tables < 100) (low : 0 < n) (high : n ≤ tables) (tens : columnFits (chars "131.0." ++ d ∷ []) 6 ≡ true) where
+  abbrev cut : List ℕ
+  cut = chars "131.0." ++ d ∷ []
+
+  abbrev text : List ℕ
+  text = lineText n twos ++ cut
+
+  behind : drop 36 text ≡ cut
+  behind = drop-at (lineText n twos) cut 36 (length-line n twos row-good)
+
+  begins : FirstStray cut 7
+  begins = record { in-text = omega arith; in-line = omega arith; before = columns d tens; stops = λ h i. absurd (omega arith) }
+
+  passed : Passed tables text 36 n
+  passed =
+      passed-more tables 0 0 n text few (omega (arith, length-append (lineText n twos) cut, length-line n twos row-good)) (passed-none tables text)
+      (record { row = twos; low = low; high = high; good-row = row-good; front = ap (λ (l : List ℕ). lineText n twos ++ l) (sym behind) })
+
+  no-last : cut ≡ lastLine → ⊥
+  unfolding lastLine
+  no-last e = omega (arith, ap (λ (l : List ℕ). getD l 0 0) e)
+
+  cut-answer : (place : ℕ) → place < 36 → LinePlace tables n cut place → CheckedAs tables text 20 (36 + place)
+  cut-answer place h p =
+      refused tables 36 n 7 text few (record { passed = passed; stops = λ i. absurd (omega (arith, ap length behind)); strays = rw behind begins }) place
+      (λ i e. no-last (sym behind ∙ e)) (rw behind (longest-line tables n cut few place p h (λ i j e. omega (arith, e)) (omega arith) high))
+
+fits0 : columnFits (chars "131.0.0") 6 ≡ true
+unfolding between lowest highest columnFits
+fits0 = refl
+
+fits2 : columnFits (chars "131.0.2") 6 ≡ true
+unfolding between lowest highest columnFits
+fits2 = refl
+
+spent : CheckedAs 24 (lineText 9 twos ++ chars "131.0.0") 20 43 → ⊥
+spent c =
+    let begun0 = begins 24 9 48 (omega arith) (omega arith) (omega arith) fits0 in
+    let right =
+    cut-answer 24 9 48 (omega arith) (omega arith) (omega arith) fits0 6 (omega arith)
+    (place-tens 24 9 (chars "131.0.0") 7 begun0 (omega arith) (omega arith) (λ t. omega (arith, t .0))) in
+    omega (arith, one-answer 24 (lineText 9 twos ++ chars "131.0.0") 20 43 20 42 c right .1)
+
+not-spent : CheckedAs 25 (lineText 24 twos ++ chars "131.0.2") 20 42 → ⊥
+not-spent c =
+    let begun2 = begins 25 24 50 (omega arith) (omega arith) (omega arith) fits2 in
+    let right =
+    cut-answer 25 24 50 (omega arith) (omega arith) (omega arith) fits2 7 (omega arith)
+    (place-stray 25 24 (chars "131.0.2") 7 begun2 (omega arith) (λ h. (omega arith, omega arith)) (λ h. absurd (omega arith))) in
+    omega (arith, one-answer 25 (lineText 24 twos ++ chars "131.0.2") 20 42 20 43 c right .1)
+
 pub post : Post
 post =
     record {
       makes-up-the-place = λ c. omega (arith, facts .past-24 twos row-good .only 20 72 c .1);
+      lets-a-spent-tens-digit-pass = spent;
+      spends-the-tens-digit-at-24 = not-spent;
       keeps-what-follows-a-bracket = accepts-it;
     }

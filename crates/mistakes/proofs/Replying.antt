@@ -48,6 +48,8 @@ blocks =
       strip-place = (λ after s. seen (λ (r : Stripped). r .place) refl (s .answer), λ after s. seen (λ (r : Stripped). r .place) refl (s .answer));
       find = (λ w. seen (λ (p : PartAt). p .length) refl (w .is), λ w. seen (λ (p : PartAt). p .number) refl (w .is));
       «part_check» = (number refl, number refl);
+      calls-a-high-byte-a-wrong-bcc = number refl;
+      swaps-start-and-length = seen (λ (p : PartAt). p .length) refl;
       part = (long refl, long refl);
     }
 
@@ -56,6 +58,9 @@ unfolding every between isDigit isLetter isPrintable isAddress isValue ofKind le
 sets = (
   record {
     «next_set» = (seen (λ (r : SetRead). r .next) refl, seen (λ (r : SetRead). r .next) refl);
+    leaves-the-end = seen (λ (r : SetRead). r .next) refl;
+    skips-a-bad-set = seen (λ (r : SetRead). r .next) refl;
+    takes-no-star = (seen (λ (r : SetRead). r .number) refl, seen (λ (r : SetRead). r .number) refl);
   },
   record {
     next = (λ r d a e. seen (λ (x : SetRead). x .next) refl (e ∙ (λ i. setRead (d i) (a i))), λ r d a e. number refl (ap (λ (x : Reader). x .at) e ∙ (λ i. setRead (d i) (a i) .next)));
@@ -83,6 +88,7 @@ fields =
       «dirgemist_head_value_account» = (λ after t. number refl (t .number), λ r t. byte 0 refl (t .held));
       «dirgemist_head_value_row» = (λ r t. byte 0 refl (t .held), λ r t. byte 24 refl (t .held));
       «dirgemist_head_value_date» = (number refl, seen (λ (d : Date). d .day) refl);
+      swaps-month-and-day = seen (λ (d : Date). d .day) refl;
       «dirgemist_head_value_time» = (number refl, seen (λ (t : Time). t .hour) refl);
       «dirgemist_head_value_counter» = (number refl, number refl);
       «dirgemist_head_value_eqm» = (seen (λ (c : Counted). c .number) refl, seen (λ (c : Counted). c .number) refl);

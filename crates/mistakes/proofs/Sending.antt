@@ -32,7 +32,7 @@ use Rattle.replies.specs.Periods.{keptSets, periodSets, archiveSets, longSets, 
 use Rattle.replies.specs.Fixed.{identification, passwordAsk}
 use Rattle.state.specs.Setting.{inMode}
 use Rattle.mistakes.specs.Samples.{serial, account, password, twos, newMeter, used, newEqm, usedEqm, closedTwice, oldestFirst, heldIn}
-use Rattle.mistakes.specs.Sending.{Frames, States, Sets, Replies}
+use Rattle.mistakes.specs.Sending.{numberedBefore, nextRows, Frames, States, Sets, Replies}
 use Rattle.mistakes.proofs.Differing.{seen, number, flag, byte}
 
 pub frames : Frames
@@ -83,7 +83,7 @@ sets =
     }
 
 pub replies : Replies
-unfolding ones seven sent bccOf holding closed frameOf bareFrame blockOf bracketed stored decimal layoutText serialText tableText dateText timeText stampText counterDigits counterDecimals counterText energyText importName energyName isEqm inAndOut keptSets dataSet linesOf periodsOf closedWith periodSets archiveSets longSets longData closedTwice oldestFirst energy energyNo rowOf askedSets askedData factSets energySets tableSets blockSets blockData identification passwordAsk serial account twos newMeter used newEqm usedEqm tablesOf newRows
+unfolding ones seven sent bccOf holding closed frameOf bareFrame blockOf bracketed stored decimal layoutText serialText tableText dateText timeText stampText counterDigits counterDecimals counterText energyText importName energyName isEqm inAndOut keptSets dataSet linesOf periodsOf closedWith periodSets archiveSets longSets longData closedTwice oldestFirst energy energyNo rowOf askedSets askedData factSets energySets tableSets blockSets blockData numberedBefore nextRows identification passwordAsk serial account twos newMeter used newEqm usedEqm tablesOf newRows
 replies =
     record {
       identify = (byte 0 refl, byte 12 refl);
@@ -94,5 +94,6 @@ replies =
       answer-directions = (byte 13 refl, byte 14 refl);
       data-block-directions = (byte 198 refl, byte 88 refl);
       «data_block» = (byte 1030 refl, byte 1058 refl);
+      next-row = byte 201 refl;
       «long_block» = (byte 1058 refl, byte 1068 refl);
     }

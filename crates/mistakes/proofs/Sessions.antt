@@ -51,6 +51,8 @@ judging =
       «is_nak» = (flag refl, flag refl);
       «is_answer» = (flag refl, flag refl);
       is-answer-family = (flag refl, flag refl);
+      takes-any-energy = flag refl;
+      leaves-the-end-open = flag refl;
     }
 
 -- how a session stands, or goes on
@@ -62,6 +64,8 @@ unfolding ones damagedAt seven sent undamagedAll bccOf every between isDigit mat
 sessions =
     record {
       hear = (by-fact refl, by-fact refl);
+      goes-on-after-nak = by-fact refl;
+      hears-the-work = by-fact refl;
       hear-order = (long refl, by-fact refl);
       «hear_nothing» = (by-fact refl, by-fact refl);
     }
@@ -130,6 +134,8 @@ starting =
         λ place size after w. by-sent refl (opened-reads totalRead (record { number = 1; place = place; length = size; session = waiting 0 0 }) after w),
         λ place size after w. by-sent refl (opened-reads [] (record { number = 28; place = place; length = size; session = waiting 1 0 }) after w),
       );
+      hands-out-the-length-as-place =
+          λ s after w. seen (λ (r : Started). r .place) refl (opened-reads totalRead (record { number = 1; place = 5; length = 5; session = s }) after w);
       «read_good» = (flag refl, flag refl);
       read-good-out = (flag refl, flag refl);
       start-family = (

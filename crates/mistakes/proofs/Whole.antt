@@ -45,5 +45,6 @@ frames =
     record {
       «receive_frame» = (seen (λ (a : Answer). a .number) refl, seen (λ (a : Answer). a .number) refl);
       receive-frame-end = (seen (λ (a : Answer). a .number) refl, seen (λ (a : Answer). a .number) refl);
+      takes-the-bcc-for-the-end = seen (λ (a : Answer). a .number) refl;
       receive-frame-held = (seen (λ (a : Answer). a .next .receiver .count) refl, seen (λ (a : Answer). a .number) refl);
     }

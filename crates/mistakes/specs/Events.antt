@@ -1,26 +1,28 @@
 -- Two wrong answers for each call of `meter`, `settling`, `firmware` and `keeping`, and some that document 01 warns of.
 use mathlib.Core.Bool.{true, false}
-use mathlib.Core.List.{[], _∷_}
+use mathlib.Core.List.{List, [], _∷_}
+use Prim.Native.Nat.{ℕ}
 use lib.ListN.{length, getD, take, replicate}
 use Rattle.line.specs.Controls.{ACK, SOH}
 use Rattle.line.specs.Quoted.{chars}
 use Rattle.line.specs.Characters.{sent}
 use Rattle.text.specs.Writing.{holding}
 use Rattle.frames.specs.Frames.{frameOf, bareFrame, onWire}
-use Rattle.frames.specs.Commands.{B0, P1, W1, bracketed, setTable}
+use Rattle.frames.specs.Commands.{B0, P1, W1, bracketed, setClock, setTable}
 use Rattle.state.specs.Sizes.{replyRoom}
 use Rattle.state.specs.declared.Meter.{Meter}
 use Rattle.state.specs.WellFormed.{familyOf}
 use Rattle.replies.specs.Fixed.{accepted, refused, identification, passwordAsk}
 use Rattle.receiving.specs.Receivers.{keptReceiver, restartedReceiver}
-use Rattle.state.specs.Making.{emptyReceiver, noCounters, factsOf, madeOf}
+use Rattle.state.specs.Making.{emptyReceiver, noCounters, factsOf, meterOf, madeOf}
 use Rattle.state.specs.Setting.{withHeld, withMark, withReceiver, inMode, withAttempts, withRegisters, withClock, withCounters, withZones, withTotal, withSpeed}
 use Rattle.meter.specs.Outcomes.{Outcome, answerOf, atPlace, silent, unheard, saying, nak, ack}
 use Rattle.meter.specs.Character.{symbol, character}
 use Rattle.meter.specs.Events.{silence, tick, pulseRefused, pulse, powerUp}
 use Rattle.meter.specs.declared.Event.the-variants.{Character, Silence, Tick, Pulse, Unknown}
 use Rattle.meter.specs.Life.{eventOf, met, refusal, happened}
-use Rattle.settling.specs.Settling.{goesOn, refuses, settles}
+use Rattle.receiving.specs.declared.Holding.the-variants.{Anew}
+use Rattle.settling.specs.Settling.{seenIn, standing, goesOn, refuses, movesOn, settles}
 use Rattle.keeping.specs.Shown.{checkedAs, shownAs}
 use Rattle.firmware.specs.Replies.{replyOf}
 use Rattle.mistakes.specs.RuledOut.{RuledOut}
@@ -83,10 +85,27 @@ hurtAnew =
     let damaged = character begun replyRoom 193 .next in
     character (character damaged replyRoom (sent 3) .next) replyRoom (sent 0)
 
+-- demand 3: a clock, all but its BCC held in programming mode; and what its BCC comes to
+unfoldable pub clockSent : List ℕ
+clockSent = frameOf W1 (setClock (clockAt 2001 2 3 4 5 6))
+
+unfoldable pub clockSet : Outcome
+clockSet = character (withSpeed (heldIn 4 (take 27 clockSent)) 5) replyRoom (sent (getD clockSent 27 0))
+
+-- a second before a month
+unfoldable pub monthEnds : Meter
+monthEnds = withRegisters newMeter (withClock (newMeter .registers) (clockAt 2000 1 31 23 59 59))
+
+-- [3]: of an edition that there is not
+unfoldable pub noEdition : Meter
+noEdition = meterOf (factsOf serial password 3 1 0) account (clockAt 2000 1 1 12 0 0)
+
 -- of `meter`
 pub record Receiving : Type 0 where
   -- NAK to a good write; ACK to it, and the old tables
   pub receive : RuledOut (answerOf toldAll) (answerOf (nak 9 told)) × RuledOut (answerOf toldAll) (answerOf (ack 5 (withSpeed (inMode newMeter 4) 5)))
+  -- ACK to a clock, and the old one
+  pub keeps-its-state : RuledOut (answerOf clockSet) (answerOf (ack 5 (withSpeed (inMode newMeter 4) 5)))
   -- NAK in the buffer; ACK with the buffer's other bytes cleared
   pub receive-reply : RuledOut (holding (replicate replyRoom 9) (onWire (toldAll .reply))) (holding (replicate replyRoom 9) (onWire refused))
       × RuledOut (holding (replicate replyRoom 9) (onWire (toldAll .reply))) (holding (replicate replyRoom 0) (onWire accepted))
@@ -175,11 +194,17 @@ pub record Happening : Type 0 where
 -- of `settling`
 pub record Settling : Type 0 where
   -- the last character of a frame settled with nothing said; a character taken in a short buffer
-  pub settle : RuledOut (settles told replyRoom (Character (sent (getD (frameOf W1 (setTable 7 twos)) 35 0)))) (goesOn told emptyReceiver)
-      × RuledOut (settles newMeter 2047 (Character (sent 47))) (goesOn newMeter (restartedReceiver 47))
+  pub look : RuledOut (settles told replyRoom (Character (sent (getD (frameOf W1 (setTable 7 twos)) 35 0)))) (goesOn (seenIn told) (Anew 0) 0 0 0)
+      × RuledOut (settles newMeter 2047 (Character (sent 47))) (goesOn (seenIn newMeter) (Anew 47) 1 0 0)
   -- a malformed state said before a pulse that is too much; an event that is none left to the meter
-  pub settle-refused : RuledOut (settles (withAttempts newMeter 4) 0 (Pulse 1000001)) (refuses (withAttempts newMeter 4) 14)
+  pub look-refused : RuledOut (settles (withAttempts newMeter 4) 0 (Pulse 1000001)) (refuses (seenIn (withAttempts newMeter 4)) 14)
       × RuledOut (settles newMeter replyRoom Unknown) (settles newMeter replyRoom Silence)
+  -- the last character of a frame settled, and nothing changed
+  pub settles-all : RuledOut (settles told replyRoom (Character (sent (getD (frameOf W1 (setTable 7 twos)) 35 0)))) (standing (seenIn told) true 0 0)
+  -- the second that starts a month settled
+  pub settles-a-month : RuledOut (settles monthEnds replyRoom Tick) (movesOn (seenIn monthEnds) (clockAt 2000 2 1 0 0 0) (monthEnds .registers .counters) (monthEnds .registers .exported))
+  -- 12 for an edition that there is not
+  pub says-16-after-12 : RuledOut (settles noEdition 2047 (Character 47)) (refuses (seenIn noEdition) 12)
 
 -- of `firmware`
 pub record Lent : Type 0 where
@@ -191,6 +216,8 @@ pub record Lent : Type 0 where
   pub «dirgemist_meter_meet» : RuledOut (toldMet .number) 9 × RuledOut (toldMet .speed) 0
   -- the old tables in the record; the buffer as it was
   pub dirgemist-meter-meet-lent : RuledOut (toldMet .next) (inMode newMeter 4) × RuledOut (holding (replicate replyRoom 9) (onWire (toldMet .reply))) (replicate replyRoom 9)
+  -- the identification at 9600 baud
+  pub always-says-9600 : RuledOut (replyOf signedOn) (record { number = 1; length = 19; speed = 5; place = 0 })
 
 -- of `keeping`
 pub record Kept : Type 0 where

@@ -52,6 +52,14 @@ pub record Exports : Type 0 where
   -- the first row again for the second line; 21 for a buffer that is just large enough
   pub export-lines : ((size place : ℕ) → ExportedAs 24 (postText two) (replicate 72 0) 1 size place (framesOf (entry 7 twos ∷ entry 8 twos ∷ [])) → ⊥)
       × ((size place : ℕ) (after : List ℕ) → ExportedAs 24 (postText one) (replicate 36 0) 21 size place after → ⊥)
+  -- the first frame again and again to its own place, and nothing behind it
+  pub exports-the-first-row : (size place : ℕ) → ExportedAs 24 (postText two) (replicate 72 0) 1 size place (framesOf one ++ replicate 36 0) → ⊥
+  -- the two frames in each other's place
+  pub swaps-two-frames : (size place : ℕ) → ExportedAs 24 (postText two) (replicate 72 0) 1 size place (framesOf (entry 8 (replicate 24 49) ∷ entry 7 twos ∷ [])) → ⊥
+  -- a BCC of 1 where it is 0
+  pub sums-wrongly : (size place : ℕ) → ExportedAs 24 (postText one) (replicate 36 0) 1 size place (take 35 (framesOf one) ++ 0x81 ∷ []) → ⊥
+  -- the text's length for the place
+  pub makes-up-the-place : (size : ℕ) (after : List ℕ) → ExportedAs 24 (chars "!") [] 20 size 1 after → ⊥
   -- table 7 of 6 exported; table 7 of 7 refused
   pub «export_of» : ((size place : ℕ) (after : List ℕ) → ExportedAs 6 (postText one) (replicate 36 0) 1 size place after → ⊥)
       × ((size place : ℕ) (after : List ℕ) → ExportedAs 7 (postText one) (replicate 36 0) 20 size place after → ⊥)
@@ -64,5 +72,7 @@ ready = inMode newMeter 4
 pub record Deliveries : Type 0 where
   -- an acknowledgement for each byte; the old tables
   pub feed : RuledOut (acknowledgements (answered ready full (framesOf one))) 36 × RuledOut (left ready full (framesOf one)) ready
+  -- nothing acknowledged
+  pub feed-none : RuledOut (acknowledgements (answered ready full (framesOf one))) 0
   -- all acknowledged, and the old tables; a refused text that changes the state
   pub deliver : (DeliveredAs ready (postText one) 1 0 1 ready → ⊥) × ((place : ℕ) → DeliveredAs ready lastAlone 20 place 0 (withAttempts ready 1) → ⊥)

@@ -7,25 +7,27 @@ use Rattle.line.specs.Controls.{SOH}
 use Rattle.line.specs.Quoted.{chars}
 use Rattle.text.specs.Writing.{stored}
 use Rattle.clock.specs.Seconds.{dateOf}
-use Rattle.frames.specs.Frames.{frameOf}
+use Rattle.frames.specs.Frames.{frameOf, bareFrame}
 use Rattle.values.specs.Family.{counterEnd}
 use Rattle.values.specs.Registers.{zoneEnergy}
-use Rattle.frames.specs.Commands.{P1, R1, W1, bracketed, askExport, setTable}
+use Rattle.frames.specs.Commands.{B0, P1, R1, W1, bracketed, askExport, setTable}
 use Rattle.state.specs.Sizes.{rowLength, periodPlaces}
+use Rattle.state.specs.declared.Registers.{Registers}
 use Rattle.state.specs.Making.{emptyReceiver, noCounters, noPeriod}
 use Rattle.state.specs.WellFormed.{archiveGood}
 use Rattle.state.specs.Closing.{closing}
 use Rattle.receiving.specs.declared.Hearing.the-variants.{Hold, Restart}
 use Rattle.receiving.specs.Hearing.{hearing}
-use Rattle.receiving.specs.Receivers.{lastHeld, hurtPlace, keptReceiver, restartedReceiver}
-use Rattle.deciding.specs.declared.Verdict.the-variants.{Password, Read, WriteTable}
+use Rattle.receiving.specs.Receivers.{lastHeld, hurtPlace, keptReceiver, restartedReceiver, heldAfter}
+use Rattle.receiving.specs.declared.Holding.the-variants.{More, Anew}
+use Rattle.deciding.specs.declared.Verdict.the-variants.{Refuse, Leave, Password, Read, WriteTable}
 use Rattle.replies.specs.declared.Ask.the-variants.{Energy, Export}
 use Rattle.deciding.specs.Verdict.{verdict}
-use Rattle.state.specs.Setting.{withHeld, withMark, withReceiver, inMode, withAttempts, withRegisters, withClock, withAccount, withTables, withCounters, withZones, withTotal, zonePlace, counterOf, rowStart, withRow, withSpeed}
+use Rattle.state.specs.Setting.{withHeld, withMark, withReceiver, inMode, withAttempts, withRegisters, withClock, withAccount, withTables, withCounters, withExported, withZones, withTotal, zonePlace, counterOf, rowStart, withRow, withSpeed}
 use Rattle.tariff.specs.Zones.{tableFor, zoneAt, zoneIn, counted, countedIn, countedOut}
 use Rattle.tariff.specs.Months.{monthStarts, secondLater}
 use Rattle.mistakes.specs.RuledOut.{RuledOut}
-use Rattle.mistakes.specs.Samples.{clockAt, serial, twos, newMeter, used, usedEqm, usedAt, heldIn, closedTwice, oldestFirst}
+use Rattle.mistakes.specs.Samples.{clockAt, serial, twos, newMeter, used, newEqm, usedEqm, usedAt, heldIn, closedTwice, oldestFirst}
 
 -- of `receiving`
 pub record Hearings : Type 0 where
@@ -43,6 +45,11 @@ pub record Hearings : Type 0 where
   -- the place of the last damaged one kept; none kept
   pub keep-place : RuledOut (keptReceiver (keptReceiver (restartedReceiver 1) 0 true) 0 true) (withMark (keptReceiver (keptReceiver (restartedReceiver 1) 0 true) 0 true) 1 2)
       × RuledOut (keptReceiver (restartedReceiver 1) 0 true) (withMark (keptReceiver (restartedReceiver 1) 0 true) 1 0)
+  -- a place early; the characters before a restart kept
+  pub hold : RuledOut (heldAfter (More 1 66) (restartedReceiver 1 .held)) (set (restartedReceiver 1 .held) 0 66)
+      × RuledOut (heldAfter (Anew 1) (keptReceiver (restartedReceiver 1) 66 false .held)) (keptReceiver (restartedReceiver 1) 66 false .held)
+  -- a character over the one before it
+  pub puts-it-a-place-early : RuledOut (keptReceiver (restartedReceiver 1) 66 false) (withHeld emptyReceiver (set (emptyReceiver .held) 0 66) 2)
 
 -- of `deciding`
 pub record Decisions : Type 0 where
@@ -52,6 +59,9 @@ pub record Decisions : Type 0 where
   -- [10]: what went out told by a meter of document 01's family; what came in for it
   pub decide-out : RuledOut (verdict 24 0 3 (take 9 (frameOf R1 (askExport 1))) false (getD (frameOf R1 (askExport 1)) 9 0)) (Read (Export (zoneEnergy 1)))
       × RuledOut (verdict 24 3 3 (take 9 (frameOf R1 (askExport 1))) false (getD (frameOf R1 (askExport 1)) 9 0)) (Read (Energy (zoneEnergy 1)))
+  -- SOH summed too: B0 refused; B0 taken with the BCC that would be
+  pub sums-the-soh : RuledOut (verdict 24 0 2 (take 4 (bareFrame B0)) false (getD (bareFrame B0) 4 0)) (Refuse 4)
+      × RuledOut (verdict 24 0 2 (take 4 (bareFrame B0)) false 0x70) Leave
 
 -- of `state::setting`
 pub record Setting : Type 0 where
@@ -77,6 +87,8 @@ pub record Setting : Type 0 where
       × RuledOut (withRow (newMeter .registers .tables) 7 twos) (withRow (newMeter .registers .tables) 7 (chars "2"))
   -- a row too far on; a character a table
   pub «row_start» : RuledOut (rowStart 2) 48 × RuledOut (rowStart 2) 1
+  -- the first table's for every table
+  pub one-place : RuledOut (rowStart 2) 0
   -- the old counters; the first of the new ones alone
   pub «with_zones» : RuledOut (withZones noCounters (1 ∷ 2 ∷ 4 ∷ 8 ∷ [])) noCounters
       × RuledOut (withZones noCounters (1 ∷ 2 ∷ 4 ∷ 8 ∷ [])) (withZones noCounters (1 ∷ 0 ∷ 0 ∷ 0 ∷ []))
@@ -96,6 +108,11 @@ pub record Closing : Type 0 where
   pub close : RuledOut (closing used) used × RuledOut (closing used) (withCounters (closing used) noCounters)
   -- the oldest first
   pub close-first : RuledOut closedTwice oldestFirst
+
+-- an EQM meter at the end of its first counter
+unfoldable pub fullEqm : Registers
+unfolding newEqm
+fullEqm = withCounters (newEqm .registers) (withTotal (withZones noCounters (99999999 ∷ 0 ∷ 0 ∷ 0 ∷ [])) 99999999)
 
 -- of `tariff`
 pub record Tariff : Type 0 where
@@ -126,6 +143,12 @@ pub record Tariff : Type 0 where
   -- counted as what comes in; in the total of what came in as well
   pub «count_out» : RuledOut (countedOut usedEqm 5) (countedIn usedEqm 5)
       × RuledOut (countedOut usedEqm 5) (withCounters (countedOut usedEqm 5) (withTotal (usedEqm .counters) 20))
+  -- what goes out counted on top of what came in
+  pub counts-export-as-import : RuledOut (countedOut usedEqm 5) (withExported usedEqm (withTotal (withZones noCounters (6 ∷ 2 ∷ 4 ∷ 8 ∷ [])) 20))
+  -- nothing counted in zone 4
+  pub forgets-the-fourth-zone : RuledOut (counted (counterEnd 0) noCounters 4 5) noCounters
+  -- an EQM meter's counter and total go on to 100,000,000
+  pub rolls-over-a-digit-late : RuledOut (countedIn fullEqm 1) (withCounters fullEqm (withTotal (withZones noCounters (100000000 ∷ 0 ∷ 0 ∷ 0 ∷ [])) 100000000))
   -- closed a second late; on every midnight
   pub «second_later» : RuledOut (secondLater (usedAt (clockAt 2000 2 1 0 0 0))) (closing (usedAt (clockAt 2000 2 1 0 0 1)))
       × RuledOut (secondLater (usedAt (clockAt 2000 2 1 23 59 59))) (closing (usedAt (clockAt 2000 2 2 0 0 0)))

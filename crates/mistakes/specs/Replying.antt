@@ -16,7 +16,7 @@ use Rattle.damage.specs.First.{firstDamaged}
 use Rattle.blocks.specs.declared.Stripped.{Stripped}
 use Rattle.blocks.specs.Stripping.{Strips}
 use Rattle.blocks.specs.Parts.{partOf, Within}
-use Rattle.reading.specs.Sets.{endAt, setAt, setRead}
+use Rattle.reading.specs.Sets.{endAt, malformedAt, setAt, setRead}
 use Rattle.reader.specs.declared.Reader.{Reader}
 use Rattle.reader.specs.Walking.{yields, moved, setAfter}
 use Rattle.finding.specs.Finding.{matchedAt, lookup}
@@ -57,6 +57,10 @@ pub record Blocks : Type 0 where
   pub find : (Within block (record { number = 1; start = 1; length = 2 }) → ⊥) × (Within (STX ∷ chars "H" ++ ETX ∷ 203 ∷ []) (record { number = 1; start = 1; length = 1 }) → ⊥)
   -- no BCC checked; a block without ETX called one with a wrong BCC
   pub «part_check» : RuledOut (partOf misSummed .number) 1 × RuledOut (partOf (STX ∷ chars "HHK") .number) 23
+  -- 23 for a BCC with its top bit set
+  pub calls-a-high-byte-a-wrong-bcc : RuledOut (partOf (STX ∷ chars "H" ++ ETX ∷ 203 ∷ []) .number) 23
+  -- start and length changed about
+  pub swaps-start-and-length : RuledOut (partOf (blockOf (chars "HH"))) (record { number = 1; start = 2; length = 1 })
   -- the ETX in the part; the data of a block with a wrong BCC
   pub part : RuledOut (partIn block) (chars "H" ++ ETX ∷ []) × RuledOut (partIn misSummed) (chars "H")
 
@@ -64,6 +68,12 @@ pub record Blocks : Type 0 where
 pub record Sets : Type 0 where
   -- on at the end; the next line after a set that does not close
   pub «next_set» : RuledOut (setRead twoSets 13) (endAt 16) × RuledOut (setRead (chars "A(1\r\n") 0) (record { number = 25; «address_length» = 0; «value_length» = 0; next = 5; place = 0 })
+  -- back to the start at the end
+  pub leaves-the-end : RuledOut (setRead twoSets 13) (endAt 0)
+  -- past all that follows a malformed set
+  pub skips-a-bad-set : RuledOut (setRead (chars "A(1\r\n") 0) (record { number = 25; «address_length» = 0; «value_length» = 0; next = 4096; place = 0 })
+  -- '+' in an address, and no '*'
+  pub takes-no-star : RuledOut (setRead (dataSet (chars "+") (chars "1")) 0) (setAt 0 1 1) × RuledOut (setRead (dataSet (chars "*") (chars "1")) 0) (malformedAt 0)
 
 -- of `reader::Reader`
 pub record Readers : Type 0 where
@@ -109,6 +119,8 @@ pub record Fields : Type 0 where
       × ((r : ℕ) → Tells (replicate 25 9) 24 (rowRead twos .ok) (rowRead twos .row) r (twos ++ (0 ∷ [])) → ⊥)
   -- 01-02-29 taken; its numbers handed out all the same
   pub «dirgemist_head_value_date» : RuledOut (valueNumber (dateRead (dateText (dateOf 2001 2 29)) .ok)) 1 × RuledOut (dateRead (dateText (dateOf 2001 2 29)) .date) (dateOf 2001 2 29)
+  -- month and day changed about
+  pub swaps-month-and-day : RuledOut (dateRead (dateText (dateOf 2001 2 3)) .date) (dateOf 2001 3 2)
   -- 24:00:00 taken; its numbers handed out all the same
   pub «dirgemist_head_value_time» : RuledOut (valueNumber (timeRead (timeText (timeOf 24 0 0)) .ok)) 1 × RuledOut (timeRead (timeText (timeOf 24 0 0)) .time) (timeOf 24 0 0)
   -- 25 for a good counter; its kWh and no decimals

@@ -1,7 +1,7 @@
 -- Two wrong answers for each call of `frames`, `state`, `datasets` and `replies`.
 use mathlib.Core.Bool.{true, false}
-use mathlib.Core.List.{[], _∷_, _++_}
-use Prim.Native.Nat.{_*_}
+use mathlib.Core.List.{List, [], _∷_, _++_}
+use Prim.Native.Nat.{ℕ, zero, suc, _*_}
 use lib.ListN.{take, drop, replicate}
 use Rattle.line.specs.Controls.{ETX, SOH}
 use Rattle.line.specs.Quoted.{chars}
@@ -17,10 +17,11 @@ use Rattle.state.specs.Sizes.{rowLength, replyRoom, periodPlaces, tablePlaces}
 use Rattle.state.specs.WellFormed.{editionOf, limit, wellFormed}
 use Rattle.state.specs.Closing.{closedWith}
 use Rattle.state.specs.Making.{emptyReceiver, noCounters, noPeriod, factsOf, meterOf, blankMeter, notMade, madeOf}
-use Rattle.datasets.specs.Sets.{dataSet, linesOf, lineOf, timeSet, dateSet, serialSet, accountSet, energySet, tableSet, closedSet, keptSet}
+use Rattle.datasets.specs.Sets.{DataSet, dataSet, linesOf, lineOf, timeSet, dateSet, serialSet, accountSet, energySet, tableSet, closedSet, keptSet}
 use Rattle.replies.specs.declared.Ask.the-variants.{Energy, Export, Table}
 use Rattle.replies.specs.Answers.{askedData}
-use Rattle.replies.specs.Block.{blockSets, blockData}
+use Rattle.replies.specs.Shown.{rowOf}
+use Rattle.replies.specs.Block.{factSets, directionSets, blockSets, blockData}
 use Rattle.replies.specs.Periods.{longData}
 use Rattle.replies.specs.Fixed.{identification, passwordAsk, accepted, refused}
 use Rattle.state.specs.Setting.{withMark, withReceiver, withAttempts, withRegisters, withAccount, withTables, withArchive, withCounters, withExported, withZones, withTotal}
@@ -106,6 +107,16 @@ pub record Sets : Type 0 where
   pub put-kept-set-eqm : RuledOut (stored (replicate 25 0) 0 (lineOf (keptSet 3 true 2 1 1500))) (lineOf (keptSet 3 false 2 1 1500))
       × RuledOut (stored (replicate 25 0) 0 (lineOf (keptSet 3 true 2 1 1500))) (lineOf (keptSet 2 true 2 1 1500))
 
+-- each row under the number before its own
+unfoldable pub numberedBefore : List ℕ → ℕ → List DataSet
+numberedBefore rows zero = []
+numberedBefore rows (suc n) = numberedBefore rows n ++ (tableSet n (rowOf rows (suc n)) ∷ [])
+
+unfoldable pub nextRows : List ℕ
+nextRows =
+    linesOf (factSets (used .facts .serial) (used .clock) (used .account) ++ (directionSets 0 (used .counters) (used .exported) ++ numberedBefore (used .tables) 24))
+    ++ chars "!\r\n"
+
 -- of `replies`
 pub record Replies : Type 0 where
   -- no parity; edition 1's for edition 2
@@ -133,6 +144,8 @@ pub record Replies : Type 0 where
   -- one table too few; no last line
   pub «data_block» : RuledOut (holding (replicate replyRoom 0) (onWire (blockOf (blockData 24 used)))) (holding (replicate replyRoom 0) (onWire (blockOf (blockData 23 used))))
       × RuledOut (holding (replicate replyRoom 0) (onWire (blockOf (blockData 24 used)))) (holding (replicate replyRoom 0) (onWire (blockOf (linesOf (blockSets 24 used)))))
+  -- each row under the number before its own
+  pub next-row : RuledOut (holding (replicate replyRoom 0) (onWire (blockOf (blockData 24 used)))) (holding (replicate replyRoom 0) (onWire (blockOf nextRows)))
   -- no periods; the oldest first
   pub «long_block» : RuledOut (holding (replicate replyRoom 0) (onWire (blockOf (longData 24 closedTwice)))) (holding (replicate replyRoom 0) (onWire (blockOf (blockData 24 closedTwice))))
       × RuledOut (holding (replicate replyRoom 0) (onWire (blockOf (longData 24 closedTwice)))) (holding (replicate replyRoom 0) (onWire (blockOf (longData 24 oldestFirst))))

@@ -48,12 +48,20 @@ pub record Judging : Type 0 where
   -- [10]: document 01's line from an EQM meter; what came in for what went out
   pub is-answer-family : RuledOut (answers 3 (char "E") 1 (energyBlock (chars "1"))) true
       × RuledOut (answers 3 (char "G") 1 (onWire (blockOf (chars "1.8.1(00123.456*kWh)\r\n")))) true
+  -- the total for a zone's energy
+  pub takes-any-energy : RuledOut (answers 0 (char "E") 1 (energyBlock (chars "0"))) true
+  -- an account that does not end with its bracket
+  pub leaves-the-end-open : RuledOut (answers 0 (char "K") 0 (onWire (blockOf (chars "0.0.0(Kiln_7 old]\r\n")))) true
 
 -- of `session`
 pub record Sessions : Type 0 where
   -- on after a NAK; over without B0
   pub hear : RuledOut (stepOf (replied (waiting 3 0) totalRead (onWire refused) 64)) (stepOf (goesOn (waiting 3 0) totalRead))
       × RuledOut (stepOf (replied (waiting 4 0) totalRead (energyBlock (chars "0")) 64)) (stepOf (ends (waiting 4 0) 1))
+  -- NAK with no fact, so that the session goes on
+  pub goes-on-after-nak : RuledOut (stepOf (replied (waiting 3 0) totalRead (onWire refused) 64)) (stepOf (ends (waiting 3 0) 0))
+  -- the work judged as the reply, and the reply taken for the work
+  pub hears-the-work : RuledOut (stepOf (replied (waiting 3 0) totalRead (onWire refused) 64)) (stepOf (replied (waiting 3 0) (onWire refused) totalRead 64))
   -- the password before the meter asks for it; an ended session that goes on
   pub hear-order : RuledOut (replied (waiting 1 0) totalRead (onWire (identification 1)) 64 .text) (textOf (entering (waiting 1 0)))
       × RuledOut (stepOf (replied (waiting 1 4) totalRead (onWire (identification 1)) 64)) (stepOf (goesOn (waiting 1 4) totalRead))
@@ -68,6 +76,8 @@ pub record Starting : Type 0 where
   -- the sign-on counted as no message; a refused start that leaves a session
   pub start-record : ((place size : ℕ) (after : List ℕ) → Starts (toldOf 1 0 0 [] 0 [] 0) totalRead room (record { number = 1; place = place; length = size; session = waiting 0 0 }) after → ⊥)
       × ((place size : ℕ) (after : List ℕ) → Starts (toldOf 1 0 0 [] 0 [] 0) [] room (record { number = 28; place = place; length = size; session = waiting 1 0 }) after → ⊥)
+  -- the sign-on's length for the place
+  pub hands-out-the-length-as-place : (s : Session) (after : List ℕ) → Starts (toldOf 1 0 0 [] 0 [] 0) totalRead room (record { number = 1; place = 5; length = 5; session = s }) after → ⊥
   -- energy 5; table 0
   pub «read_good» : RuledOut (goodFields 24 0 (readOf (char "E") 5)) true × RuledOut (goodFields 24 0 (readOf (char "Z") 0)) true
   -- [10]: what went out of a meter of document 01's family; energy 5

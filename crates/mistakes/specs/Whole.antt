@@ -33,6 +33,8 @@ pub record Whole : Type 0 where
   -- an ETX that is the BCC taken for the end; what stands behind the BCC not looked at
   pub receive-frame-end : RuledOut (answerOf (slice (129 ∷ 66 ∷ 48 ∷ 3 ∷ 3 ∷ []))) (answerOf (noFrame awaiting))
       × RuledOut (answerOf (slice (129 ∷ 66 ∷ 48 ∷ 3 ∷ 113 ∷ 66 ∷ []))) (answerOf (ack 5 (inMode newMeter 0)))
+  -- the last byte looked at for ETX in place of the one before it: a whole frame refused
+  pub takes-the-bcc-for-the-end : RuledOut (answerOf (slice goodBye)) (answerOf (noFrame awaiting))
   -- 17 with the receiver emptied; the frame taken behind what is held
   pub receive-frame-held : RuledOut (answerOf heldSlice) (answerOf (silent 17 (inMode newMeter 4)))
       × RuledOut (answerOf heldSlice) (answerOf (ack 0 (inMode newMeter 0)))

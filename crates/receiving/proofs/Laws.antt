@@ -98,27 +98,8 @@ restart-first mode count last c e = go (eqb mode 0) (eqb mode 1) e
     go false true h = refl
     go false false h = unfold framing in (framed (not (eqb count 0) && eqb last 3) (eqb c 1) refl (eqb count 0) (leb 63 count) h)
 
--- no place is passed yet, or this one is
-pub put-none : (s t : List ℕ) (place : ℕ) → s ≡ cond (ltb place 0) t s
-put-none s t place = rw (le-ltb place 0 (omega arith))
-
-pub put-done : (s t : List ℕ) (place i : ℕ) → place < i → cond (ltb place i) t s ≡ t
-put-done s t place i h = rw (lt-ltb place i h)
-
--- a place is passed: before it all is as it was, after it the character stands there
-pub put-turn : (s₀ s : List ℕ) (place c i ahead : ℕ) → ahead + i ≡ place + 128 → s ≡ cond (ltb place i) (set s₀ place c) s₀
-    → set s i (cond (eqb ahead 128) c (getD s i 0)) ≡ cond (ltb place (i + 1)) (set s₀ place c) s₀
-put-turn s₀ s place c i ahead e was = go (eqb ahead 128) refl
-  where
-    go : (b : Bool) → eqb ahead 128 ≡ b → set s i (cond b c (getD s i 0)) ≡ cond (ltb place (i + 1)) (set s₀ place c) s₀
-    go true h =
-        let here : i ≡ place = omega (arith, e, eqb-true ahead 128 h) in
-        let before : s ≡ s₀ = rw (le-ltb place i (omega (arith, here))) at was in
-        rw (before, here, lt-ltb place (place + 1) (omega arith))
-    go false h =
-        let other : i ≡ place → ⊥ = λ (z : i ≡ place). eqb-false ahead 128 h (omega (arith, e, z)) in
-        set-getD s i 0 ∙ was ∙ ap (λ (b : Bool). cond b (set s₀ place c) s₀) (passed other (ltb place i) refl)
-      where
-        passed : (i ≡ place → ⊥) → (b : Bool) → ltb place i ≡ b → ltb place i ≡ ltb place (i + 1)
-        passed other true a = a ∙ sym (lt-ltb place (i + 1) (omega (arith, ltb-true place i a)))
-        passed other false a = a ∙ sym (le-ltb place (i + 1) (omega (arith, other, ltb-false place i a)))
+-- a place that is not there: nothing changes
+pub set-past : (s : List ℕ) (at c : ℕ) → length s ≤ at → s ≡ set s at c
+set-past [] at c h = refl
+set-past (x ∷ s) zero c h = absurd (omega (arith, h))
+set-past (x ∷ s) (suc at) c h = ap (x ∷_) (set-past s at c (omega (arith, h)))

@@ -4,13 +4,21 @@ ghost use mathlib.Core.Bool.{cond};
 ghost use Prim.Native.Nat.{_<_, _-_};
 ghost use lib.ListN.{length, take, getD, set};
 ghost use Rattle.receiving.specs.Hearing.{listening, confirming, framing, hearing};
-ghost use Rattle.receiving.specs.Receivers.{hurtPlace, keptReceiver, restartedReceiver, lastHeld};
+ghost use Rattle.receiving.specs.Receivers.{hurtAt, hurtPlace, keptReceiver, restartedReceiver, lastHeld, heldAfter};
 ghost use Rattle.state.specs.Sizes.{heldPlaces};
+use state::HELD_PLACES;
 use state::MOST_HELD;
 use state::Receiver;
 use state::setting::empty_receiver;
 use state::setting::with_held;
 use state::setting::with_mark;
+
+// What becomes of the characters that are held: they stay, one more stands at a place, or all are 0 but for the first.
+pub enum Holding {
+    Same,
+    More(u8, u8),
+    Anew(u8),
+}
 
 // What a character does to the receiver.
 pub enum Hearing {
@@ -99,11 +107,17 @@ pub fn last_held(r: Receiver) -> u8
     ensures { λ x. ⌜ x ≡ lastHeld r ⌝ }
 {
     let held = r.held;
-    let count = r.count;
+    last_in(&held, r.count)
+}
+
+// The last of so many characters that are held.
+pub fn last_in(held: &[u8; HELD_PLACES as usize], count: u8) -> u8
+    ensures { λ x. ⌜ x ≡ getD (now (held .entry)) (count - 1) 0 ⌝ }
+{
     if count == 0 {
         return held[0];
     }
-    text::at(&held, (count - 1) as usize)
+    text::at(held, (count - 1) as usize)
 }
 
 fn chosen(first: bool, a: u8, b: u8) -> u8
@@ -112,27 +126,35 @@ fn chosen(first: bool, a: u8, b: u8) -> u8
     if first { a } else { b }
 }
 
-// Puts a character in a place. All places are written, many at once: a byte stored alone and read next with those around it makes the
-// processor wait. At the place `ahead` is 128; it has eight bits like the characters.
+// Puts a character in a place, if there is one.
 fn put_at(held: &mut [u8], at: u8, c: u8)
-    requires { ⌜ (length (now held) ≡ heldPlaces) × (at < heldPlaces) ⌝ }
     ensures { λ _. ⌜ now (held .exit) ≡ set (now (held .entry)) at c ⌝ }
 {
-    let mut ahead = at + 128;
-    let mut i = 0;
-    while i < held.len() {
-        held[i] = chosen(ahead == 128, c, held[i]);
-        ahead -= 1;
-        i += 1;
+    let i = at as usize;
+    if i < held.len() {
+        held[i] = c;
     }
 }
 
 // The place of the first damaged character: that of the mark, else this one's, behind the last held one.
+pub fn hurt_at(count: u8, mark: u8, place: u8, damaged: bool) -> u8
+    ensures { λ x. ⌜ x ≡ hurtAt count mark place damaged ⌝ }
+{
+    let here = chosen(damaged, count, 0);
+    chosen(mark == 1, place, here)
+}
+
 pub fn hurt_place(r: Receiver, damaged: bool) -> u8
     ensures { λ x. ⌜ x ≡ hurtPlace r damaged ⌝ }
 {
-    let here = chosen(damaged, r.count, 0);
-    chosen(r.mark == 1, r.place, here)
+    hurt_at(r.count, r.mark, r.place, damaged)
+}
+
+// The mark after one character more.
+pub fn mark_after(mark: u8, damaged: bool) -> u8
+    ensures { λ x. ⌜ x ≡ cond damaged 1 mark ⌝ }
+{
+    chosen(damaged, 1, mark)
 }
 
 // The receiver with one character more.
@@ -143,7 +165,7 @@ pub fn keep(r: Receiver, c: u8, damaged: bool) -> Receiver
     let mut held = r.held;
     put_at(&mut held, r.count, c);
     let next = with_held(r, held, r.count + 1);
-    with_mark(next, chosen(damaged, 1, r.mark), hurt_place(r, damaged))
+    with_mark(next, mark_after(r.mark, damaged), hurt_place(r, damaged))
 }
 
 // The receiver with this character alone.
@@ -154,4 +176,18 @@ pub fn restart(c: u8) -> Receiver
     let mut held = r.held;
     held[0] = c;
     with_held(r, held, 1)
+}
+
+// The characters after a character, where they lie.
+pub fn hold(held: &mut [u8; HELD_PLACES as usize], h: Holding)
+    ensures { λ _. ⌜ now (held .exit) ≡ heldAfter h (now (held .entry)) ⌝ }
+{
+    match h {
+        Holding::Same => {},
+        Holding::More(at, c) => put_at(held, at, c),
+        Holding::Anew(c) => {
+            *held = [0; HELD_PLACES as usize];
+            held[0] = c;
+        }
+    }
 }

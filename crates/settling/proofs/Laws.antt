@@ -1,13 +1,17 @@
 -- What is settled is all that the event does; what is left meets a well-formed meter, and nothing else refuses it. Assumes nothing.
 use mathlib.Core.Path.{_≡_, refl, _∙_}
 use mathlib.Core.Bool.{Bool, true, false, cond}
+use mathlib.Core.List.{List}
 use Prim.Native.Nat.{ℕ, _≤_}
 use native.Mathlib.Omega.{arith}
 use lib.Dec.{eqb}
 use borrow.Author.Tests.{eqb-true}
 use Rattle.line.specs.Characters.{damagedAt}
 use Rattle.values.specs.Edition.{isEdition}
+use Rattle.clock.specs.declared.Clock.{Clock}
 use Rattle.clock.specs.Seconds.{nextSecond}
+use Rattle.tariff.specs.Zones.{zoneIn}
+use Rattle.meter.proofs.Known.{counters-good, exported-good, month-low}
 use Rattle.state.specs.declared.Meter.{Meter}
 use Rattle.state.specs.Setting.{withRegisters, withClock}
 use Rattle.state.specs.Closing.{closing}
@@ -16,7 +20,7 @@ use Rattle.state.specs.WellFormed.{editionOf, familyOf, wellFormed}
 use Rattle.receiving.specs.declared.Hearing.{Hearing}
 use Rattle.receiving.specs.declared.Hearing.the-variants.{Drop, Hold, Restart, Empty, Line, Confirm, Frame, TooLong}
 use Rattle.receiving.specs.Hearing.{hearing}
-use Rattle.receiving.specs.Receivers.{lastHeld}
+use Rattle.receiving.specs.Receivers.{lastHeld, heldAfter}
 use Rattle.meter.specs.Outcomes.{Outcome, silent, unheard}
 use Rattle.meter.specs.Events.{afterTick, afterPulse}
 use Rattle.meter.specs.Character.{symbol, heard, taken}
@@ -24,11 +28,12 @@ use Rattle.meter.specs.declared.Event.{Event}
 use Rattle.meter.specs.declared.Event.the-variants.{Character, Silence, Tick, Pulse, PowerUp, PulseOut, Unknown}
 use Rattle.meter.specs.Life.{met, refusal, happened}
 use Rattle.meter.proofs.Tests.{met-in-order, pulse-small, pulse-out-small}
+use Rattle.settling.specs.declared.Seen.{Seen}
 use Rattle.settling.specs.declared.Heard.{Heard}
-use Rattle.settling.specs.Settling.{ends, refuses, movesOn, heardAs, heardBy, tickedBy, pulsedBy, toldBy, heardOf, settles, settledOutcome}
+use Rattle.settling.specs.Settling.{seenIn, ends, refuses, movesOn, heardAs, heardBy, tickedBy, pulsedBy, toldBy, heardOf, settlesBy, settles, settledOutcome, Countable}
 
-heard-settled : (m : Meter) (c : ℕ) (damaged : Bool) (h : Hearing) → heardAs m c damaged h .settled ≡ true → heard m c damaged h ≡ settledOutcome m (heardAs m c damaged h)
-unfolding heardAs heard
+heard-settled : (m : Meter) (c : ℕ) (damaged : Bool) (h : Hearing) → heardAs (seenIn m) c damaged h .settled ≡ true → heard m c damaged h ≡ settledOutcome m (heardAs (seenIn m) c damaged h)
+unfolding heardAs heard heldAfter
 heard-settled m c damaged Drop e = refl
 heard-settled m c damaged Hold e = refl
 heard-settled m c damaged Restart e = refl
@@ -38,23 +43,31 @@ heard-settled m c damaged Confirm e = absurd (let z : _≡_ {A = ℕ} 0 1 = cc i
 heard-settled m c damaged Frame e = absurd (let z : _≡_ {A = ℕ} 0 1 = cc in omega arith)
 heard-settled m c damaged TooLong e = absurd (let z : _≡_ {A = ℕ} 0 1 = cc in omega arith)
 
-tick-settled : (m : Meter) → tickedBy m .settled ≡ true → afterTick m ≡ settledOutcome m (tickedBy m)
-unfolding tickedBy monthClosed
-tick-settled m = go (monthStarts (nextSecond (m .registers .clock)))
+tick-settled : (m : Meter) → tickedBy (seenIn m) .settled ≡ true → afterTick m ≡ settledOutcome m (tickedBy (seenIn m))
+unfolding tickedBy monthClosed heldAfter
+tick-settled m = go (monthStarts next)
   where
-    go : (b : Bool) → cond b (ends m) (movesOn m (nextSecond (m .registers .clock)) (m .registers .counters) (m .registers .exported)) .settled ≡ true
-        → silent 1 (withRegisters m (cond b (closing (withClock (m .registers) (nextSecond (m .registers .clock)))) (withClock (m .registers) (nextSecond (m .registers .clock)))))
-        ≡ settledOutcome m (cond b (ends m) (movesOn m (nextSecond (m .registers .clock)) (m .registers .counters) (m .registers .exported)))
+    next : Clock
+    next = nextSecond (m .registers .clock)
+
+    went : Bool → Heard
+    went b = cond b (ends (seenIn m)) (movesOn (seenIn m) next (m .registers .counters) (m .registers .exported))
+
+    go : (b : Bool) → went b .settled ≡ true → silent 1 (withRegisters m (cond b (closing (withClock (m .registers) next)) (withClock (m .registers) next))) ≡ settledOutcome m (went b)
     go true s = absurd (let z : _≡_ {A = ℕ} 0 1 = cc in omega arith)
     go false s = refl
 
-pulse-settled : (m : Meter) (out : Bool) (units : ℕ) → afterPulse m out units ≡ settledOutcome m (pulsedBy m out units)
-unfolding pulsedBy
+pulse-settled : (m : Meter) (out : Bool) (units : ℕ) → afterPulse m out units ≡ settledOutcome m (pulsedBy (seenIn m) (m .registers .tables) out units)
+unfolding pulsedBy heldAfter zoneIn
 pulse-settled m true units = refl
 pulse-settled m false units = refl
 
-event-settled : (m : Meter) (e : Event) → heardOf m e .settled ≡ true → happened m e ≡ settledOutcome m (heardOf m e)
-unfolding heardOf heardBy happened taken
+-- what is heard of an event by a meter that is well-formed
+heardIn : Meter → Event → Heard
+heardIn m e = heardOf (seenIn m) (m .receiver .held) (m .registers .tables) e
+
+event-settled : (m : Meter) (e : Event) → heardIn m e .settled ≡ true → happened m e ≡ settledOutcome m (heardIn m e)
+unfolding heardIn heardOf heardBy happened taken
 event-settled m (Character b) s = heard-settled m (symbol b) (damagedAt b) (hearing (m .mode) (m .receiver .count) (lastHeld (m .receiver)) (symbol b)) s
 event-settled m Silence s = absurd (let z : _≡_ {A = ℕ} 0 1 = cc in omega arith)
 event-settled m Tick s = tick-settled m s
@@ -64,25 +77,32 @@ event-settled m (PulseOut units) s = pulse-settled m true units
 event-settled m Unknown s = absurd (let z : _≡_ {A = ℕ} 0 1 = cc in omega arith)
 
 -- a pulse is heard as what it says, and is small where nothing refuses it
-pub pulse-told : (m : Meter) (family room : ℕ) (e : Event) → toldBy e .pulse ≡ true → refusal family room e ≡ 0
-    → (pulsedBy m (toldBy e .out) (toldBy e .units) ≡ heardOf m e) × (toldBy e .units ≤ 1000000)
+pub pulse-told : (s : Seen) (held tables : List ℕ) (family room : ℕ) (e : Event) → toldBy e .pulse ≡ true → refusal family room e ≡ 0
+    → (pulsedBy s tables (toldBy e .out) (toldBy e .units) ≡ heardOf s held tables e) × (toldBy e .units ≤ 1000000)
 unfolding toldBy heardOf
-pulse-told m family room (Character b) t h = absurd (let z : _≡_ {A = ℕ} 0 1 = cc in omega arith)
-pulse-told m family room Silence t h = absurd (let z : _≡_ {A = ℕ} 0 1 = cc in omega arith)
-pulse-told m family room Tick t h = absurd (let z : _≡_ {A = ℕ} 0 1 = cc in omega arith)
-pulse-told m family room (Pulse units) t h = (refl, pulse-small family room (Pulse units) units refl h)
-pulse-told m family room PowerUp t h = absurd (let z : _≡_ {A = ℕ} 0 1 = cc in omega arith)
-pulse-told m family room (PulseOut units) t h = (refl, pulse-out-small family room (PulseOut units) units refl h)
-pulse-told m family room Unknown t h = absurd (let z : _≡_ {A = ℕ} 0 1 = cc in omega arith)
+pulse-told s held tables family room (Character b) t h = absurd (let z : _≡_ {A = ℕ} 0 1 = cc in omega arith)
+pulse-told s held tables family room Silence t h = absurd (let z : _≡_ {A = ℕ} 0 1 = cc in omega arith)
+pulse-told s held tables family room Tick t h = absurd (let z : _≡_ {A = ℕ} 0 1 = cc in omega arith)
+pulse-told s held tables family room (Pulse units) t h = (refl, pulse-small family room (Pulse units) units refl h)
+pulse-told s held tables family room PowerUp t h = absurd (let z : _≡_ {A = ℕ} 0 1 = cc in omega arith)
+pulse-told s held tables family room (PulseOut units) t h = (refl, pulse-out-small family room (PulseOut units) units refl h)
+pulse-told s held tables family room Unknown t h = absurd (let z : _≡_ {A = ℕ} 0 1 = cc in omega arith)
+
+-- a well-formed meter's pulse can be counted
+pub countable : (m : Meter) → wellFormed m ≡ true → Countable (seenIn m)
+countable m h = (month-low m h, (counters-good m h, exported-good m h))
 
 pub settled-is : (m : Meter) (room : ℕ) (e : Event) → settles m room e .settled ≡ true → met m room e ≡ settledOutcome m (settles m room e)
-unfolding settles
-settled-is m room e s = met-in-order m room e ∙ go (isEdition (editionOf m)) (refusal (familyOf m) room e) (eqb (refusal (familyOf m) room e) 0) (wellFormed m) (happened m e) (heardOf m e) (event-settled m e) s
+unfolding settlesBy heldAfter heardIn
+settled-is m room e s = met-in-order m room e ∙ go (isEdition (editionOf m)) (refusal (familyOf m) room e) (eqb (refusal (familyOf m) room e) 0) (wellFormed m) (happened m e) (heardIn m e) (event-settled m e) s
   where
+    not : ℕ → Heard
+    not n = refuses (seenIn m) n
+
     go : (k : Bool) (n : ℕ) (p q : Bool) (o : Outcome) (h : Heard) → (h .settled ≡ true → o ≡ settledOutcome m h)
-        → cond k (cond p (cond q h (refuses m 14)) (refuses m n)) (refuses m 16) .settled ≡ true
+        → cond k (cond p (cond q h (not 14)) (not n)) (not 16) .settled ≡ true
         → cond k (cond p (cond q o (unheard 14 m)) (unheard n m)) (unheard 16 m)
-        ≡ settledOutcome m (cond k (cond p (cond q h (refuses m 14)) (refuses m n)) (refuses m 16))
+        ≡ settledOutcome m (cond k (cond p (cond q h (not 14)) (not n)) (not 16))
     go false n p q o h f s = refl
     go true n true true o h f s = f s
     go true n true false o h f s = refl
@@ -95,11 +115,14 @@ pub record Left (m : Meter) (room : ℕ) (e : Event) : Type 0 where
   pub all : met m room e ≡ happened m e
 
 pub left-is : (m : Meter) (room : ℕ) (e : Event) → settles m room e .settled ≡ false → Left m room e
-unfolding settles
-left-is m room e = go (isEdition (editionOf m)) refl (eqb (refusal (familyOf m) room e) 0) refl (wellFormed m) refl (heardOf m e)
+unfolding settlesBy
+left-is m room e = go (isEdition (editionOf m)) refl (eqb (refusal (familyOf m) room e) 0) refl (wellFormed m) refl (heardOf (seenIn m) (m .receiver .held) (m .registers .tables) e)
   where
+    not : ℕ → Heard
+    not n = refuses (seenIn m) n
+
     go : (k : Bool) → isEdition (editionOf m) ≡ k → (p : Bool) → eqb (refusal (familyOf m) room e) 0 ≡ p → (q : Bool) → wellFormed m ≡ q → (h : Heard)
-        → cond k (cond p (cond q h (refuses m 14)) (refuses m (refusal (familyOf m) room e))) (refuses m 16) .settled ≡ false
+        → cond k (cond p (cond q h (not 14)) (not (refusal (familyOf m) room e))) (not 16) .settled ≡ false
         → Left m room e
     go false o p a q w h s = absurd (let z : _≡_ {A = ℕ} 0 1 = cc in omega arith)
     go true o true a true w h s = record { formed = w; unrefused = eqb-true (refusal (familyOf m) room e) 0 a; all = met-in-order m room e ∙ rw (o, a, w) }

@@ -1,27 +1,44 @@
 // Most events have no reply and change little: a character the receiver, a second the clock, a pulse its counters; or they are refused. They are settled here
-// without the rest of the state, which firmware then need not copy.
+// from what they ask of the state, so that none of it is copied for them but that.
 ghost use mathlib.Core.Path.{_≡_};
 ghost use mathlib.Core.Bool.{true, false};
-ghost use Prim.Native.Nat.{_≤_};
-ghost use Rattle.state.specs.WellFormed.{wellFormed};
+ghost use Prim.Native.Nat.{_≤_, _<_};
 ghost use Rattle.meter.specs.Life.{eventOf};
-ghost use Rattle.settling.specs.Settling.{standing, movesOn, heardBy, tickedBy, pulsedBy, toldBy, heardOf, settles};
+ghost use Rattle.settling.specs.Settling.{standing, goesOn, movesOn, heardAs, heardBy, tickedBy, pulsedBy, toldBy, heardOf, settlesBy, settles, Countable};
 use clock::Clock;
 use meter::Event;
 use meter::events;
-use meter::passing;
 use receiving::Hearing;
+use receiving::Holding;
+use state::ALL_ROWS;
 use state::Counters;
+use state::HELD_PLACES;
 use state::Meter;
-use state::Receiver;
 use values::family;
+
+// What an event that is settled asks of a state, besides what the receiver holds and the tables: a state is too long to be handed on.
+pub struct Seen {
+    pub mode: u8,
+    pub speed: u8,
+    pub count: u8,
+    pub mark: u8,
+    pub place: u8,
+    pub edition: u8,
+    pub family: u8,
+    pub clock: Clock,
+    pub counters: Counters,
+    pub exported: Counters,
+}
 
 // What an event does: where it is settled, the answer's number and speed, and the next receiver, clock and counters; otherwise the meter has to act.
 pub struct Heard {
     pub settled: bool,
     pub number: u8,
     pub speed: u8,
-    pub receiver: Receiver,
+    pub holding: Holding,
+    pub count: u8,
+    pub mark: u8,
+    pub place: u8,
     pub clock: Clock,
     pub counters: Counters,
     pub exported: Counters,
@@ -34,19 +51,42 @@ pub struct Told {
     pub units: u32,
 }
 
-// Clock and counters as they are.
-fn stand(m: Meter, settled: bool, number: u8, speed: u8, receiver: Receiver) -> Heard
-    ensures { λ r. ⌜ r ≡ standing m settled number speed receiver ⌝ }
+// All as it is.
+fn stand(s: Seen, settled: bool, number: u8, speed: u8) -> Heard
+    ensures { λ r. ⌜ r ≡ standing s settled number speed ⌝ }
 {
-    let g = m.registers;
-    let clock = g.clock;
-    let counters = g.counters;
-    let exported = g.exported;
+    let clock = s.clock;
+    let counters = s.counters;
+    let exported = s.exported;
     Heard {
         settled,
         number,
         speed,
-        receiver,
+        holding: Holding::Same,
+        count: s.count,
+        mark: s.mark,
+        place: s.place,
+        clock,
+        counters,
+        exported,
+    }
+}
+
+// Answer 0, with a receiver that holds this, so many, and this mark with its place.
+fn go_on(s: Seen, holding: Holding, count: u8, mark: u8, place: u8) -> Heard
+    ensures { λ r. ⌜ r ≡ goesOn s holding count mark place ⌝ }
+{
+    let clock = s.clock;
+    let counters = s.counters;
+    let exported = s.exported;
+    Heard {
+        settled: true,
+        number: 0,
+        speed: s.speed,
+        holding,
+        count,
+        mark,
+        place,
         clock,
         counters,
         exported,
@@ -54,69 +94,75 @@ fn stand(m: Meter, settled: bool, number: u8, speed: u8, receiver: Receiver) -> 
 }
 
 // Answer 1, with this clock and these counters.
-fn move_on(m: Meter, clock: Clock, counters: Counters, exported: Counters) -> Heard
-    ensures { λ r. ⌜ r ≡ movesOn m clock counters exported ⌝ }
+fn move_on(s: Seen, clock: Clock, counters: Counters, exported: Counters) -> Heard
+    ensures { λ r. ⌜ r ≡ movesOn s clock counters exported ⌝ }
 {
-    let receiver = m.receiver;
     Heard {
         settled: true,
         number: 1,
-        speed: m.speed,
-        receiver,
+        speed: s.speed,
+        holding: Holding::Same,
+        count: s.count,
+        mark: s.mark,
+        place: s.place,
         clock,
         counters,
         exported,
     }
 }
 
+// A character that is held.
+fn keep(s: Seen, c: u8, damaged: bool) -> Heard
+    requires { ⌜ s .count < 255 ⌝ }
+    ensures { λ r. ⌜ r ≡ heardAs s c damaged Hearing.Hold ⌝ }
+{
+    let mark = receiving::mark_after(s.mark, damaged);
+    let place = receiving::hurt_at(s.count, s.mark, s.place, damaged);
+    go_on(s, Holding::More(s.count, c), s.count + 1, mark, place)
+}
+
 // A character, heard by a well-formed meter with room for any reply.
-fn hear(m: Meter, b: u8) -> Heard
-    ensures { λ r. ⌜ r ≡ heardBy m b ⌝ }
+fn hear(s: Seen, held: &[u8; HELD_PLACES as usize], b: u8) -> Heard
+    ensures { λ r. ⌜ r ≡ heardBy s (now (held .entry)) b ⌝ }
 {
     let damaged = line::damaged(b);
     let c = meter::symbol_of(b);
-    let r = m.receiver;
-    let h = receiving::hear(m.mode, r.count, receiving::last_held(r), c);
+    let h = receiving::hear(s.mode, s.count, receiving::last_in(held, s.count), c);
     match h {
-        Hearing::Drop => stand(m, true, 0, m.speed, r),
-        Hearing::Hold => stand(m, true, 0, m.speed, receiving::keep(r, c, damaged)),
-        Hearing::Restart => stand(m, true, 0, m.speed, receiving::restart(c)),
-        Hearing::Empty => stand(m, true, 0, m.speed, state::setting::empty_receiver()),
-        Hearing::Line => stand(m, false, 0, 0, r),
-        Hearing::Confirm => stand(m, false, 0, 0, r),
-        Hearing::Frame => stand(m, false, 0, 0, r),
-        Hearing::TooLong => stand(m, false, 0, 0, r),
+        Hearing::Drop => stand(s, true, 0, s.speed),
+        Hearing::Hold => keep(s, c, damaged),
+        Hearing::Restart => go_on(s, Holding::Anew(c), 1, 0, 0),
+        Hearing::Empty => go_on(s, Holding::Anew(0), 0, 0, 0),
+        Hearing::Line => stand(s, false, 0, 0),
+        Hearing::Confirm => stand(s, false, 0, 0),
+        Hearing::Frame => stand(s, false, 0, 0),
+        Hearing::TooLong => stand(s, false, 0, 0),
     }
 }
 
 // A second; the meter has to act where a month starts.
-fn tick(m: Meter) -> Heard
-    ensures { λ r. ⌜ r ≡ tickedBy m ⌝ }
+fn tick(s: Seen) -> Heard
+    ensures { λ r. ⌜ r ≡ tickedBy s ⌝ }
 {
-    let g = m.registers;
-    let next = clock::next_second(g.clock);
+    let next = clock::next_second(s.clock);
     if tariff::month_starts(next) {
-        return stand(m, false, 0, 0, m.receiver);
+        return stand(s, false, 0, 0);
     }
-    move_on(m, next, g.counters, g.exported)
+    move_on(s, next, s.counters, s.exported)
 }
 
 // A pulse, counted in its direction.
-fn pulse(m: Meter, out: bool, units: u32) -> Heard
-    requires { ⌜ (wellFormed m ≡ true) × (units ≤ 1000000) ⌝ }
-    ensures { λ r. ⌜ r ≡ pulsedBy m out units ⌝ }
+fn pulse(s: Seen, tables: &[u8; ALL_ROWS], out: bool, units: u32) -> Heard
+    requires { ⌜ Countable s × (units ≤ 1000000) ⌝ }
+    ensures { λ r. ⌜ r ≡ pulsedBy s (now (tables .entry)) out units ⌝ }
 {
-    let g = m.registers;
-    let f = g.facts;
-    // by the rows alone: a call with all registers would have them copied at every event
-    let rows = g.tables;
-    let zone = tariff::zone_at(&rows, f.edition, g.clock);
+    let zone = tariff::zone_at(tables, s.edition, s.clock);
     if out {
-        let x = tariff::count(g.exported, zone, units, family::export_end(f.decimals));
-        return move_on(m, g.clock, g.counters, x);
+        let x = tariff::count(s.exported, zone, units, family::export_end(s.family));
+        return move_on(s, s.clock, s.counters, x);
     }
-    let c = tariff::count(g.counters, zone, units, family::counter_end(f.decimals));
-    move_on(m, g.clock, c, g.exported)
+    let c = tariff::count(s.counters, zone, units, family::counter_end(s.family));
+    move_on(s, s.clock, c, s.exported)
 }
 
 fn no_pulse() -> Told
@@ -152,42 +198,81 @@ fn told_by(e: Event) -> Told
 }
 
 // A character or a second, but no pulse; all else is left to the meter.
-fn hear_or_leave(m: Meter, e: Event) -> Heard
+fn hear_or_leave<'a>(
+    s: Seen,
+    held: &'a [u8; HELD_PLACES as usize],
+    tables: &'a [u8; ALL_ROWS],
+    e: Event,
+) -> Heard
     requires { ⌜ toldBy e .pulse ≡ false ⌝ }
-    ensures { λ r. ⌜ r ≡ heardOf m e ⌝ }
+    ensures { λ r. ⌜ r ≡ heardOf s (now (held .entry)) (now (tables .entry)) e ⌝ }
 {
-    let r = m.receiver;
     match e {
-        Event::Character(b) => hear(m, b),
-        Event::Silence => stand(m, false, 0, 0, r),
-        Event::Tick => tick(m),
-        Event::Pulse(units) => stand(m, false, 0, 0, r),
-        Event::PowerUp => stand(m, false, 0, 0, r),
-        Event::PulseOut(units) => stand(m, false, 0, 0, r),
-        Event::Unknown => stand(m, false, 0, 0, r),
+        Event::Character(b) => hear(s, held, b),
+        Event::Silence => stand(s, false, 0, 0),
+        Event::Tick => tick(s),
+        Event::Pulse(units) => stand(s, false, 0, 0),
+        Event::PowerUp => stand(s, false, 0, 0),
+        Event::PulseOut(units) => stand(s, false, 0, 0),
+        Event::Unknown => stand(s, false, 0, 0),
     }
 }
 
 // An event, told by a number and a value, with so much room for a reply.
-pub fn settle(m: Meter, kind: u8, value: u32, room: usize) -> Heard
-    ensures { λ r. ⌜ r ≡ settles m room (eventOf kind value) ⌝ }
+fn settle<'a>(
+    s: Seen,
+    formed: bool,
+    held: &'a [u8; HELD_PLACES as usize],
+    tables: &'a [u8; ALL_ROWS],
+    kind: u8,
+    value: u32,
+    room: usize,
+) -> Heard
+    requires { ⌜ (formed ≡ true → Countable s) ⌝ }
+    ensures { λ r. ⌜ r ≡ settlesBy s formed (now (held .entry)) (now (tables .entry)) room (eventOf kind value) ⌝ }
 {
-    let r = m.receiver;
-    if !state::has_edition(m) {
-        return stand(m, true, 16, 0, r);
+    if !values::is_edition(s.edition) {
+        return stand(s, true, 16, 0);
     }
     let e = events::event_of(kind, value);
-    let number = events::refusal_of(e, passing::family_of(m), room);
+    let number = events::refusal_of(e, s.family, room);
     if number != 0 {
-        return stand(m, true, number, 0, r);
+        return stand(s, true, number, 0);
     }
-    if state::is_well_formed(m) {
-        // One call for both directions: what two places call is not compiled in, and the state would be copied for it at every event.
+    if formed {
         let told = told_by(e);
         if told.pulse {
-            return pulse(m, told.out, told.units);
+            return pulse(s, tables, told.out, told.units);
         }
-        return hear_or_leave(m, e);
+        return hear_or_leave(s, held, tables, e);
     }
-    stand(m, true, 14, 0, r)
+    stand(s, true, 14, 0)
+}
+
+// The same of a record that is lent.
+pub fn look(m: &Meter, kind: u8, value: u32, room: usize) -> Heard
+    ensures { λ r. ⌜ r ≡ settles (now (m .entry)) room (eventOf kind value) ⌝ }
+{
+    let formed = lent::is_formed(m);
+    let s = Seen {
+        mode: m.mode,
+        speed: m.speed,
+        count: m.receiver.count,
+        mark: m.receiver.mark,
+        place: m.receiver.place,
+        edition: m.registers.facts.edition,
+        family: m.registers.facts.decimals,
+        clock: m.registers.clock,
+        counters: m.registers.counters,
+        exported: m.registers.exported,
+    };
+    settle(
+        s,
+        formed,
+        &m.receiver.held,
+        &m.registers.tables,
+        kind,
+        value,
+        room,
+    )
 }

@@ -10,7 +10,7 @@ use lib.Dec.{eqb, leb, ltb}
 use lib.ListN.{length, getD, take, drop, replicate, drop-of-length-le}
 use lib.Seq.{drop-cons, length-take-le, take-all, take-take}
 use Rattle.line.specs.Runs.{every}
-use Rattle.line.proofs.Runs.{and-left, and-right, and-both, and-assoc}
+use Rattle.line.proofs.Runs.{and-left, and-right}
 use Rattle.clock.specs.Seconds.{dateOf}
 use Rattle.state.specs.declared.Period.{Period}
 use Rattle.state.specs.declared.Archive.{Archive}
@@ -22,16 +22,6 @@ use Rattle.state.specs.Closing.{periodsOf, closedWith, oneMore}
 -- what is left of a run of periods, one at a time
 pub period-next : (i : ℕ) (s : List Period) (d : Period) → i < length s → drop i s ≡ getD s i d ∷ drop (i + 1) s
 period-next i s d h = rw add-one (drop-cons s i d h)
-
--- a test over periods, one at a time: the flag with what is left says it of the whole
-module _ (p : Period → Bool) (s : List Period) (i : ℕ) (ok whole : Bool) where
-  pub period-turn : (d : Period) → i < length s → (ok && everyPeriod p (drop i s)) ≡ whole → ((ok && p (getD s i d)) && everyPeriod p (drop (i + 1) s)) ≡ whole
-  unfolding everyPeriod
-  period-turn d h e = and-assoc ok (p (getD s i d)) (everyPeriod p (drop (i + 1) s)) ∙ (rw (period-next i s d h) at e)
-
-  pub period-end : length s ≤ i → (ok && everyPeriod p (drop i s)) ≡ whole → ok ≡ whole
-  unfolding everyPeriod
-  period-end h e = sym (and-true ok) ∙ (rw (drop-of-length-le s h) at e)
 
 one-by-one : (q : List Period) (d : Period) → length q ≡ periodPlaces
     → getD q 0 d ∷ getD q 1 d ∷ getD q 2 d ∷ getD q 3 d ∷ getD q 4 d ∷ getD q 5 d ∷ getD q 6 d ∷ getD q 7 d ∷ getD q 8 d ∷ getD q 9 d ∷ getD q 10 d ∷ getD q 11 d ∷ []
@@ -76,6 +66,17 @@ formed-archive family a h =
       good = and-left g u back;
       rest = and-right g u back;
     }
+
+-- four counters below an end, named one by one
+pub four-below : (end : ℕ) (z : List ℕ) → length z ≡ 4
+    → (below end (getD z 0 0) && (below end (getD z 1 0) && (below end (getD z 2 0) && below end (getD z 3 0)))) ≡ zonesBelow end z
+unfolding zonesBelow every
+four-below end [] n = absurd (omega (arith, n))
+four-below end (a ∷ []) n = absurd (omega (arith, n))
+four-below end (a ∷ b ∷ []) n = absurd (omega (arith, n))
+four-below end (a ∷ b ∷ c ∷ []) n = absurd (omega (arith, n))
+four-below end (a ∷ b ∷ c ∷ d ∷ []) n = rw (and-true (below end d))
+four-below end (a ∷ b ∷ c ∷ d ∷ e ∷ z) n = absurd (omega (arith, n))
 
 -- an unused place is the one that holds nothing
 zeros : (z : List ℕ) → every (below 1) z ≡ true → z ≡ replicate (length z) 0

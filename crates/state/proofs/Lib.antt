@@ -3,3 +3,5 @@ pub mod Rows
 pub mod Limits
 pub mod Totals
 pub mod Archives
+pub mod Places
+pub mod Elements

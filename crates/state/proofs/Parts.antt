@@ -23,16 +23,27 @@ use Rattle.state.specs.declared.Archive.{Archive}
 use Rattle.state.specs.declared.Registers.{Registers}
 use Rattle.state.specs.declared.Meter.{Meter}
 use Rattle.state.specs.Sizes.{heldPlaces, rowLength, tablePlaces}
-use Rattle.state.specs.WellFormed.{limit, firstGood, markGood, heldGood, receiverGood, below, zonesBelow, total, countersGood, tablesGood, archiveGood, tablesIn, familyIn, linkGood, factsGood, factoryGood, registersGood, wellFormed, speedGood, hurtGood}
+use Rattle.state.specs.WellFormed.{limit, firstGood, markGood, heldGood, receiverGood, below, zonesBelow, total, countersGood, tablesGood, archiveGood, tablesIn, familyIn, editionOf, familyOf, directionsGood, linkGood, factsGood, factoryGood, registersGood, wellFormed, speedGood, hurtGood}
+use Rattle.state.specs.Pieces.{smallGood, runsGood}
 use Rattle.state.specs.Link.{linkOf, isWired, restSpeed}
 use Rattle.state.specs.Setting.{zonePlace, counterOf, speedIn}
 
--- what is asked only after two tests have passed, and what has failed before it
-pub then-all : (a b c : Bool) → (a && b) ≡ true → c ≡ (a && (b && c))
-then-all a b c h = rw (← and-assoc a b c, h)
+-- the pieces that a state is tested by make it well-formed
+sorted : (a r f d t k : Bool) → ((a && (f && d)) && ((r && t) && k)) ≡ ((a && r) && (f && (d && (t && k))))
+sorted false r f d t k = refl
+sorted true true f d t k = and-assoc f d (t && k)
+sorted true false true true t k = refl
+sorted true false true false t k = refl
+sorted true false false d t k = refl
 
-pub then-none : (a b c : Bool) → (a && b) ≡ false → false ≡ (a && (b && c))
-then-none a b c h = rw (← and-assoc a b c, h)
+pub pieces-formed : (m : Meter)
+    → (smallGood (m .mode) (m .attempts) (m .speed) (m .registers .facts) (m .registers .account) (m .registers .clock) (m .registers .counters) (m .registers .exported)
+    && (runsGood (m .mode) (m .receiver) (editionOf m) (m .registers .tables) && archiveGood (familyOf m) (m .registers .archive))) ≡ wellFormed m
+unfolding wellFormed registersGood smallGood runsGood
+pieces-formed m =
+    let g = m .registers in
+    sorted ((leb (m .mode) 4 && leb (m .attempts) 3) && speedGood (linkOf m) (m .mode) (m .speed)) (receiverGood (m .mode) (m .receiver))
+    (factoryGood (g .facts) (g .account) (g .clock)) (directionsGood (familyIn g) (g .counters) (g .exported)) (tablesGood (tablesIn g) (g .tables)) (archiveGood (familyIn g) (g .archive))
 
 pub record Formed (m : Meter) : Type 0 where
   pub mode : m .mode ≤ 4

@@ -4,3 +4,4 @@ pub mod WellFormed
 pub mod Making
 pub mod Setting
 pub mod Closing
+pub mod Pieces

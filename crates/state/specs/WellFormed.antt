@@ -108,6 +108,10 @@ noTime s = (eqb (s .date .year) 0 && (eqb (s .date .month) 0 && eqb (s .date .da
 unfoldable pub unused : Period → Bool
 unused p = noTime (p .closed) && bothBelow 1 1 p
 
+-- of a place, where so many periods are kept: it is one of them, or unused
+unfoldable pub placeGood : ℕ → ℕ → ℕ → Period → Bool
+placeGood family count i p = cond (ltb i count) (periodGood family p) (unused p)
+
 unfoldable pub everyPeriod : (Period → Bool) → List Period → Bool
 everyPeriod p [] = true
 everyPeriod p (x ∷ xs) = p x && everyPeriod p xs

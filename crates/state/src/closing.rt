@@ -1,10 +1,11 @@
 // The archive of closed periods: whether it is well-formed, and a period closed.
 ghost use mathlib.Core.Path.{_≡_};
-ghost use mathlib.Core.Bool.{true};
+ghost use mathlib.Core.Bool.{true, _&&_};
+ghost use lib.Dec.{leb};
 ghost use Prim.Native.Nat.{_≤_};
 ghost use lib.ListN.{length, take, drop};
 ghost use Rattle.state.specs.Sizes.{periodPlaces};
-ghost use Rattle.state.specs.WellFormed.{bothBelow, periodGood, noTime, unused, everyPeriod, archiveGood};
+ghost use Rattle.state.specs.WellFormed.{zonesBelow, bothBelow, periodGood, noTime, unused, placeGood, everyPeriod, archiveGood};
 ghost use Rattle.state.specs.Closing.{oneMore, closedWith, closing};
 ghost use Rattle.state.specs.Making.{noPeriod, emptyArchive};
 use crate::Archive;
@@ -44,13 +45,20 @@ pub fn empty_archive() -> Archive
     }
 }
 
+// Whether four counters are below an end. They are named one by one, so that no copy of them is made to be counted through.
+fn four_below(zones: [u32; 4], end: u32) -> bool
+    ensures { λ r. ⌜ r ≡ zonesBelow end zones ⌝ }
+{
+    (zones[0] < end) & ((zones[1] < end) & ((zones[2] < end) & (zones[3] < end)))
+}
+
 // Whether its counters are below their ends, those of what went out below their own.
 fn both_below(p: Period, end: u32, out: u32) -> bool
     ensures { λ r. ⌜ r ≡ bothBelow end out p ⌝ }
 {
     let zones = p.zones;
     let exported = p.exported;
-    crate::zones_below(&zones, end) & crate::zones_below(&exported, out)
+    four_below(zones, end) & four_below(exported, out)
 }
 
 // Whether a period has a real time and the counters of a family.
@@ -75,33 +83,54 @@ fn is_unused(p: Period) -> bool
     has_no_time(p.closed) & both_below(p, 1, 1)
 }
 
-// How many places there are.
-fn places(periods: [Period; PERIODS]) -> usize
-    ensures { λ r. ⌜ r ≡ length periods ⌝ }
-    ensures twelve { λ r. ⌜ r ≡ periodPlaces ⌝ }
+// Whether there are places for so many periods.
+fn count_good(count: u8) -> bool
+    ensures { λ r. ⌜ r ≡ leb count periodPlaces ⌝ }
 {
-    PERIODS
+    count <= PERIODS as u8
 }
 
-// Whether an archive is well-formed: the first so many places hold good periods, and those behind them are unused. One copy of the places serves both loops.
+// Whether a place is as it has to be, where so many periods are kept.
+fn place_good(p: Period, i: usize, count: u8, family: u8) -> bool
+    ensures { λ r. ⌜ r ≡ placeGood family count i p ⌝ }
+{
+    if i < count as usize {
+        return period_good(p, family);
+    }
+    is_unused(p)
+}
+
+// Whether all was good so far, and this place too.
+fn still_good(ok: bool, p: Period, i: usize, count: u8, family: u8) -> bool
+    ensures { λ r. ⌜ r ≡ (ok && placeGood family count i p) ⌝ }
+{
+    ok & place_good(p, i, count, family)
+}
+
+// Whether an archive is well-formed: the first so many places hold good periods, and those behind them are unused.
 pub fn archive_good(a: Archive, family: u8) -> bool
     ensures { λ r. ⌜ r ≡ archiveGood family a ⌝ }
 {
-    let q = a.periods;
     let count = a.count;
-    if places(q) < count as usize {
-        return false;
-    }
-    let mut ok = true;
+    let mut ok = count_good(count);
     let mut i = 0;
-    while i < count {
-        let p = q[i as usize];
-        ok = ok & period_good(p, family);
+    while i < PERIODS {
+        let p = a.periods[i];
+        ok = still_good(ok, p, i, count, family);
         i += 1;
     }
-    while i < PERIODS as u8 {
-        let p = q[i as usize];
-        ok = ok & is_unused(p);
+    ok
+}
+
+// The same of an archive that is lent: each place is looked at where it lies.
+pub fn lent_good(a: &Archive, family: u8) -> bool
+    ensures { λ r. ⌜ r ≡ archiveGood family (now (a .entry)) ⌝ }
+{
+    let count = a.count;
+    let mut ok = count_good(count);
+    let mut i = 0;
+    while i < PERIODS {
+        ok = still_good(ok, a.periods[i], i, count, family);
         i += 1;
     }
     ok

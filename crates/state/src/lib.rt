@@ -6,7 +6,7 @@ ghost use lib.ListN.{length};
 ghost use Rattle.line.specs.Runs.{every};
 ghost use Rattle.values.specs.Edition.{isEdition};
 ghost use Rattle.state.specs.Sizes.{heldPlaces};
-ghost use Rattle.state.specs.WellFormed.{limit, firstGood, heldGood, receiverGood, below, zonesBelow, total, countersGood, directionsGood, tablesGood, linkGood, factsGood, factoryGood, registersGood, editionOf, wellFormed, speedGood, hurtGood};
+ghost use Rattle.state.specs.WellFormed.{limit, firstGood, heldGood, below, zonesBelow, total, countersGood, directionsGood, tablesGood, linkGood, factsGood, factoryGood, editionOf, wellFormed, speedGood, hurtGood};
 ghost use Rattle.state.specs.Making.{noCounters, newRows, meterOf, blankMeter, factsRefused, notMade, madeOf};
 use clock::Clock;
 use clock::Date;
@@ -18,6 +18,7 @@ use values::family;
 
 pub mod closing;
 pub mod link;
+pub mod pieces;
 pub mod setting;
 
 // A receiver holds so many characters at most.
@@ -155,21 +156,6 @@ fn held_good(held: &[u8], count: u8) -> bool
     ok
 }
 
-// Whether a receiver is well-formed in a mode.
-fn receiver_good(mode: u8, r: Receiver) -> bool
-    ensures { λ x. ⌜ x ≡ receiverGood mode r ⌝ }
-{
-    let count = r.count;
-    let held = r.held;
-    if count <= limit_of(mode) {
-        let first = held[0];
-        let mark = (r.mark <= 1) & (!(count == 0) | (r.mark == 0));
-        let hurt = hurt_good(count, r.mark, r.place);
-        return ((first_good(mode, count, first) & mark) & hurt) & held_good(&held, count);
-    }
-    false
-}
-
 // Whether every number is below an end.
 fn all_below(s: &[u32], end: u32) -> bool
     ensures { λ r. ⌜ r ≡ every (below end) (now (s .entry)) ⌝ }
@@ -250,20 +236,6 @@ fn factory_good(f: Facts, account: &[u8], clock: Clock) -> bool
     facts_good(f) & (values::is_account(account) & clock::is_clock(clock))
 }
 
-// The tables and the archive come last and apart: they are most of the record, and what is read of it early has to be kept.
-fn registers_good(g: Registers) -> bool
-    ensures { λ r. ⌜ r ≡ registersGood g ⌝ }
-{
-    let account = g.account;
-    let f = g.facts;
-    if factory_good(f, &account, g.clock) & directions_good(g.counters, g.exported, f.decimals) {
-        let tables = g.tables;
-        return tables_good(&tables, values::tables_of(f.edition))
-            & closing::archive_good(g.archive, f.decimals);
-    }
-    false
-}
-
 // Whether a speed is one that the mode may have: that of the link, or 9600 baud in a session.
 fn speed_good(link: u8, mode: u8, speed: u8) -> bool
     ensures { λ r. ⌜ r ≡ speedGood link mode speed ⌝ }
@@ -285,14 +257,23 @@ pub fn is_well_formed(m: Meter) -> bool
     ensures { λ r. ⌜ r ≡ wellFormed m ⌝ }
 {
     let r = m.receiver;
-    let link = link::link_of(m);
-    if (((m.mode <= 4) & (m.attempts <= 3)) & speed_good(link, m.mode, m.speed))
-        & receiver_good(m.mode, r)
-    {
-        let g = m.registers;
-        return registers_good(g);
-    }
-    false
+    let held = r.held;
+    let g = m.registers;
+    let account = g.account;
+    let tables = g.tables;
+    let f = g.facts;
+    let small = pieces::small_good(
+        m.mode,
+        m.attempts,
+        m.speed,
+        f,
+        account,
+        g.clock,
+        g.counters,
+        g.exported,
+    );
+    let runs = pieces::runs_good(m.mode, r.count, &held, r.mark, r.place, f.edition, &tables);
+    small & (runs & closing::archive_good(g.archive, f.decimals))
 }
 
 // A row of '1' for each table of an edition, and 0 in the places behind them.

@@ -212,8 +212,9 @@ fn take_frame(m: Meter, frame: &[u8], reply: &mut [u8]) -> Answer
     finish(m, run, frame[last], reply)
 }
 
-// A frame that comes whole, to any meter with any buffer.
-pub fn receive_frame(m: Meter, frame: &[u8], reply: &mut [u8]) -> Answer
+// A frame that comes whole, to any meter with any buffer; whether the state is well-formed is the caller's to say, who may have looked where it lies.
+pub fn receive_frame_of(m: Meter, formed: bool, frame: &[u8], reply: &mut [u8]) -> Answer
+    requires { ⌜ formed ≡ wellFormed m ⌝ }
     ensures result { λ r. ⌜ r ≡ answerOf (frameAt m (length (now (reply .entry))) (now (frame .entry))) ⌝ }
     ensures held { λ _. ⌜ now (reply .exit) ≡ holding (now (reply .entry)) (onWire (frameAt m (length (now (reply .entry))) (now (frame .entry)) .reply)) ⌝ }
 {
@@ -223,8 +224,16 @@ pub fn receive_frame(m: Meter, frame: &[u8], reply: &mut [u8]) -> Answer
     if reply.len() < REPLY_ROOM {
         return unheard_with(12, m);
     }
-    if state::is_well_formed(m) {
+    if formed {
         return take_frame(m, frame, reply);
     }
     unheard_with(14, m)
+}
+
+// The same, with the test of the state by value.
+pub fn receive_frame(m: Meter, frame: &[u8], reply: &mut [u8]) -> Answer
+    ensures result { λ r. ⌜ r ≡ answerOf (frameAt m (length (now (reply .entry))) (now (frame .entry))) ⌝ }
+    ensures held { λ _. ⌜ now (reply .exit) ≡ holding (now (reply .entry)) (onWire (frameAt m (length (now (reply .entry))) (now (frame .entry)) .reply)) ⌝ }
+{
+    receive_frame_of(m, state::is_well_formed(m), frame, reply)
 }

@@ -19,19 +19,27 @@ returns-3 c = rw (ne-eqb _ _ (c .before .before .before .if1 .left), ne-eqb _ _ 
 
 returns-4 : tie.Need-returns-4
 unfolding tells
-returns-4 c = rw (ne-eqb _ _ (c .before .before .before .before .if1 .left), ne-eqb _ _ (c .before .before .before .if2 .left), ne-eqb _ _ (c .before .before .if3 .left), eq-eqb _ _ (c .before .if4 .taken), c .tells-energy .ensures)
+returns-4 c =
+    let c1 = c .before in let c2 = c1 .before in let c3 = c2 .before in let c4 = c3 .before in
+    rw (ne-eqb _ _ (c4 .if1 .left), ne-eqb _ _ (c3 .if2 .left), ne-eqb _ _ (c2 .if3 .left), eq-eqb _ _ (c1 .if4 .taken), c .tells-energy .ensures)
 
 returns-5 : tie.Need-returns-5
 unfolding tells
-returns-5 c = rw (ne-eqb _ _ (c .before .before .before .before .before .if1 .left), ne-eqb _ _ (c .before .before .before .before .if2 .left), ne-eqb _ _ (c .before .before .before .if3 .left), ne-eqb _ _ (c .before .before .if4 .left), eq-eqb _ _ (c .before .if5 .taken), c .tells-export .ensures)
+returns-5 c =
+    let c1 = c .before in let c2 = c1 .before in let c3 = c2 .before in let c4 = c3 .before in let c5 = c4 .before in
+    rw (ne-eqb _ _ (c5 .if1 .left), ne-eqb _ _ (c4 .if2 .left), ne-eqb _ _ (c3 .if3 .left), ne-eqb _ _ (c2 .if4 .left), eq-eqb _ _ (c1 .if5 .taken), c .tells-export .ensures)
 
 returns-6 : tie.Need-returns-6
 unfolding tells
-returns-6 c = rw (ne-eqb _ _ (c .before .before .before .before .before .before .if1 .left), ne-eqb _ _ (c .before .before .before .before .before .if2 .left), ne-eqb _ _ (c .before .before .before .before .if3 .left), ne-eqb _ _ (c .before .before .before .if4 .left), ne-eqb _ _ (c .before .before .if5 .left), eq-eqb _ _ (c .before .if6 .taken), c .tells-row .ensures)
+returns-6 c =
+    let c1 = c .before in let c2 = c1 .before in let c3 = c2 .before in let c4 = c3 .before in let c5 = c4 .before in let c6 = c5 .before in
+    rw (ne-eqb _ _ (c6 .if1 .left), ne-eqb _ _ (c5 .if2 .left), ne-eqb _ _ (c4 .if3 .left), ne-eqb _ _ (c3 .if4 .left), ne-eqb _ _ (c2 .if5 .left), eq-eqb _ _ (c1 .if6 .taken), c .tells-row .ensures)
 
 returns-7 : tie.Need-returns-7
 unfolding tells
-returns-7 c = rw (ne-eqb _ _ (c .before .before .before .before .before .if1 .left), ne-eqb _ _ (c .before .before .before .before .if2 .left), ne-eqb _ _ (c .before .before .before .if3 .left), ne-eqb _ _ (c .before .before .if4 .left), ne-eqb _ _ (c .before .if5 .left), ne-eqb _ _ (c .if6 .left))
+returns-7 c =
+    let c1 = c .before in let c2 = c1 .before in let c3 = c2 .before in let c4 = c3 .before in let c5 = c4 .before in
+    rw (ne-eqb _ _ (c5 .if1 .left), ne-eqb _ _ (c4 .if2 .left), ne-eqb _ _ (c3 .if3 .left), ne-eqb _ _ (c2 .if4 .left), ne-eqb _ _ (c1 .if5 .left), ne-eqb _ _ (c .if6 .left))
 
 pub tells-asked-spec : {M : Type 1} → statement M
 tells-asked-spec = tie.close (tie.spec (λ c κs. search needs) returns (λ c κs. search needs) returns-2 (λ c κs. search needs) returns-3 (λ c κs. search needs) returns-4 (λ c κs. search needs) returns-5 (λ c κs. search needs) returns-6 returns-7)

@@ -51,12 +51,12 @@ returns c =
 
 sub-n : tie.Need-sub-n
 sub-n c =
-    let d = digits (c .before .before .args .text .now) (c .before .before .args .at) (whole-fits (drop (c .before .before .args .at) (c .before .before .args .text .now)) (c .before .before .args .stray) (c .before .before .pre .1) (c .before .if1 .left)) in
+    let c2 = c .before .before in let d = digits (c2 .args .text .now) (c2 .args .at) (whole-fits (drop (c2 .args .at) (c2 .args .text .now)) (c2 .args .stray) (c2 .pre .1) (c .before .if1 .left)) in
     omega (arith, d .0)
 
 mul-n : tie.Need-mul-n
 mul-n c =
-    let d = digits (c .before .before .args .text .now) (c .before .before .args .at) (whole-fits (drop (c .before .before .args .at) (c .before .before .args .text .now)) (c .before .before .args .stray) (c .before .before .pre .1) (c .before .if1 .left)) in
+    let c2 = c .before .before in let d = digits (c2 .args .text .now) (c2 .args .at) (whole-fits (drop (c2 .args .at) (c2 .args .text .now)) (c2 .args .stray) (c2 .pre .1) (c .before .if1 .left)) in
     omega (arith, d .1)
 
 sub-n-2 : tie.Need-sub-n-2

@@ -12,13 +12,13 @@ use Rattle.replies.proofs.data_block.Tie as tie
 
 seal-requires : tie.Need-seal-requires
 seal-requires c κs =
-    let start = c .before .before .before .before .before .before .before .before .before .before .before in
+    let c3 = c .before .before .before in let c7 = c3 .before .before .before .before in let start = c7 .before .before .before .before in
     let a = start .args in
-    let first = c .before .before .before .before .before .before .before .put .ensures in
-    let shown = c .before .before .before .put-block .ensures in
+    let first = c7 .put .ensures in
+    let shown = c3 .put-block .ensures in
     let long = content-long (a .tables) (a .g) (start .pre .0) in
     let most = directions-most (familyIn (a .g)) in
-    (omega (arith, first .0, shown .0), rw (shown .1, length-stored (c .before .before .before .before .before .before .before .put .last .0) (c .before .before .before .before .before .before .before .put .result) (blockData (a .tables) (a .g)), first .1, length-stored (a .buf .now) 0 (2 ∷ [])) (omega (arith, first .0, shown .0, long, most, start .pre .0 .few, start .pre .1)))
+    (omega (arith, first .0, shown .0), rw (shown .1, length-stored (c7 .put .last .0) (c7 .put .result) (blockData (a .tables) (a .g)), first .1, length-stored (a .buf .now) 0 (2 ∷ [])) (omega (arith, first .0, shown .0, long, most, start .pre .0 .few, start .pre .1)))
 
 returns : tie.Need-returns
 returns c =

@@ -16,13 +16,13 @@ put-long-block-requires c κs =
 
 seal-requires : tie.Need-seal-requires
 seal-requires c κs =
-    let start = c .before .before .before .before .before .before .before .before .before .before .before in
+    let c3 = c .before .before .before in let c7 = c3 .before .before .before .before in let start = c7 .before .before .before .before in
     let a = start .args in
-    let first = c .before .before .before .before .before .before .before .put .ensures in
-    let shown = c .before .before .before .put-long-block .ensures in
+    let first = c7 .put .ensures in
+    let shown = c3 .put-long-block .ensures in
     let known = start .pre .0 in
     let long = long-most (a .tables) (a .g) known in
-    (omega (arith, first .0, shown .0), rw (shown .1, length-stored (c .before .before .before .before .before .before .before .put .last .0) (c .before .before .before .before .before .before .before .put .result) (longData (a .tables) (a .g)), first .1, length-stored (a .buf .now) 0 (2 ∷ [])) (omega (arith, first .0, shown .0, long, known .kept, known .few, start .pre .1)))
+    (omega (arith, first .0, shown .0), rw (shown .1, length-stored (c7 .put .last .0) (c7 .put .result) (longData (a .tables) (a .g)), first .1, length-stored (a .buf .now) 0 (2 ∷ [])) (omega (arith, first .0, shown .0, long, known .kept, known .few, start .pre .1)))
 
 returns : tie.Need-returns
 returns c =

@@ -27,7 +27,7 @@ returns-3 c = rw (c .before .enum-told2 .given .1, c .tick .ensures)
 returns-4 : tie.Need-returns-4
 unfolding toldBy
 returns-4 c =
-    let told = c .before .before .before .before .before in
+    let told = c .before .before .before .before in
     absurd (none (toldBy (told .args .e) .pulse) (rw (c .before .before .e2 .given .1)) (told .pre))
 
 returns-5 : tie.Need-returns-5
@@ -37,7 +37,7 @@ returns-5 c = rw (c .before .enum-told3 .given .1, c .stand3 .ensures)
 returns-6 : tie.Need-returns-6
 unfolding toldBy
 returns-6 c =
-    let told = c .before .before .before .before .before in
+    let told = c .before .before .before .before in
     absurd (none (toldBy (told .args .e) .pulse) (rw (c .before .before .e3 .given .1)) (told .pre))
 
 returns-7 : tie.Need-returns-7

@@ -1,29 +1,18 @@
 -- `settling::pulse` meets its contract: each way out is the case of the definition that its test names. Assumes nothing.
-use mathlib.Core.Path.{sym}
 use native.Mathlib.Omega.{arith}
-use Rattle.state.proofs.Parts.{long}
-use Rattle.tariff.specs.Zones.{zoneIn}
-use Rattle.meter.proofs.Known.{counters-good, exported-good, month-low}
 use Rattle.settling.specs.Settling.{pulsedBy}
 use borrow.Author.Needs.{needs}
 use Rattle.settling.proofs.pulse.Statement.{statement}
 use Rattle.settling.proofs.pulse.Tie as tie
 
-slice-aggregate-zone-at : tie.Need-slice-aggregate-zone-at
-slice-aggregate-zone-at c = let start = c .before .before .before .before in sym (long (start .args .m) (start .pre .0) .tables)
-
-zone-at-requires : tie.Need-zone-at-requires
-zone-at-requires c κs = let start = c .before .before .before .before in month-low (start .args .m) (start .pre .0)
-
 count-requires : tie.Need-count-requires
 count-requires c κs =
     let end = c .export-end .ensures in
-    let asked = c .before .before in
-    let start = asked .before .before .before .before .before in
-    ((omega (arith, end .1), omega (arith, end .1)), (rw (end .0) (exported-good (start .args .m) (start .pre .0)), start .pre .1))
+    let start = c .before .before .before .before in
+    ((omega (arith, end .1), omega (arith, end .1)), (rw (end .0) (start .pre .0 .1 .1), start .pre .1))
 
 returns : tie.Need-returns
-unfolding pulsedBy zoneIn
+unfolding pulsedBy
 returns c =
     let counted = c .before in
     let asked = counted .before .before in
@@ -32,16 +21,15 @@ returns c =
 count-requires-2 : tie.Need-count-requires-2
 count-requires-2 c κs =
     let end = c .counter-end .ensures in
-    let asked = c .before .before in
-    let start = asked .before .before .before .before .before in
-    ((omega (arith, end .1), omega (arith, end .1)), (rw (end .0) (counters-good (start .args .m) (start .pre .0)), start .pre .1))
+    let start = c .before .before .before .before in
+    ((omega (arith, end .1), omega (arith, end .1)), (rw (end .0) (start .pre .0 .1 .0), start .pre .1))
 
 returns-2 : tie.Need-returns-2
-unfolding pulsedBy zoneIn
+unfolding pulsedBy
 returns-2 c =
     let counted = c .before in
     let asked = counted .before .before in
     rw (asked .if1 .left, c .move-on2 .ensures, counted .count2 .ensures, counted .before .counter-end .ensures .0, asked .before .zone-at .ensures)
 
 pub pulse-spec : {M : Type 1} → statement M
-pulse-spec = tie.close (tie.spec slice-aggregate-zone-at zone-at-requires (λ c κs. search needs) count-requires (λ c κs. search needs) returns (λ c κs. search needs) count-requires-2 (λ c κs. search needs) returns-2)
+pulse-spec = tie.close (tie.spec (λ c κs. search needs) (λ c κs. search needs) count-requires (λ c κs. search needs) returns (λ c κs. search needs) count-requires-2 (λ c κs. search needs) returns-2)

@@ -1,21 +1,14 @@
--- `state::is_well_formed` meets its contract: each way out is the case of the definition that its tests name. Assumes nothing.
-use Rattle.state.specs.WellFormed.{wellFormed}
+-- `state::is_well_formed` meets its contract: its pieces make it well-formed. Assumes nothing.
+use Rattle.state.proofs.Parts.{pieces-formed}
 use borrow.Author.Needs.{needs}
 use Rattle.state.proofs.is_well_formed.Statement.{statement}
 use Rattle.state.proofs.is_well_formed.Tie as tie
 
 returns : tie.Need-returns
-unfolding wellFormed
 returns c =
-    let tested = c .before .before in
-    let speed = tested .before .before in
-    rw (c .registers-good .ensures, ← speed .before .before .before .link-of .ensures, ← speed .speed-good .ensures, ← tested .before .receiver-good .ensures, tested .if1 .taken)
-
-returns-2 : tie.Need-returns-2
-unfolding wellFormed
-returns-2 c =
-    let speed = c .before .before in
-    rw (← speed .before .before .before .link-of .ensures, ← speed .speed-good .ensures, ← c .before .receiver-good .ensures, c .if1 .left)
+    let small = c .before .before .before .before in
+    let start = small .before .before .before .before .before .before .before in
+    rw (c .archive-good .ensures, c .before .runs-good .ensures, small .small-good .ensures) (pieces-formed (start .args .m))
 
 pub is-well-formed-spec : {M : Type 1} → statement M
-is-well-formed-spec = tie.close (tie.spec (λ c κs. search needs) (λ c κs. search needs) (λ c κs. search needs) (λ c κs. search needs) returns returns-2)
+is-well-formed-spec = tie.close (tie.spec (λ c κs. search needs) (λ c κs. search needs) (λ c κs. search needs) returns)

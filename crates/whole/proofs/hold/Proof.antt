@@ -19,11 +19,15 @@ returns-3 c = rw (ne-eqb _ _ (c .before .before .before .before .if1 .left), ←
 
 returns-4 : tie.Need-returns-4
 unfolding heldNext
-returns-4 c = rw (ne-eqb _ _ (c .before .before .before .before .before .if1 .left), ← c .before .before .before .before .is-control .ensures, c .before .before .before .if2 .left, ← c .before .before .is-control2 .ensures, c .before .if3 .left, le-leb _ _ (c .if4 .taken))
+returns-4 c =
+    let c1 = c .before in let c2 = c1 .before in let c3 = c2 .before in let c4 = c3 .before in let c5 = c4 .before in
+    rw (ne-eqb _ _ (c5 .if1 .left), ← c4 .is-control .ensures, c3 .if2 .left, ← c2 .is-control2 .ensures, c1 .if3 .left, le-leb _ _ (c .if4 .taken))
 
 returns-5 : tie.Need-returns-5
 unfolding heldNext
-returns-5 c = rw (ne-eqb _ _ (c .before .before .before .before .before .if1 .left), ← c .before .before .before .before .is-control .ensures, c .before .before .before .if2 .left, ← c .before .before .is-control2 .ensures, c .before .if3 .left, lt-leb _ _ (c .if4 .left))
+returns-5 c =
+    let c1 = c .before in let c2 = c1 .before in let c3 = c2 .before in let c4 = c3 .before in let c5 = c4 .before in
+    rw (ne-eqb _ _ (c5 .if1 .left), ← c4 .is-control .ensures, c3 .if2 .left, ← c2 .is-control2 .ensures, c1 .if3 .left, lt-leb _ _ (c .if4 .left))
 
 pub hold-spec : {M : Type 1} → statement M
 hold-spec =

@@ -23,9 +23,9 @@ returns c =
 returns-2 : tie.Need-returns-2
 unfolding holding
 returns-2 c =
-    let entry = c .before .before .before .before .before .before .before in
+    let c4 = c .before .before .before .before in let entry = c4 .before .before .before in
     let is = nothing-whole (entry .args .m) (length (entry .args .reply .now)) (entry .pre .1) (entry .pre .0) (entry .args .frame .now)
-    (sym (c .before .before .before .before .awaits-frame .ensures) ∙ not-false (c .before .before .before .before .awaits-frame .result) (c .before .before .before .if1 .left)) (sym (c .before .before .held-in .ensures) ∙ c .before .if2 .taken) in
+    (sym (c4 .awaits-frame .ensures) ∙ not-false (c4 .awaits-frame .result) (c .before .before .before .if1 .left)) (sym (c .before .before .held-in .ensures) ∙ c .before .if2 .taken) in
     (rw (is, c .no-frame2 .ensures), rw is)
 
 sub-last : tie.Need-sub-last

@@ -12,8 +12,9 @@ use Rattle.replies.proofs.block.put_block.Tie as tie
 
 put-requires : tie.Need-put-requires
 put-requires c κs =
-    let a = c .before .before .before .before .before .before .before .args in
-    omega (arith, c .before .before .before .before .before .before .before .pre .1, c .before .before .before .before .put-sets .ensures .0, sets-long (a .tables) (a .g) (c .before .before .before .before .before .before .before .pre .0), directions-most (familyIn (a .g)))
+    let c4 = c .before .before .before .before in let start = c4 .before .before .before in
+    let a = start .args in
+    omega (arith, start .pre .1, c4 .put-sets .ensures .0, sets-long (a .tables) (a .g) (start .pre .0), directions-most (familyIn (a .g)))
 
 returns : tie.Need-returns
 unfolding blockData

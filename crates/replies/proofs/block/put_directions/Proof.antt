@@ -11,17 +11,19 @@ use Rattle.replies.proofs.block.put_directions.Tie as tie
 
 put-energies-requires-2 : tie.Need-put-energies-requires-2
 put-energies-requires-2 c κs =
-    let a = c .before .before .before .before .before .before .before .before .args in
-    omega (arith, c .before .before .before .before .before .before .before .before .pre, c .before .before .before .before .before .put-energies .ensures .0, energies-most (a .family) false (a .counters))
+    let c5 = c .before .before .before .before .before in let start = c5 .before .before .before in
+    let a = start .args in
+    omega (arith, start .pre, c5 .put-energies .ensures .0, energies-most (a .family) false (a .counters))
 
 returns : tie.Need-returns
 returns c =
-    let a = c .before .before .before .before .before .before .before .before .before .before .before .args in
-    let came = c .before .before .before .before .before .before .before .before .put-energies .ensures in
-    let went = c .before .before .put-energies2 .ensures in
+    let c2 = c .before .before in let c4 = c2 .before .before in let c5 = c4 .before in let c8 = c5 .before .before .before in let start = c8 .before .before .before in
+    let a = start .args in
+    let came = c8 .put-energies .ensures in
+    let went = c2 .put-energies2 .ensures in
     let both =
     both-put (a .family) (energySets (a .family) false (a .counters)) (energySets (a .family) true (a .exported)) (a .buf .now) (a .at) _ _ _ _
-    (sym (c .before .before .before .before .before .is-eqm .ensures) ∙ c .before .before .before .before .if1 .taken) (record { next = came .0; held = came .1 }) (record { next = went .0; held = went .1 }) in
+    (sym (c5 .is-eqm .ensures) ∙ c4 .if1 .taken) (record { next = came .0; held = came .1 }) (record { next = went .0; held = went .1 }) in
     (both .next, both .held)
 
 returns-2 : tie.Need-returns-2

@@ -16,40 +16,49 @@ use Rattle.replies.proofs.block.put_energies.Tie as tie
 put-energy-set-requires-2 : tie.Need-put-energy-set-requires-2
 unfolding energyNo
 put-energy-set-requires-2 c κs =
-    let a = c .before .before .before .before .before .before .before .args in
+    let c3 = c .before .before .before in let start = c3 .before .before .before .before in
+    let a = start .args in
     let most : (n count : ℕ) → length (lineOf (energySet (a .family) (a .out) n count)) ≤ 24 = energy-most (a .family) (a .out) in
-    omega (arith, c .before .before .before .before .before .before .before .pre, c .before .before .before .put-energy-set .ensures .0, most 1 (counterOf (a .c) 1))
+    omega (arith, start .pre, c3 .put-energy-set .ensures .0, most 1 (counterOf (a .c) 1))
 
 put-energy-set-requires-3 : tie.Need-put-energy-set-requires-3
 unfolding energyNo
 put-energy-set-requires-3 c κs =
-    let a = c .before .before .before .before .before .before .before .before .before .before .before .args in
+    let c3 = c .before .before .before in let c7 = c3 .before .before .before .before in let start = c7 .before .before .before .before in
+    let a = start .args in
     let most : (n count : ℕ) → length (lineOf (energySet (a .family) (a .out) n count)) ≤ 24 = energy-most (a .family) (a .out) in
-    omega (arith, c .before .before .before .before .before .before .before .before .before .before .before .pre, c .before .before .before .before .before .before .before .put-energy-set .ensures .0, c .before .before .before .put-energy-set2 .ensures .0, most 1 (counterOf (a .c) 1), most 2 (counterOf (a .c) 2))
+    omega (arith, start .pre, c7 .put-energy-set .ensures .0, c3 .put-energy-set2 .ensures .0, most 1 (counterOf (a .c) 1), most 2 (counterOf (a .c) 2))
 
 put-energy-set-requires-4 : tie.Need-put-energy-set-requires-4
 unfolding energyNo
 put-energy-set-requires-4 c κs =
-    let a = c .before .before .before .before .before .before .before .before .before .before .before .before .before .before .before .args in
+    let c3 = c .before .before .before in let c7 = c3 .before .before .before .before in let c11 = c7 .before .before .before .before in
+    let start = c11 .before .before .before .before in
+    let a = start .args in
     let most : (n count : ℕ) → length (lineOf (energySet (a .family) (a .out) n count)) ≤ 24 = energy-most (a .family) (a .out) in
-    omega (arith, c .before .before .before .before .before .before .before .before .before .before .before .before .before .before .before .pre, c .before .before .before .before .before .before .before .before .before .before .before .put-energy-set .ensures .0, c .before .before .before .before .before .before .before .put-energy-set2 .ensures .0, c .before .before .before .put-energy-set3 .ensures .0, most 1 (counterOf (a .c) 1), most 2 (counterOf (a .c) 2), most 3 (counterOf (a .c) 3))
+    omega (arith, start .pre, c11 .put-energy-set .ensures .0, c7 .put-energy-set2 .ensures .0, c3 .put-energy-set3 .ensures .0, most 1 (counterOf (a .c) 1), most 2 (counterOf (a .c) 2), most 3 (counterOf (a .c) 3))
 
 put-energy-set-requires-5 : tie.Need-put-energy-set-requires-5
 unfolding energyNo
 put-energy-set-requires-5 c κs =
-    let a = c .before .before .before .before .before .before .before .before .before .before .before .before .before .before .before .before .before .before .before .args in
+    let c3 = c .before .before .before in let c7 = c3 .before .before .before .before in let c11 = c7 .before .before .before .before in
+    let c15 = c11 .before .before .before .before in let start = c15 .before .before .before .before in
+    let a = start .args in
     let most : (n count : ℕ) → length (lineOf (energySet (a .family) (a .out) n count)) ≤ 24 = energy-most (a .family) (a .out) in
-    omega (arith, c .before .before .before .before .before .before .before .before .before .before .before .before .before .before .before .before .before .before .before .pre, c .before .before .before .before .before .before .before .before .before .before .before .before .before .before .before .put-energy-set .ensures .0, c .before .before .before .before .before .before .before .before .before .before .before .put-energy-set2 .ensures .0, c .before .before .before .before .before .before .before .put-energy-set3 .ensures .0, c .before .before .before .put-energy-set4 .ensures .0, most 1 (counterOf (a .c) 1), most 2 (counterOf (a .c) 2), most 3 (counterOf (a .c) 3), most 4 (counterOf (a .c) 4))
+    omega (arith, start .pre, c15 .put-energy-set .ensures .0, c11 .put-energy-set2 .ensures .0, c7 .put-energy-set3 .ensures .0, c3 .put-energy-set4 .ensures .0, most 1 (counterOf (a .c) 1), most 2 (counterOf (a .c) 2), most 3 (counterOf (a .c) 3), most 4 (counterOf (a .c) 4))
 
 returns : tie.Need-returns
 unfolding energySets energyNo
 returns c =
-    let a = c .before .before .before .before .before .before .before .before .before .before .before .before .before .before .before .before .before .before .before .before .before .before .args in
-    let e1 = c .before .before .before .before .before .before .before .before .before .before .before .before .before .before .before .before .before .before .put-energy-set .ensures in
-    let e2 = c .before .before .before .before .before .before .before .before .before .before .before .before .before .before .put-energy-set2 .ensures in
-    let e3 = c .before .before .before .before .before .before .before .before .before .before .put-energy-set3 .ensures in
-    let e4 = c .before .before .before .before .before .before .put-energy-set4 .ensures in
-    let e5 = c .before .before .put-energy-set5 .ensures in
+    let c2 = c .before .before in let c6 = c2 .before .before .before .before in let c10 = c6 .before .before .before .before in
+    let c14 = c10 .before .before .before .before in let c18 = c14 .before .before .before .before in
+    let start = c18 .before .before .before .before in
+    let a = start .args in
+    let e1 = c18 .put-energy-set .ensures in
+    let e2 = c14 .put-energy-set2 .ensures in
+    let e3 = c10 .put-energy-set3 .ensures in
+    let e4 = c6 .put-energy-set4 .ensures in
+    let e5 = c2 .put-energy-set5 .ensures in
     let count : ℕ → ℕ = counterOf (a .c) in
     let line : ℕ → ℕ → DataSet = energySet (a .family) (a .out) in
     let one = single (line 1 (count 1)) _ (a .buf .now) (a .at) _ _ refl (e1 .0) (e1 .1) in

@@ -13,30 +13,36 @@ use Rattle.replies.proofs.block.put_kept.Tie as tie
 
 put-kept-set-requires-2 : tie.Need-put-kept-set-requires-2
 put-kept-set-requires-2 c κs =
-    let a = c .before .before .before .before .before .before .args in
+    let c3 = c .before .before .before in let start = c3 .before .before .before in
+    let a = start .args in
     let most : (n count : ℕ) → length (lineOf (keptSet (a .family) (a .out) (a .k) n count)) ≤ 27 = kept-most (a .family) (a .out) (a .k) in
-    omega (arith, c .before .before .before .before .before .before .pre, c .before .before .before .put-kept-set .ensures .0, most 1 (keptIn (a .t4) 1))
+    omega (arith, start .pre, c3 .put-kept-set .ensures .0, most 1 (keptIn (a .t4) 1))
 
 put-kept-set-requires-3 : tie.Need-put-kept-set-requires-3
 put-kept-set-requires-3 c κs =
-    let a = c .before .before .before .before .before .before .before .before .before .before .args in
+    let c3 = c .before .before .before in let c7 = c3 .before .before .before .before in let start = c7 .before .before .before in
+    let a = start .args in
     let most : (n count : ℕ) → length (lineOf (keptSet (a .family) (a .out) (a .k) n count)) ≤ 27 = kept-most (a .family) (a .out) (a .k) in
-    omega (arith, c .before .before .before .before .before .before .before .before .before .before .pre, c .before .before .before .before .before .before .before .put-kept-set .ensures .0, c .before .before .before .put-kept-set2 .ensures .0, most 1 (keptIn (a .t4) 1), most 2 (keptIn (a .t4) 2))
+    omega (arith, start .pre, c7 .put-kept-set .ensures .0, c3 .put-kept-set2 .ensures .0, most 1 (keptIn (a .t4) 1), most 2 (keptIn (a .t4) 2))
 
 put-kept-set-requires-4 : tie.Need-put-kept-set-requires-4
 put-kept-set-requires-4 c κs =
-    let a = c .before .before .before .before .before .before .before .before .before .before .before .before .before .before .args in
+    let c3 = c .before .before .before in let c7 = c3 .before .before .before .before in let c11 = c7 .before .before .before .before in
+    let start = c11 .before .before .before in
+    let a = start .args in
     let most : (n count : ℕ) → length (lineOf (keptSet (a .family) (a .out) (a .k) n count)) ≤ 27 = kept-most (a .family) (a .out) (a .k) in
-    omega (arith, c .before .before .before .before .before .before .before .before .before .before .before .before .before .before .pre, c .before .before .before .before .before .before .before .before .before .before .before .put-kept-set .ensures .0, c .before .before .before .before .before .before .before .put-kept-set2 .ensures .0, c .before .before .before .put-kept-set3 .ensures .0, most 1 (keptIn (a .t4) 1), most 2 (keptIn (a .t4) 2), most 3 (keptIn (a .t4) 3))
+    omega (arith, start .pre, c11 .put-kept-set .ensures .0, c7 .put-kept-set2 .ensures .0, c3 .put-kept-set3 .ensures .0, most 1 (keptIn (a .t4) 1), most 2 (keptIn (a .t4) 2), most 3 (keptIn (a .t4) 3))
 
 returns : tie.Need-returns
 unfolding keptSets
 returns c =
-    let a = c .before .before .before .before .before .before .before .before .before .before .before .before .before .before .before .before .before .args in
-    let e1 = c .before .before .before .before .before .before .before .before .before .before .before .before .before .before .put-kept-set .ensures in
-    let e2 = c .before .before .before .before .before .before .before .before .before .before .put-kept-set2 .ensures in
-    let e3 = c .before .before .before .before .before .before .put-kept-set3 .ensures in
-    let e4 = c .before .before .put-kept-set4 .ensures in
+    let c2 = c .before .before in let c6 = c2 .before .before .before .before in let c10 = c6 .before .before .before .before in
+    let c14 = c10 .before .before .before .before in let start = c14 .before .before .before in
+    let a = start .args in
+    let e1 = c14 .put-kept-set .ensures in
+    let e2 = c10 .put-kept-set2 .ensures in
+    let e3 = c6 .put-kept-set3 .ensures in
+    let e4 = c2 .put-kept-set4 .ensures in
     let count : ℕ → ℕ = keptIn (a .t4) in
     let line : ℕ → ℕ → DataSet = keptSet (a .family) (a .out) (a .k) in
     let one = single (line 1 (count 1)) _ (a .buf .now) (a .at) _ _ refl (e1 .0) (e1 .1) in

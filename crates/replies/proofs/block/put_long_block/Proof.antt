@@ -14,23 +14,26 @@ use Rattle.replies.proofs.block.put_long_block.Tie as tie
 
 put-periods-requires : tie.Need-put-periods-requires
 put-periods-requires c κs =
-    let a = c .before .before .before .before .before .before .before .before .before .before .args in
-    let known = c .before .before .before .before .before .before .before .before .before .before .pre in
-    (known .0 .kept, omega (arith, known .1, c .before .before .before .before .put-sets .ensures .0, sets-long (a .tables) (a .g) (known .0), directions-most (familyIn (a .g))))
+    let c4 = c .before .before .before .before in let start = c4 .before .before .before .before .before .before in
+    let a = start .args in
+    let known = start .pre in
+    (known .0 .kept, omega (arith, known .1, c4 .put-sets .ensures .0, sets-long (a .tables) (a .g) (known .0), directions-most (familyIn (a .g))))
 
 put-requires : tie.Need-put-requires
 unfolding periodsOf
 put-requires c κs =
-    let a = c .before .before .before .before .before .before .before .before .before .before .before .before .before .before .before .args in
-    let known = c .before .before .before .before .before .before .before .before .before .before .before .before .before .before .before .pre in
+    let c4 = c .before .before .before .before in let c9 = c4 .before .before .before .before .before in
+    let start = c9 .before .before .before .before .before .before in
+    let a = start .args in
+    let known = start .pre in
     let kept = periodsOf (a .g .archive) in
     omega (
       arith,
       known .1,
-      c .before .before .before .before .before .before .before .before .before .put-sets .ensures .0,
+      c9 .put-sets .ensures .0,
       sets-long (a .tables) (a .g) (known .0),
       directions-most (familyIn (a .g)),
-      c .before .before .before .before .put-periods .ensures .0,
+      c4 .put-periods .ensures .0,
       archive-most (familyIn (a .g)) 1 kept,
       kept-many (a .tables) (a .g) (known .0),
     )
@@ -38,10 +41,12 @@ put-requires c κs =
 returns : tie.Need-returns
 unfolding longData periodsOf
 returns c =
-    let a = c .before .before .before .before .before .before .before .before .before .before .before .before .before .before .before .before .before .before .args in
-    let lines = c .before .before .before .before .before .before .before .before .before .before .before .before .put-sets .ensures in
-    let more = c .before .before .before .before .before .before .before .put-periods .ensures in
-    let end = c .before .before .put .ensures in
+    let c2 = c .before .before in let c7 = c2 .before .before .before .before .before in
+    let c12 = c7 .before .before .before .before .before in let start = c12 .before .before .before .before .before .before in
+    let a = start .args in
+    let lines = c12 .put-sets .ensures in
+    let more = c7 .put-periods .ensures in
+    let end = c2 .put .ensures in
     let all =
     all-put-long (a .tables) (a .g) (a .buf .now) (a .at) _ _ _ _ (record { next = lines .0; held = lines .1 }) (record { next = more .0; held = more .1 }) in (
       omega (arith, all .next, end .0, length-append (linesOf (longSets (a .tables) (a .g))) (33 ∷ 13 ∷ 10 ∷ [])),

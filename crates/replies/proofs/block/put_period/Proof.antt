@@ -14,29 +14,35 @@ use Rattle.replies.proofs.block.put_period.Tie as tie
 
 put-kept-requires-2 : tie.Need-put-kept-requires-2
 put-kept-requires-2 c κs =
-    let a = c .before .before .before .before .before .before .before .before .before .before .before .before .before .before .args in
-    omega (arith, c .before .before .before .before .before .before .before .before .before .before .before .before .before .before .pre, c .before .before .before .before .before .before .before .before .before .put-closed-set .ensures .0, c .before .before .before .before .before .put-kept .ensures .0, kept-most-of (a .family) false (a .k) (a .p .zones))
+    let c5 = c .before .before .before .before .before in let c9 = c5 .before .before .before .before in
+    let start = c9 .before .before .before .before .before in
+    let a = start .args in
+    omega (arith, start .pre, c9 .put-closed-set .ensures .0, c5 .put-kept .ensures .0, kept-most-of (a .family) false (a .k) (a .p .zones))
 
 returns : tie.Need-returns
 unfolding periodSets
 returns c =
-    let a = c .before .before .before .before .before .before .before .before .before .before .before .before .before .before .before .before .before .args in
-    let time = c .before .before .before .before .before .before .before .before .before .before .before .before .put-closed-set .ensures in
-    let came = c .before .before .before .before .before .before .before .before .put-kept .ensures in
-    let went = c .before .before .put-kept2 .ensures in
+    let c2 = c .before .before in let c4 = c2 .before .before in let c5 = c4 .before in let c8 = c5 .before .before .before in
+    let c12 = c8 .before .before .before .before in let start = c12 .before .before .before .before .before in
+    let a = start .args in
+    let time = c12 .put-closed-set .ensures in
+    let came = c8 .put-kept .ensures in
+    let went = c2 .put-kept2 .ensures in
     let closed = single (closedSet (a .k) (a .p .closed)) 26 (a .buf .now) (a .at) _ _ (closed-line (a .k) (a .p .closed)) (time .0) (time .1) in
     let both =
     both-put (a .family) (keptSets (a .family) false (a .k) (a .p .zones)) (keptSets (a .family) true (a .k) (a .p .exported)) _ _ _ _ _ _
-    (sym (c .before .before .before .before .before .is-eqm .ensures) ∙ c .before .before .before .before .if1 .taken) (record { next = came .0; held = came .1 }) (record { next = went .0; held = went .1 }) in
+    (sym (c5 .is-eqm .ensures) ∙ c4 .if1 .taken) (record { next = came .0; held = came .1 }) (record { next = went .0; held = went .1 }) in
     let all = joined _ _ _ _ _ _ _ _ closed both in
     (all .next, all .held)
 
 returns-2 : tie.Need-returns-2
 unfolding periodSets
 returns-2 c =
-    let a = c .before .before .before .before .before .before .before .before .before .before .before .before .before .args in
-    let time = c .before .before .before .before .before .before .before .before .put-closed-set .ensures in
-    let came = c .before .before .before .before .put-kept .ensures in
+    let c4 = c .before .before .before .before in let c8 = c4 .before .before .before .before in
+    let start = c8 .before .before .before .before .before in
+    let a = start .args in
+    let time = c8 .put-closed-set .ensures in
+    let came = c4 .put-kept .ensures in
     let closed = single (closedSet (a .k) (a .p .closed)) 26 (a .buf .now) (a .at) _ _ (closed-line (a .k) (a .p .closed)) (time .0) (time .1) in
     let alone =
     came-put (a .family) (keptSets (a .family) false (a .k) (a .p .zones)) (keptSets (a .family) true (a .k) (a .p .exported)) _ _ _ _

@@ -8,19 +8,23 @@ use Rattle.replies.proofs.block.put_sets.Tie as tie
 
 put-tables-requires : tie.Need-put-tables-requires
 put-tables-requires c κs =
-    let a = c .before .before .before .before .before .before .before .before .before .before .before .before .before .before .before .before .before .args in
-    let known = c .before .before .before .before .before .before .before .before .before .before .before .before .before .before .before .before .before .pre in
+    let c4 = c .before .before .before .before in let c8 = c4 .before .before .before .before in
+    let start = c8 .before .before .before .before .before .before .before .before .before in
+    let a = start .args in
+    let known = start .pre in
     let long = directions-long (familyIn (a .g)) (a .g .counters) (a .g .exported) in
-    (known .0 .rows, (omega (arith, known .1, c .before .before .before .before .before .before .before .before .put-facts .ensures .0, c .before .before .before .before .put-directions .ensures .0, long, directions-most (familyIn (a .g))), known .0 .few))
+    (known .0 .rows, (omega (arith, known .1, c8 .put-facts .ensures .0, c4 .put-directions .ensures .0, long, directions-most (familyIn (a .g))), known .0 .few))
 
 returns : tie.Need-returns
 returns c =
-    let a = c .before .before .before .before .before .before .before .before .before .before .before .before .before .before .before .before .before .before .before .before .args in
-    let facts = c .before .before .before .before .before .before .before .before .before .before .before .put-facts .ensures in
-    let energies = c .before .before .before .before .before .before .before .put-directions .ensures in
-    let rows = c .before .before .put-tables .ensures in
+    let c2 = c .before .before in let c7 = c2 .before .before .before .before .before in let c11 = c7 .before .before .before .before in
+    let start = c11 .before .before .before .before .before .before .before .before .before in
+    let a = start .args in
+    let facts = c11 .put-facts .ensures in
+    let energies = c7 .put-directions .ensures in
+    let rows = c2 .put-tables .ensures in
     let all =
-    all-put (a .tables) (a .g) (a .buf .now) (a .at) _ _ _ _ _ _ (c .before .before .before .before .before .before .before .before .before .before .before .before .before .before .before .before .before .before .before .before .pre .0) (facts .0) (facts .1)
+    all-put (a .tables) (a .g) (a .buf .now) (a .at) _ _ _ _ _ _ (start .pre .0) (facts .0) (facts .1)
     (record { next = energies .0; held = energies .1 }) (rows .0) (rows .1) in
     (all .next, all .held)
 

@@ -21,8 +21,8 @@ loop-holds c = (omega arith, refl)
 
 returns : tie.Need-returns Inv-loop μ-loop
 returns c =
-    let l = c .before .before .loop in
-    reads-odd (c .before .before .before .before .args .tables) (c .before .before .before .before .args .family) (c .before .before .before .before .args .work .now) (l .i) (l .good) _ (l .inv .1) (c .before .loop-test .taken) (omega (arith, c .if1 .taken))
+    let c2 = c .before .before in let a = c2 .before .before .args in let l = c2 .loop in
+    reads-odd (a .tables) (a .family) (a .work .now) (l .i) (l .good) _ (l .inv .1) (c .before .loop-test .taken) (omega (arith, c .if1 .taken))
 
 loop-again : tie.Need-loop-again Inv-loop μ-loop
 loop-again c = let c3 = c .before .before .before in let c5 = c3 .before .before in let c7 = c5 .before .before in let l = c5 .loop in

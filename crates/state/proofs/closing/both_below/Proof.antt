@@ -6,7 +6,7 @@ use Rattle.state.proofs.closing.both_below.Tie as tie
 
 returns : tie.Need-returns
 unfolding bothBelow
-returns c = rw (c .before .before .zones-below .ensures, c .zones-below2 .ensures)
+returns c = rw (c .before .four-below .ensures, c .four-below2 .ensures)
 
 pub both-below-spec : {M : Type 1} → statement M
-both-below-spec = tie.close (tie.spec (λ c. search needs) (λ c κs. search needs) (λ c. search needs) (λ c κs. search needs) returns)
+both-below-spec = tie.close (tie.spec (λ c κs. search needs) (λ c κs. search needs) returns)
