@@ -1,4 +1,4 @@
--- A state tested by its parts: what is small, and what its runs of characters hold. With a good archive they make it well-formed (`parts-formed`).
+-- A state tested by its parts: what is small, and what its runs of characters hold. With a good archive they make it well-formed (`pieces-formed`).
 use mathlib.Core.Bool.{Bool, _&&_}
 use mathlib.Core.List.{List}
 use Prim.Native.Nat.{ℕ}

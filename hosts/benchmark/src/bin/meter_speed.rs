@@ -22,7 +22,7 @@ const WRITE: usize = 36;
 trait Side {
     fn of(meter: &Meter) -> Self;
     fn character(&mut self, byte: u8, buffer: &mut [u8]) -> Answer;
-    /// A second goes by on the last of a month, just before tick; the clock is put back.
+    /// A second goes by, and the clock is put back.
     fn tick(&mut self) -> u8;
     /// Energy goes out.
     fn out(&mut self, units: u32) -> u8;
