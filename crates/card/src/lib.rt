@@ -12,6 +12,7 @@ ghost use Rattle.card.specs.Place.{CheckedAs, CheckedFor};
 ghost use Rattle.card.specs.Columns.{accountColumn, tableColumn, FirstStray, tableStands};
 ghost use Rattle.card.specs.Fields.{Passed, Scanned};
 ghost use Rattle.card.specs.Frames.{accountFrame, fieldFrame, fieldFrames, textFrames, ReadAs, ReadFor};
+use values::ROW_LENGTH;
 
 // The account's field and a table's, and their frames, in bytes.
 const ACCOUNT_FIELD: usize = 13;
@@ -176,7 +177,7 @@ pub fn check(edition: u8, text: &[u8]) -> Checked
 
 // A frame: its start up to the content, the content, the closing bracket, ETX and BCC, with parity.
 fn put_frame(out: &mut [u8], start: &[u8], content: &[u8])
-    requires { ⌜ (1 ≤ length (now start)) × (length (now start) + length (now content) + 3 ≤ length (now out)) × (length (now start) ≤ 9) × (length (now content) ≤ 24) ⌝ }
+    requires { ⌜ (1 ≤ length (now start)) × (length (now start) + length (now content) + 3 ≤ length (now out)) × (length (now start) ≤ 9) × (length (now content) ≤ rowLength) ⌝ }
     ensures { λ _. ⌜ now (out .exit) ≡ holding (now (out .entry)) (onWire (sealed (now (start .entry) ++ (now (content .entry) ++ chars ")")))) ⌝ }
 {
     let a = text::put(out, 0, start);
@@ -227,7 +228,7 @@ fn write_frame(text: &[u8], i: usize, out: &mut [u8])
     ensures { λ _. ⌜ now (out .exit) ≡ stored (now (out .entry)) (19 + 36 * i) (fieldFrame (drop (13 + 28 * i) (now (text .entry)))) ⌝ }
 {
     let row = 17 + 28 * i;
-    let end = row + 24;
+    let end = row + ROW_LENGTH;
     let frame = table_frame(text[row - 1], &text[row..end]);
     text::put(out, 19 + 36 * i, &frame);
 }

@@ -3,6 +3,7 @@ ghost use mathlib.Core.Path.{_≡_};
 ghost use Prim.Native.Nat.{_+_, _*_, _<_, _≤_};
 ghost use lib.ListN.{length};
 ghost use Rattle.text.specs.Writing.{stored};
+ghost use Rattle.values.specs.Edition.{rowLength};
 ghost use Rattle.card.specs.Grammar.{tableField, tableFields, cardText};
 ghost use Rattle.cardwriting.specs.Writing.{entryAt, entriesFrom, writtenIn, writtenTo};
 use state::ALL_ROWS;
@@ -17,7 +18,7 @@ pub struct Written {
 
 // Puts a table's field in its place, the first of them being 0.
 fn put_field(out: &mut [u8], rows: &[u8], i: usize)
-    requires { ⌜ (i < 255) × (24 * i + 24 ≤ length (now rows)) × (13 + 28 * i + 28 ≤ length (now out)) ⌝ }
+    requires { ⌜ (i < 255) × (rowLength * i + rowLength ≤ length (now rows)) × (13 + 28 * i + 28 ≤ length (now out)) ⌝ }
     ensures { λ _. ⌜ now (out .exit) ≡ stored (now (out .entry)) (13 + 28 * i) (tableField (entryAt (now (rows .entry)) (i + 1))) ⌝ }
 {
     let number = ((i + 1) % 256) as u8;
@@ -29,7 +30,7 @@ fn put_field(out: &mut [u8], rows: &[u8], i: usize)
 
 // Puts the fields of so many tables behind the account's.
 fn put_fields(out: &mut [u8], rows: &[u8], tables: usize)
-    requires { ⌜ (tables ≤ 255) × (24 * tables ≤ length (now rows)) × (13 + 28 * tables ≤ length (now out)) ⌝ }
+    requires { ⌜ (tables ≤ 255) × (rowLength * tables ≤ length (now rows)) × (13 + 28 * tables ≤ length (now out)) ⌝ }
     ensures { λ _. ⌜ now (out .exit) ≡ stored (now (out .entry)) 13 (tableFields (entriesFrom 0 tables (now (rows .entry)))) ⌝ }
 {
     let mut i = 0;
@@ -41,7 +42,7 @@ fn put_fields(out: &mut [u8], rows: &[u8], tables: usize)
 
 // Puts the account's field, and those of so many tables.
 fn put_card(out: &mut [u8], account: &[u8], rows: &[u8], tables: usize)
-    requires { ⌜ (length (now account) ≡ 10) × (tables ≤ 255) × (24 * tables ≤ length (now rows)) × (13 + 28 * tables ≤ length (now out)) ⌝ }
+    requires { ⌜ (length (now account) ≡ 10) × (tables ≤ 255) × (rowLength * tables ≤ length (now rows)) × (13 + 28 * tables ≤ length (now out)) ⌝ }
     ensures { λ _. ⌜ now (out .exit) ≡ stored (now (out .entry)) 0 (cardText (now (account .entry)) (entriesFrom 0 tables (now (rows .entry)))) ⌝ }
 {
     let at = text::put(out, 0, &[1, 0, 10]);
@@ -51,7 +52,7 @@ fn put_card(out: &mut [u8], account: &[u8], rows: &[u8], tables: usize)
 
 // The same of arrays, which are lent here and not out of the state.
 fn put_own(out: &mut [u8], account: [u8; 10], rows: [u8; ALL_ROWS], tables: usize)
-    requires { ⌜ (length account ≡ 10) × (tables ≤ 255) × (24 * tables ≤ length rows) × (13 + 28 * tables ≤ length (now out)) ⌝ }
+    requires { ⌜ (length account ≡ 10) × (tables ≤ 255) × (rowLength * tables ≤ length rows) × (13 + 28 * tables ≤ length (now out)) ⌝ }
     ensures { λ _. ⌜ now (out .exit) ≡ stored (now (out .entry)) 0 (cardText account (entriesFrom 0 tables rows)) ⌝ }
 {
     put_card(out, &account, &rows, tables);

@@ -6,6 +6,7 @@ ghost use Prim.Native.Nat.{_+_, _≤_};
 ghost use lib.ListN.{length};
 ghost use Rattle.line.specs.Quoted.{chars};
 ghost use Rattle.text.specs.Writing.{stored};
+ghost use Rattle.values.specs.Edition.{rowLength};
 ghost use Rattle.values.specs.Registers.{energyNo};
 ghost use Rattle.values.specs.Texts.{energyText};
 ghost use Rattle.datasets.specs.Sets.{lineOf, timeSet, dateSet, serialSet, accountSet, energySet, tableSet, closedSet, keptSet};
@@ -13,6 +14,7 @@ use clock::Date;
 use clock::Stamp;
 use clock::Time;
 use values::Energy;
+use values::ROW_LENGTH;
 use values::TableNo;
 use values::ZoneNo;
 
@@ -92,13 +94,13 @@ pub fn put_energy_set(buf: &mut [u8], at: usize, e: Energy, n: u32, out: bool, f
 
 // A whole row. It is copied out first: two moves each way, as the length is fixed and a local array is apart from the buffer.
 fn put_whole_row(buf: &mut [u8], at: usize, row: &[u8]) -> usize
-    requires { ⌜ (length (now row) ≡ 24) × (at + 24 ≤ length (now buf)) ⌝ }
-    ensures next { λ r. ⌜ r ≡ at + 24 ⌝ }
+    requires { ⌜ (length (now row) ≡ rowLength) × (at + rowLength ≤ length (now buf)) ⌝ }
+    ensures next { λ r. ⌜ r ≡ at + rowLength ⌝ }
     ensures held { λ _. ⌜ now (buf .exit) ≡ stored (now (buf .entry)) at (now (row .entry)) ⌝ }
 {
-    let mut copy = [0u8; 24];
+    let mut copy = [0u8; ROW_LENGTH];
     let mut i = 0;
-    while i < 24 {
+    while i < ROW_LENGTH {
         copy[i] = row[i];
         i += 1;
     }
@@ -111,7 +113,7 @@ fn put_row(buf: &mut [u8], at: usize, row: &[u8]) -> usize
     ensures next { λ r. ⌜ r ≡ at + length (now (row .entry)) ⌝ }
     ensures held { λ _. ⌜ now (buf .exit) ≡ stored (now (buf .entry)) at (now (row .entry)) ⌝ }
 {
-    if row.len() == 24 {
+    if row.len() == ROW_LENGTH {
         return put_whole_row(buf, at, row);
     }
     text::put(buf, at, row)

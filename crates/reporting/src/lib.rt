@@ -5,6 +5,7 @@ ghost use mathlib.Core.List.{_++_};
 ghost use Prim.Native.Nat.{_+_, _*_, _≤_};
 ghost use lib.ListN.{length, take};
 ghost use Rattle.text.specs.Writing.{stored};
+ghost use Rattle.values.specs.Edition.{rowLength, tablePlaces};
 ghost use Rattle.numerals.specs.Numerals.{numberLine};
 ghost use Rattle.reporting.specs.Report.{newMeter, openedMeter, rowLines, detail, ShowsReport};
 use clock::Clock;
@@ -13,6 +14,7 @@ use clock::Time;
 use state::ALL_ROWS;
 use state::Facts;
 use state::Meter;
+use values::ROW_LENGTH;
 
 // What is said: 1 or 20, and how many bytes of the buffer are to be written.
 pub struct Said {
@@ -70,15 +72,15 @@ fn detail(number: u8, place: usize, acknowledged: usize) -> usize
 
 // Puts each row on a line of its own, and gives the place after them.
 fn put_rows(out: &mut [u8], at: usize, rows: &[u8], tables: usize) -> usize
-    requires { ⌜ (at + tables * 25 ≤ length (now out)) × (length (now rows) ≡ 600) × (tables ≤ 25) ⌝ }
+    requires { ⌜ (at + tables * 25 ≤ length (now out)) × (length (now rows) ≡ tablePlaces * rowLength) × (tables ≤ tablePlaces) ⌝ }
     ensures next { λ r. ⌜ r ≡ at + tables * 25 ⌝ }
     ensures held { λ _. ⌜ now (out .exit) ≡ stored (now (out .entry)) at (rowLines tables (now (rows .entry))) ⌝ }
 {
     let mut to = at;
     let mut i = 0;
     while i < tables {
-        let from = i * 24;
-        let end = from + 24;
+        let from = i * ROW_LENGTH;
+        let end = from + ROW_LENGTH;
         to = text::put(out, to, &rows[from..end]);
         to = text::put(out, to, b"\n");
         i += 1;
@@ -94,10 +96,10 @@ fn put_report(
     rows: [u8; ALL_ROWS],
     tables: usize,
 ) -> usize
-    requires { ⌜ (667 ≤ length (now out)) × (tables ≤ 25) ⌝ }
+    requires { ⌜ (667 ≤ length (now out)) × (tables ≤ tablePlaces) ⌝ }
     ensures next { λ r. ⌜ r ≡ length (numberLine number behind) + tables * 25 ⌝ }
     ensures held { λ _. ⌜ now (out .exit) ≡ stored (now (out .entry)) 0 (numberLine number behind ++ rowLines tables rows) ⌝ }
-    ensures all { λ _. ⌜ length rows ≡ 600 ⌝ }
+    ensures all { λ _. ⌜ length rows ≡ tablePlaces * rowLength ⌝ }
 {
     let at = numerals::put_line(out, 0, number as u64, behind as u64);
     put_rows(out, at, &rows, tables)

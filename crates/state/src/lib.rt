@@ -30,6 +30,9 @@ pub const HELD_PLACES: u8 = 64;
 // The rows of all tables, one after the other.
 pub const ALL_ROWS: usize = TABLE_PLACES * ROW_LENGTH;
 
+// Those of edition 1, whose tables are one fewer.
+const FIRST_ROWS: usize = (TABLE_PLACES - 1) * ROW_LENGTH;
+
 // The least room of a reply buffer.
 pub const REPLY_ROOM: usize = 4_096;
 
@@ -284,7 +287,7 @@ fn new_rows(edition: u8) -> [u8; ALL_ROWS]
         return [b'1'; ALL_ROWS];
     }
     let mut rows = [0u8; ALL_ROWS];
-    text::put(&mut rows, 0, &[b'1'; 576]);
+    text::put(&mut rows, 0, &[b'1'; FIRST_ROWS]);
     rows
 }
 
