@@ -1,8 +1,8 @@
 -- The three ways out of a builder, and what the pieces of a command leave in the buffer, once over their lengths.
 -- Assumes nothing.
 use mathlib.Core.Path.{_≡_, sym, ap, subst, _∙_}
-use mathlib.Core.Bool.{Bool, true, false}
-use mathlib.Core.List.{List, _++_, append-assoc}
+use mathlib.Core.Bool.{Bool, true, false, _&&_, and-false}
+use mathlib.Core.List.{List, [], _∷_, _++_, append-assoc}
 use Prim.Native.Nat.{ℕ, _+_, _<_, _≤_}
 use native.Mathlib.Omega.{arith}
 use borrow.Author.Tests.{lt-ltb, le-ltb}
@@ -11,6 +11,9 @@ use lib.Seq.{take-at, drop-at, drop-append-add, drop-drop}
 use Rattle.line.specs.Characters.{sent}
 use Rattle.text.specs.Writing.{stored, holding}
 use Rattle.text.proofs.Writing.{and-then, stored-holding}
+use Rattle.values.specs.Edition.{rowLength}
+use Rattle.values.specs.Registers.{goodRow, goodTable}
+use Rattle.values.proofs.Rules.{no-row}
 use Rattle.frames.specs.Frames.{sealed, onWire}
 use Rattle.frames.proofs.Closing.{sealed-length}
 use Rattle.commands.specs.declared.Built.{Built}
@@ -28,6 +31,10 @@ module _ (buf : List ℕ) (ok : Bool) (command : List ℕ) (r : Built) where
   pub built : (after : List ℕ) → 64 ≤ length buf → ok ≡ true → Made buf command r after → Builds buf ok command r after
   unfolding builtIn keptOr
   built after h f m = record { answer = rw (le-ltb (length buf) 64 h, f) (m .answer); held = rw (le-ltb (length buf) 64 h, f) (m .held) }
+
+-- a row of another length is none, whatever its table
+pub row-unsized : (tables n : ℕ) (s : List ℕ) → (length s ≡ rowLength → ⊥) → (goodTable tables n && goodRow s) ≡ false
+row-unsized tables n s h = rw (no-row s h) (and-false (goodTable tables n))
 
 -- the field's test is what the rule says of it
 pub judged : (buf : List ℕ) (ok good : Bool) (command : List ℕ) (r : Built) (after : List ℕ) → good ≡ ok → Builds buf good command r after → Builds buf ok command r after
@@ -101,3 +108,23 @@ pub frame-of-three : (buf s t u b : List ℕ) (n whole : ℕ) (after : List ℕ)
     → whole ≡ n + 2 → after ≡ holding b (onWire (sealed (take n b))) → Made buf (onWire (sealed (s ++ (t ++ u)))) (record { number = 1; length = whole }) after
 frame-of-three buf s t u b n whole after k p h w f =
     frame-made buf (s ++ (t ++ u)) b n whole after (k .held) (k .long) (omega (arith, three-long s t u)) (omega (arith, three-long s t u)) w f
+
+-- a frame is three characters longer than its start and its content
+pub frame-long : (s t : List ℕ) → 1 ≤ length s → length (onWire (sealed (s ++ (t ++ (41 ∷ []))))) ≡ length s + length t + 3
+frame-long s t p =
+    let m = s ++ (t ++ (41 ∷ [])) in
+    let n : length m ≡ length s + (length t + 1) = three-long s t (41 ∷ []) in
+    length-map (sealed m) sent ∙ (rw (sealed-length m (omega arith), n) (omega arith))
+
+-- what was made is what stands at the front
+pub front : (other command : List ℕ) (r : Built) (made : List ℕ) → Made other command r made → take (r .length) made ≡ command
+unfolding holding
+front other command r made m =
+    let n : r .length ≡ length command = ap (λ (b : Built). b .length) (m .answer) in
+    rw (m .held) (take-at command (drop (length command) other) (r .length) (sym n))
+
+-- and it is made in another buffer that it is put into
+pub put-over : (other buf command : List ℕ) (r : Built) (made after : List ℕ) → Made other command r made
+    → after ≡ stored buf 0 (take (r .length) made) → length command ≤ length buf → Made buf command r after
+put-over other buf command r made after m e h =
+    record { answer = m .answer; held = e ∙ (rw (front other command r made m) (stored-holding buf command h)) }

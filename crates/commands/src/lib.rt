@@ -29,6 +29,13 @@ pub const SHORT: u8 = 19;
 // The least buffer that a command is built in.
 pub const ROOM: usize = 64;
 
+// How long the fields are. A length is tested before what it is the length of, so that the loops over a field are compiled for it.
+const SERIAL: usize = 10;
+
+const PASSWORD: usize = 8;
+
+const ACCOUNT: usize = 10;
+
 pub struct Built {
     pub number: u8,
     pub length: usize,
@@ -82,7 +89,19 @@ fn frame(buf: &mut [u8], start: &[u8], content: &[u8]) -> Built
     }
 }
 
-// The same where the buffer has room and the field lies within its rule; else refused, and nothing is written.
+// The same made in an array that nothing else names, and put at once: of a long field's loops the compiler makes vector code then.
+fn aside(buf: &mut [u8], start: &[u8], content: &[u8]) -> Built
+    requires { ⌜ Room (now buf) (now start) (now content) ⌝ }
+    ensures { λ r. ⌜ Made (now (buf .entry)) (onWire (sealed (now (start .entry) ++ (now (content .entry) ++ chars ")")))) r (now (buf .exit)) ⌝ }
+{
+    let mut made = [0u8; ROOM];
+    let built = frame(&mut made, start, content);
+    let n = built.length;
+    text::put(buf, 0, text::first(&made, n));
+    built
+}
+
+// A frame where the buffer has room and the field lies within its rule; else refused, and nothing is written.
 fn build(buf: &mut [u8], good: bool, start: &[u8], content: &[u8]) -> Built
     requires { ⌜ Small good (now start) (now content) ⌝ }
     ensures { λ r. ⌜ Builds (now (buf .entry)) good (onWire (sealed (now (start .entry) ++ (now (content .entry) ++ chars ")")))) r (now (buf .exit)) ⌝ }
@@ -143,7 +162,10 @@ pub fn sign_on_to(buf: &mut [u8], serial: &[u8]) -> Built
     if buf.len() < ROOM {
         return short();
     }
-    if !values::is_digits(serial, 10) {
+    if serial.len() != SERIAL {
+        return refused();
+    }
+    if !values::is_digits(serial, SERIAL) {
         return refused();
     }
     line_of(buf, b"/?", &shown_serial(serial), b"!\r\n")
@@ -156,7 +178,10 @@ pub fn sign_on_wired(buf: &mut [u8], serial: &[u8]) -> Built
     if buf.len() < ROOM {
         return short();
     }
-    if !values::is_digits(serial, 10) {
+    if serial.len() != SERIAL {
+        return refused();
+    }
+    if !values::is_digits(serial, SERIAL) {
         return refused();
     }
     line_of(buf, b"/A", &wired_serial(serial), b"\r\n")
@@ -189,8 +214,16 @@ pub fn enter(buf: &mut [u8]) -> Built
 pub fn password(buf: &mut [u8], password: &[u8]) -> Built
     ensures { λ r. ⌜ Builds (now (buf .entry)) (goodPassword (now (password .entry))) (onWire (frameOf P1 (passwordData (now (password .entry))))) r (now (buf .exit)) ⌝ }
 {
-    let good = values::is_digits(password, 8);
-    build(buf, good, b"\x01P1\x02(", password)
+    if buf.len() < ROOM {
+        return short();
+    }
+    if password.len() != PASSWORD {
+        return refused();
+    }
+    if !values::is_digits(password, PASSWORD) {
+        return refused();
+    }
+    frame(buf, b"\x01P1\x02(", password)
 }
 
 // R1 for the clock.
@@ -314,8 +347,16 @@ pub fn write_clock(buf: &mut [u8], c: Clock) -> Built
 pub fn write_account(buf: &mut [u8], account: &[u8]) -> Built
     ensures { λ r. ⌜ Builds (now (buf .entry)) (goodAccount (now (account .entry))) (onWire (frameOf W1 (setAccount (now (account .entry))))) r (now (buf .exit)) ⌝ }
 {
-    let good = values::is_account(account);
-    build(buf, good, b"\x01W1\x02K(", account)
+    if buf.len() < ROOM {
+        return short();
+    }
+    if account.len() != ACCOUNT {
+        return refused();
+    }
+    if !values::is_account(account) {
+        return refused();
+    }
+    aside(buf, b"\x01W1\x02K(", account)
 }
 
 // A table's number and its row, as they are written.
@@ -337,11 +378,14 @@ pub fn write_table_of(buf: &mut [u8], tables: u8, table: TableNo, row: &[u8]) ->
     if buf.len() < ROOM {
         return short();
     }
+    if row.len() != values::ROW_LENGTH {
+        return refused();
+    }
     let good = values::is_table(table, tables) & values::is_row(row);
     if !good {
         return refused();
     }
-    frame(buf, b"\x01W1\x02Z(", &shown_table(table, row))
+    aside(buf, b"\x01W1\x02Z(", &shown_table(table, row))
 }
 
 // W1 for a table of an edition's meter.

@@ -6,6 +6,7 @@ ghost use lib.Dec.{eqb};
 ghost use lib.ListN.{length, replicate};
 ghost use Rattle.text.specs.Writing.{holding};
 ghost use Rattle.values.specs.Edition.{tablesOf};
+ghost use Rattle.values.specs.Registers.{goodSerial, goodPassword};
 ghost use Rattle.frames.specs.Frames.{onWire};
 ghost use Rattle.commands.specs.Spoken.{goodFields};
 ghost use Rattle.session.specs.Messages.{readOf, readsGood};
@@ -87,13 +88,16 @@ fn reads_good(tables: u8, family: u8, work: &[u8]) -> bool
     good
 }
 
-// The serial of a meter that is called by it, else zeros.
+// The serial of a meter that is called by it, else zeros. It has its length, which is tested once more so that the copy is compiled for it.
 fn serial_kept(named: u8, serial: &[u8]) -> [u8; 10]
     requires { ⌜ (named ≡ 1 → length (now serial) ≡ 10) ⌝ }
     ensures { λ r. ⌜ r ≡ cond (eqb named 1) (now (serial .entry)) (replicate 10 0) ⌝ }
 {
     let mut kept = [0u8; 10];
     if named != 1 {
+        return kept;
+    }
+    if serial.len() != 10 {
         return kept;
     }
     text::put(&mut kept, 0, serial);
@@ -109,8 +113,30 @@ fn password_kept(access: u8, password: &[u8]) -> [u8; 8]
     if access != 1 {
         return kept;
     }
+    if password.len() != 8 {
+        return kept;
+    }
     text::put(&mut kept, 0, password);
     kept
+}
+
+// A serial and a password: the length is tested first, so that the test of the digits is compiled for it.
+fn is_serial(serial: &[u8]) -> bool
+    ensures { λ r. ⌜ r ≡ goodSerial (now (serial .entry)) ⌝ }
+{
+    if serial.len() != 10 {
+        return false;
+    }
+    values::is_digits(serial, 10)
+}
+
+fn is_password(password: &[u8]) -> bool
+    ensures { λ r. ⌜ r ≡ goodPassword (now (password .entry)) ⌝ }
+{
+    if password.len() != 8 {
+        return false;
+    }
+    values::is_digits(password, 8)
 }
 
 // 9, or the session and its sign-on.
@@ -130,8 +156,8 @@ fn begin(
     ensures result { λ r. ⌜ r ≡ startedOf (opened (toldOf edition decimals named (now (serial .entry)) access (now (password .entry)) kind) count good) ⌝ }
     ensures held { λ _. ⌜ now (buf .exit) ≡ holding (now (buf .entry)) (onWire (opened (toldOf edition decimals named (now (serial .entry)) access (now (password .entry)) kind) count good .text)) ⌝ }
 {
-    let called = told_good(named, values::is_digits(serial, 10));
-    let entered = told_good(access, values::is_digits(password, 8));
+    let called = told_good(named, is_serial(serial));
+    let entered = told_good(access, is_password(password));
     if !((called & entered) & good) {
         return refuse(9, 0);
     }

@@ -4,3 +4,4 @@ pub mod RoundTrip
 pub mod Families
 pub mod Rules
 pub mod Serials
+pub mod Eights

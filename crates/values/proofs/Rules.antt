@@ -1,10 +1,10 @@
 -- What the rule of a register says of its length or its size, and the lengths of the texts that show it. Assumes nothing.
 use mathlib.Core.Path.{_≡_, refl, _∙_}
-use mathlib.Core.Bool.{true}
+use mathlib.Core.Bool.{Bool, true, false, _&&_}
 use mathlib.Core.List.{List, _∷_}
 use Prim.Native.Nat.{ℕ, _≤_}
 use native.Mathlib.Omega.{arith}
-use borrow.Author.Tests.{eqb-true, leb-true}
+use borrow.Author.Tests.{eqb-true, leb-true, ne-eqb}
 use lib.Dec.{eqb, leb}
 use lib.ListN.{length, take, drop, length-append, length-drop}
 use lib.Seq.{length-take-le}
@@ -29,6 +29,22 @@ account-long s h = eqb-true (length s) 10 (and-left (eqb (length s) 10) (every i
 pub row-long : (s : List ℕ) → goodRow s ≡ true → length s ≡ rowLength
 unfolding goodRow
 row-long s h = eqb-true (length s) rowLength (and-left (eqb (length s) rowLength) (every (between 49 52) s) h)
+
+-- and another length lies outside it
+other-length : (n : ℕ) (s : List ℕ) (rest : Bool) → (length s ≡ n → ⊥) → (eqb (length s) n && rest) ≡ false
+other-length n s rest h = rw (ne-eqb (length s) n h)
+
+pub no-digits : (n : ℕ) (s : List ℕ) → (length s ≡ n → ⊥) → goodDigits n s ≡ false
+unfolding goodDigits
+no-digits n s h = other-length n s _ h
+
+pub no-account : (s : List ℕ) → (length s ≡ 10 → ⊥) → goodAccount s ≡ false
+unfolding goodAccount
+no-account s h = other-length 10 s _ h
+
+pub no-row : (s : List ℕ) → (length s ≡ rowLength → ⊥) → goodRow s ≡ false
+unfolding goodRow
+no-row s h = other-length rowLength s _ h
 
 pub zone-most : (n : ℕ) → goodZone n ≡ true → n ≤ 4
 unfolding goodZone between

@@ -1,7 +1,7 @@
 -- Where numbers stand in a text, and how large each can be.
 use mathlib.Core.Path.{_≡_}
 use mathlib.Core.List.{List}
-use Prim.Native.Nat.{ℕ, _+_, _≤_, _<_}
+use Prim.Native.Nat.{ℕ, _+_, _/_, _%_, _≤_, _<_}
 use lib.ListN.{length}
 use Rattle.text.specs.Decimal.{numberAt}
 use Rattle.values.specs.declared.number.Three.{Three}
@@ -18,6 +18,10 @@ pub record ThreeAt (s : List ℕ) (at : ℕ) : Type 0 where
 abbrev pub threeIn : List ℕ → ℕ → Three
 threeIn s at = record { first = numberAt s at 2; second = numberAt s (at + 3) 2; third = numberAt s (at + 6) 2 }
 
+-- three numbers in the first, the fourth and the seventh lane of a number
+abbrev pub threeOf : ℕ → Three
+threeOf p = record { first = p % 0x100; second = p / 0x1000000 % 0x100; third = p / 0x1000000000000 % 0x100 }
+
 -- as in dd-mm-yyyy;hh:nn:ss
 pub record ClockAt (s : List ℕ) : Type 0 where
   pub long : length s ≡ 19
@@ -25,13 +29,6 @@ pub record ClockAt (s : List ℕ) : Type 0 where
   pub month : numberAt s 3 2 < 100
   pub year : numberAt s 6 4 < 10000
   pub time : ThreeAt s 11
-
--- as in yy-mm-dd hh:nn
-pub record StampAt (s : List ℕ) : Type 0 where
-  pub long : length s ≡ 14
-  pub date : ThreeAt s 0
-  pub hour : numberAt s 9 2 < 100
-  pub minute : numberAt s 12 2 < 100
 
 -- as in eeeeee.eee*kWh, or as another family shows it
 pub record CounterAt (family : ℕ) (s : List ℕ) : Type 0 where

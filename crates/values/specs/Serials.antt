@@ -22,8 +22,14 @@ noSerial = record { ok = false; serial = replicate 10 0 }
 unfoldable pub serialRead : List ℕ → SerialRead
 serialRead s = cond (fits (pattern serialForm) s) (record { ok = true; serial = take 3 s ++ drop 4 s }) noSerial
 
+abbrev pub noAccount : AccountRead
+noAccount = record { ok = false; account = replicate 10 0 }
+
 unfoldable pub accountRead : List ℕ → AccountRead
-accountRead s = cond (goodAccount s) (record { ok = true; account = s }) (record { ok = false; account = replicate 10 0 })
+accountRead s = cond (goodAccount s) (record { ok = true; account = s }) noAccount
+
+abbrev pub noRow : RowRead
+noRow = record { ok = false; row = replicate rowLength 0 }
 
 unfoldable pub rowRead : List ℕ → RowRead
-rowRead s = cond (goodRow s) (record { ok = true; row = s }) (record { ok = false; row = replicate rowLength 0 })
+rowRead s = cond (goodRow s) (record { ok = true; row = s }) noRow

@@ -3,7 +3,8 @@ ghost use mathlib.Core.Path.{_≡_};
 ghost use mathlib.Core.List.{_++_};
 ghost use lib.ListN.{length, take, drop};
 ghost use Rattle.values.specs.Edition.{rowLength};
-ghost use Rattle.values.specs.Serials.{serialRead, accountRead, rowRead};
+ghost use Rattle.text.specs.Layout.{pattern, fits};
+ghost use Rattle.values.specs.Serials.{serialForm, noSerial, noAccount, noRow, serialRead, accountRead, rowRead};
 
 pub struct SerialRead {
     pub ok: bool,
@@ -20,6 +21,29 @@ pub struct RowRead {
     pub row: [u8; crate::ROW_LENGTH],
 }
 
+// What `### ####` and ` #######`, the first and the last eight, have in their lanes: the least characters, the bits that those of a lane share,
+// and what a digit has to spare.
+const FIRST: u64 = 0x3030_3030_2030_3030;
+
+const FIRST_BITS: u64 = 0xF0F0_F0F0_FFF0_F0F0;
+
+const FIRST_SPARE: u64 = 0x0606_0606_0006_0606;
+
+const LAST: u64 = 0x3030_3030_3030_3020;
+
+const LAST_BITS: u64 = 0xF0F0_F0F0_F0F0_F0FF;
+
+const LAST_SPARE: u64 = 0x0606_0606_0606_0600;
+
+// Whether eleven characters are `nnn nnnnnnn`.
+fn is_serial(s: &[u8]) -> bool
+    requires { ⌜ length (now s) ≡ 11 ⌝ }
+    ensures { λ r. ⌜ r ≡ fits (pattern serialForm) (now (s .entry)) ⌝ }
+{
+    let first = eights::keeps_form(eights::eight(s, 0), FIRST, FIRST_BITS, FIRST_SPARE);
+    first & eights::keeps_form(eights::eight(s, 3), LAST, LAST_BITS, LAST_SPARE)
+}
+
 // The ten digits around the space.
 fn digits_of(s: &[u8]) -> [u8; 10]
     requires { ⌜ length (now s) ≡ 11 ⌝ }
@@ -31,21 +55,30 @@ fn digits_of(s: &[u8]) -> [u8; 10]
     digits
 }
 
+fn no_serial() -> SerialRead
+    ensures { λ r. ⌜ r ≡ noSerial ⌝ }
+{
+    SerialRead {
+        ok: false,
+        serial: [0u8; 10],
+    }
+}
+
 // A serial from `nnn nnnnnnn`.
 pub fn read_serial(s: &[u8]) -> SerialRead
     ensures { λ r. ⌜ r ≡ serialRead (now (s .entry)) ⌝ }
 {
-    if text::has_form(b"### #######", s) {
+    if s.len() != 11 {
+        return no_serial();
+    }
+    if is_serial(s) {
         let digits = digits_of(s);
         return SerialRead {
             ok: true,
             serial: digits,
         };
     }
-    SerialRead {
-        ok: false,
-        serial: [0u8; 10],
-    }
+    no_serial()
 }
 
 fn ten_of(s: &[u8]) -> [u8; 10]
@@ -57,10 +90,22 @@ fn ten_of(s: &[u8]) -> [u8; 10]
     copy
 }
 
-// An account, as it stands.
+fn no_account() -> AccountRead
+    ensures { λ r. ⌜ r ≡ noAccount ⌝ }
+{
+    AccountRead {
+        ok: false,
+        account: [0u8; 10],
+    }
+}
+
+// An account, as it stands. The length is tested first, so that the test of the characters is compiled for it.
 pub fn read_account(s: &[u8]) -> AccountRead
     ensures { λ r. ⌜ r ≡ accountRead (now (s .entry)) ⌝ }
 {
+    if s.len() != 10 {
+        return no_account();
+    }
     if crate::is_account(s) {
         let account = ten_of(s);
         return AccountRead {
@@ -68,10 +113,7 @@ pub fn read_account(s: &[u8]) -> AccountRead
             account: account,
         };
     }
-    AccountRead {
-        ok: false,
-        account: [0u8; 10],
-    }
+    no_account()
 }
 
 fn row_of(s: &[u8]) -> [u8; crate::ROW_LENGTH]
@@ -83,16 +125,25 @@ fn row_of(s: &[u8]) -> [u8; crate::ROW_LENGTH]
     copy
 }
 
-// A table's row, as it stands.
-pub fn read_row(s: &[u8]) -> RowRead
-    ensures { λ r. ⌜ r ≡ rowRead (now (s .entry)) ⌝ }
+fn no_row() -> RowRead
+    ensures { λ r. ⌜ r ≡ noRow ⌝ }
 {
-    if crate::is_row(s) {
-        let row = row_of(s);
-        return RowRead { ok: true, row: row };
-    }
     RowRead {
         ok: false,
         row: [0u8; crate::ROW_LENGTH],
     }
+}
+
+// A table's row, as it stands.
+pub fn read_row(s: &[u8]) -> RowRead
+    ensures { λ r. ⌜ r ≡ rowRead (now (s .entry)) ⌝ }
+{
+    if s.len() != crate::ROW_LENGTH {
+        return no_row();
+    }
+    if crate::is_row(s) {
+        let row = row_of(s);
+        return RowRead { ok: true, row: row };
+    }
+    no_row()
 }

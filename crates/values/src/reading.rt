@@ -1,11 +1,13 @@
 // Dates, times, counters and table numbers read back from their texts.
 ghost use mathlib.Core.Path.{_≡_};
-ghost use Prim.Native.Nat.{_+_, _<_};
+ghost use Prim.Native.Nat.{_+_, _-_, _*_, _<_, _≤_, _^_};
 ghost use Rattle.values.specs.Family.{counterDigits, counterDecimals};
 ghost use Rattle.text.specs.Layout.{pattern, fits};
-ghost use Rattle.values.specs.Numbers.{ClockAt, StampAt, CounterAt};
+ghost use Rattle.values.specs.Numbers.{ClockAt, CounterAt, threeOf};
+ghost use Rattle.clock.specs.Seconds.{dateOf};
+ghost use Rattle.eights.specs.Lanes.{paired};
 ghost use Rattle.values.specs.Texts.{counterForm};
-ghost use Rattle.values.specs.Reading.{someDate, someTime, someClock, noClock, clockIn, someStamp, noStamp, stampIn, counterIn, someTable, dateRead, timeRead, clockRead, stampRead, energyRead, tableRead};
+ghost use Rattle.values.specs.Reading.{someDate, someTime, someClock, noClock, clockIn, noDate, noTime, someStamp, noStamp, counterIn, someTable, dateRead, timeRead, clockRead, stampRead, energyRead, tableRead};
 use crate::TableNo;
 use crate::family::counter_decimals;
 use crate::family::counter_digits;
@@ -17,6 +19,31 @@ use clock::Clock;
 use clock::Date;
 use clock::Stamp;
 use clock::Time;
+
+// What `##-##-##`, `##:##:##` and `## ##:##` have in their lanes: the least characters, the bits that those of a lane share, and what a digit
+// has to spare.
+const DATE: u64 = 0x3030_2D30_302D_3030;
+
+const TIME: u64 = 0x3030_3A30_303A_3030;
+
+const HOURS: u64 = 0x3030_3A30_3020_3030;
+
+const BITS: u64 = 0xF0F0_FFF0_F0FF_F0F0;
+
+const SPARE: u64 = 0x0606_0006_0600_0606;
+
+// The three numbers of two digits in eight such characters.
+fn three_above(w: u64, least: u64) -> Three
+    requires { ⌜ (least ≤ w) × ((w - least) * 11 < 2 ^ 64) ⌝ }
+    ensures { λ r. ⌜ r ≡ threeOf (paired (w - least)) ⌝ }
+{
+    let p = eights::pairs(w, least);
+    Three {
+        first: (p % 0x100) as u8,
+        second: (p / 0x100_0000 % 0x100) as u8,
+        third: (p / 0x1_0000_0000_0000 % 0x100) as u8,
+    }
+}
 
 pub struct DateRead {
     pub ok: bool,
@@ -76,13 +103,9 @@ fn date_of(t: Three) -> DateRead
     }
 }
 
-// A date from `yy-mm-dd`, of 20yy.
-pub fn read_date(s: &[u8]) -> DateRead
-    ensures { λ r. ⌜ r ≡ dateRead (now (s .entry)) ⌝ }
+fn no_date() -> DateRead
+    ensures { λ r. ⌜ r ≡ noDate ⌝ }
 {
-    if text::has_form(b"##-##-##", s) {
-        return date_of(three_at(s, 0));
-    }
     DateRead {
         ok: false,
         date: Date {
@@ -91,6 +114,20 @@ pub fn read_date(s: &[u8]) -> DateRead
             day: 0,
         },
     }
+}
+
+// A date from `yy-mm-dd`, of 20yy.
+pub fn read_date(s: &[u8]) -> DateRead
+    ensures { λ r. ⌜ r ≡ dateRead (now (s .entry)) ⌝ }
+{
+    if s.len() != 8 {
+        return no_date();
+    }
+    let w = eights::eight(s, 0);
+    if eights::keeps_form(w, DATE, BITS, SPARE) {
+        return date_of(three_above(w, DATE));
+    }
+    no_date()
 }
 
 // The time that three numbers say, if it is real.
@@ -120,13 +157,9 @@ fn time_of(t: Three) -> TimeRead
     }
 }
 
-// A time from `hh:nn:ss`.
-pub fn read_time(s: &[u8]) -> TimeRead
-    ensures { λ r. ⌜ r ≡ timeRead (now (s .entry)) ⌝ }
+fn no_time() -> TimeRead
+    ensures { λ r. ⌜ r ≡ noTime ⌝ }
 {
-    if text::has_form(b"##:##:##", s) {
-        return time_of(three_at(s, 0));
-    }
     TimeRead {
         ok: false,
         time: Time {
@@ -135,6 +168,20 @@ pub fn read_time(s: &[u8]) -> TimeRead
             second: 0,
         },
     }
+}
+
+// A time from `hh:nn:ss`.
+pub fn read_time(s: &[u8]) -> TimeRead
+    ensures { λ r. ⌜ r ≡ timeRead (now (s .entry)) ⌝ }
+{
+    if s.len() != 8 {
+        return no_time();
+    }
+    let w = eights::eight(s, 0);
+    if eights::keeps_form(w, TIME, BITS, SPARE) {
+        return time_of(three_above(w, TIME));
+    }
+    no_time()
 }
 
 // The clock of a text of its form, real or not.
@@ -200,22 +247,18 @@ pub fn read_clock(s: &[u8]) -> ClockRead
     no_clock()
 }
 
-// The stamp of a text of its form, real or not.
-fn stamp_in(s: &[u8]) -> Stamp
-    requires { ⌜ StampAt (now s) ⌝ }
-    ensures { λ r. ⌜ r ≡ stampIn (now (s .entry)) ⌝ }
+// The stamp that year and month, and then day, hour and minute say, real or not.
+fn stamp_of(a: Three, b: Three) -> Stamp
+    ensures { λ r. ⌜ r ≡ record { date = dateOf (2000 + a .first) (a .second) (b .first); hour = b .second; minute = b .third } ⌝ }
 {
-    let d = three_at(s, 0);
-    let h = two(s, 9);
-    let n = two(s, 12);
     Stamp {
         date: Date {
-            year: 2000 + d.first as u16,
-            month: d.second,
-            day: d.third,
+            year: 2000 + a.first as u16,
+            month: a.second,
+            day: b.first,
         },
-        hour: h as u8,
-        minute: n as u8,
+        hour: b.second,
+        minute: b.third,
     }
 }
 
@@ -250,8 +293,15 @@ fn no_stamp() -> StampRead
 pub fn read_stamp(s: &[u8]) -> StampRead
     ensures { λ r. ⌜ r ≡ stampRead (now (s .entry)) ⌝ }
 {
-    if text::has_form(b"##-##-## ##:##", s) {
-        return stamp_if_real(stamp_in(s));
+    if s.len() != 14 {
+        return no_stamp();
+    }
+    let w = eights::eight(s, 0);
+    let v = eights::eight(s, 6);
+    let first = eights::keeps_form(w, DATE, BITS, SPARE);
+    let last = eights::keeps_form(v, HOURS, BITS, SPARE);
+    if first & last {
+        return stamp_if_real(stamp_of(three_above(w, DATE), three_above(v, HOURS)));
     }
     no_stamp()
 }

@@ -152,20 +152,24 @@ pub fn put_stamp(buf: &mut [u8], at: usize, stamp: Stamp) -> usize
     text::put(buf, a, &shown)
 }
 
-// A number's last nine digits.
+// A number's last nine digits. It is parted into numbers of four digits first: those are of 16 bits, whose digits a processor that cannot
+// divide has by a product.
 fn nine_digits(n: u32) -> [u8; 9]
     ensures { λ r. ⌜ r ≡ decimal 9 n ⌝ }
 {
+    let above = n / 10_000;
+    let mid = (above % 10_000) as u16;
+    let low = (n % 10_000) as u16;
     [
-        b'0' + (n / 10 / 10 / 10 / 10 / 10 / 10 / 10 / 10 % 10) as u8,
-        b'0' + (n / 10 / 10 / 10 / 10 / 10 / 10 / 10 % 10) as u8,
-        b'0' + (n / 10 / 10 / 10 / 10 / 10 / 10 % 10) as u8,
-        b'0' + (n / 10 / 10 / 10 / 10 / 10 % 10) as u8,
-        b'0' + (n / 10 / 10 / 10 / 10 % 10) as u8,
-        b'0' + (n / 10 / 10 / 10 % 10) as u8,
-        b'0' + (n / 10 / 10 % 10) as u8,
-        b'0' + (n / 10 % 10) as u8,
-        b'0' + (n % 10) as u8,
+        b'0' + (above / 10_000 % 10) as u8,
+        b'0' + (mid / 10 / 10 / 10 % 10) as u8,
+        b'0' + (mid / 10 / 10 % 10) as u8,
+        b'0' + (mid / 10 % 10) as u8,
+        b'0' + (mid % 10) as u8,
+        b'0' + (low / 10 / 10 / 10 % 10) as u8,
+        b'0' + (low / 10 / 10 % 10) as u8,
+        b'0' + (low / 10 % 10) as u8,
+        b'0' + (low % 10) as u8,
     ]
 }
 

@@ -1,23 +1,31 @@
--- `commands::password` meets its contract: eight digits in the brackets of P1. Assumes nothing.
+-- `commands::password` meets its contract: too short a buffer, a field of another length or outside its rule, or the command as it was made. Assumes nothing.
 use mathlib.Core.Path.{sym, _∙_}
-use native.Mathlib.Omega.{arith}
+use borrow.Author.Tests.{not-true, not-false}
 use borrow.Author.Needs.{needs}
-use lib.Dec.{lit≤}
-use Rattle.values.proofs.Rules.{digits-long}
 use Rattle.frames.specs.Commands.{bracketed}
 use Rattle.frames.specs.Session.{passwordData}
 use Rattle.frames.specs.Frames.{frameOf, sealed}
-use Rattle.commands.proofs.Making.{judged}
+use Rattle.values.proofs.Rules.{no-digits}
+use Rattle.commands.proofs.Making.{too-short, built, field-refused}
 use Rattle.commands.proofs.password.Statement.{statement}
 use Rattle.commands.proofs.password.Tie as tie
 
-build-requires : tie.Need-build-requires
-build-requires c κs =
-    record { begun = lit≤ tt; small = λ ok. omega (arith, digits-long 8 (c .before .before .before .before .before .args .password .now) (sym (c .before .before .is-digits .ensures) ∙ ok)) }
-
 returns : tie.Need-returns
+returns c = too-short _ _ _ _ (c .before .if1 .taken) (c .short .ensures)
+
+returns-2 : tie.Need-returns-2
+returns-2 c = field-refused _ _ _ _ (c .before .before .if1 .left) (no-digits 8 (c .before .before .before .before .before .args .password .now) (c .before .if2 .taken)) (c .refused .ensures)
+
+returns-3 : tie.Need-returns-3
+returns-3 c =
+    field-refused _ _ _ _ (c .before .before .before .before .if1 .left) (sym (c .before .before .is-digits .ensures) ∙ not-true _ (c .before .if3 .taken)) (c .refused2 .ensures)
+
+returns-4 : tie.Need-returns-4
 unfolding frameOf sealed passwordData bracketed
-returns c = judged _ _ _ _ _ _ (c .before .before .before .before .before .is-digits .ensures) (c .before .before .build .ensures)
+returns-4 c =
+    let c5 = c .before .before .before .before .before in
+    let c6 = c5 .before in
+    built _ _ _ _ _ (c6 .before .before .if1 .left) (sym (c6 .is-digits .ensures) ∙ not-false _ (c5 .if3 .left)) (c .before .before .frame .ensures)
 
 pub password-spec : {M : Type 1} → statement M
-password-spec = tie.close (tie.spec (λ c κs. search needs) (λ c. search needs) build-requires (λ c. search needs) returns)
+password-spec = tie.close (tie.spec (λ c κs. search needs) returns (λ c κs. search needs) returns-2 (λ c κs. search needs) (λ c κs. search needs) returns-3 (λ c. search needs) (λ c κs. search needs) (λ c. search needs) returns-4)

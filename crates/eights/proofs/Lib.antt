@@ -1,0 +1,4 @@
+pub mod Lanes
+pub mod Forms
+pub mod Neighbours
+pub mod Windows
