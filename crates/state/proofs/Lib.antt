@@ -5,3 +5,4 @@ pub mod Totals
 pub mod Archives
 pub mod Places
 pub mod Elements
+pub mod Fours

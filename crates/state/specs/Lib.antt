@@ -1,5 +1,6 @@
 pub mod Sizes
 pub mod Link
+pub mod Fours
 pub mod WellFormed
 pub mod Making
 pub mod Setting

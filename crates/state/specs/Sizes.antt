@@ -17,3 +17,10 @@ replyRoom = 4096
 -- [12]: an archive keeps 12 periods at most
 abbrev pub periodPlaces : ℕ
 periodPlaces = 12
+
+-- the places of all rows, and those that a meter of every edition uses: all but the last row
+abbrev pub allRows : ℕ
+allRows = 600
+
+abbrev pub firstRows : ℕ
+firstRows = 576

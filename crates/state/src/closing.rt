@@ -1,18 +1,21 @@
 // The archive of closed periods: whether it is well-formed, and a period closed.
 ghost use mathlib.Core.Path.{_≡_};
-ghost use mathlib.Core.Bool.{true, _&&_};
+ghost use mathlib.Core.Bool.{true, cond, _&&_};
 ghost use lib.Dec.{leb};
 ghost use Prim.Native.Nat.{_≤_};
 ghost use lib.ListN.{length, take, drop};
+ghost use Rattle.clock.specs.Seconds.{realStamp};
 ghost use Rattle.state.specs.Sizes.{periodPlaces};
-ghost use Rattle.state.specs.WellFormed.{zonesBelow, bothBelow, periodGood, noTime, unused, placeGood, everyPeriod, archiveGood};
-ghost use Rattle.state.specs.Closing.{oneMore, closedWith, closing};
+ghost use Rattle.state.specs.WellFormed.{zonesBelow, bothBelow, noTime, unused, placeGood, everyPeriod, archiveGood};
+ghost use Rattle.state.specs.Closing.{oneMore, closedWith, periodOf, closing};
 ghost use Rattle.state.specs.Making.{noPeriod, emptyArchive};
 use crate::Archive;
+use crate::Counters;
 use crate::PERIODS;
 use crate::Period;
 use crate::Registers;
 use crate::setting::with_archive;
+use clock::Clock;
 use clock::Date;
 use clock::Stamp;
 use values::family;
@@ -61,14 +64,6 @@ fn both_below(p: Period, end: u32, out: u32) -> bool
     four_below(zones, end) & four_below(exported, out)
 }
 
-// Whether a period has a real time and the counters of a family.
-fn period_good(p: Period, family: u8) -> bool
-    ensures { λ r. ⌜ r ≡ periodGood family p ⌝ }
-{
-    clock::is_stamp(p.closed)
-        & both_below(p, family::counter_end(family), family::export_end(family))
-}
-
 fn has_no_time(s: Stamp) -> bool
     ensures { λ r. ⌜ r ≡ noTime s ⌝ }
 {
@@ -76,11 +71,24 @@ fn has_no_time(s: Stamp) -> bool
     ((d.year == 0) & ((d.month == 0) & (d.day == 0))) & ((s.hour == 0) & (s.minute == 0))
 }
 
-// Whether a place is all 0.
-fn is_unused(p: Period) -> bool
-    ensures { λ r. ⌜ r ≡ unused p ⌝ }
+// Whether a period that is kept has a real time, and an unused place none.
+fn time_good(s: Stamp, used: bool) -> bool
+    ensures { λ r. ⌜ r ≡ cond used (realStamp s) (noTime s) ⌝ }
 {
-    has_no_time(p.closed) & both_below(p, 1, 1)
+    if used {
+        return clock::is_stamp(s);
+    }
+    has_no_time(s)
+}
+
+// Where a place's counters end: unused ones are 0.
+fn end_at(used: bool, end: u32) -> u32
+    ensures { λ r. ⌜ r ≡ cond used end 1 ⌝ }
+{
+    if used {
+        return end;
+    }
+    1
 }
 
 // Whether there are places for so many periods.
@@ -94,10 +102,12 @@ fn count_good(count: u8) -> bool
 fn place_good(p: Period, i: usize, count: u8, family: u8) -> bool
     ensures { λ r. ⌜ r ≡ placeGood family count i p ⌝ }
 {
-    if i < count as usize {
-        return period_good(p, family);
+    let used = i < count as usize;
+    if time_good(p.closed, used) {
+        let end = end_at(used, family::counter_end(family));
+        return both_below(p, end, end_at(used, family::export_end(family)));
     }
-    is_unused(p)
+    false
 }
 
 // Whether all was good so far, and this place too.
@@ -170,19 +180,26 @@ fn with_period(a: Archive, p: Period) -> Archive
     }
 }
 
+// An archive with a period closed, at this time and with these counters.
+pub fn close_with(a: Archive, clock: Clock, counters: Counters, exported: Counters) -> Archive
+    requires { ⌜ ((a .count ≤ periodPlaces) × (length (a .periods) ≡ periodPlaces)) × (everyPeriod unused (drop (a .count) (a .periods)) ≡ true) ⌝ }
+    ensures { λ r. ⌜ r ≡ closedWith (periodOf clock counters exported) a ⌝ }
+{
+    let zones = counters.zones;
+    let out = exported.zones;
+    let p = Period {
+        closed: clock::stamp_of(clock),
+        zones,
+        exported: out,
+    };
+    with_period(a, p)
+}
+
 // The registers with a period closed, at their clock and with their counters.
 pub fn close(g: Registers) -> Registers
     requires { ⌜ archiveGood (g .facts .decimals) (g .archive) ≡ true ⌝ }
     ensures { λ r. ⌜ r ≡ closing g ⌝ }
 {
-    let counters = g.counters;
-    let zones = counters.zones;
-    let out = g.exported;
-    let exported = out.zones;
-    let p = Period {
-        closed: clock::stamp_of(g.clock),
-        zones,
-        exported,
-    };
-    with_archive(g, with_period(g.archive, p))
+    let a = close_with(g.archive, g.clock, g.counters, g.exported);
+    with_archive(g, a)
 }

@@ -1,11 +1,13 @@
 // The meter's state: what it is made of, what is well-formed, and how a new one is made.
 ghost use mathlib.Core.Path.{_≡_};
-ghost use mathlib.Core.Bool.{true};
-ghost use Prim.Native.Nat.{_≤_};
-ghost use lib.ListN.{length};
+ghost use mathlib.Core.Bool.{true, _&&_};
+ghost use Prim.Native.Nat.{_+_, _-_, _%_, _≤_};
+ghost use lib.ListN.{length, take, drop};
 ghost use Rattle.line.specs.Runs.{every};
+ghost use Rattle.text.specs.Classes.{between};
 ghost use Rattle.values.specs.Edition.{isEdition};
-ghost use Rattle.state.specs.Sizes.{heldPlaces};
+ghost use Rattle.state.specs.Sizes.{mostHeld, heldPlaces, firstRows, allRows};
+ghost use Rattle.state.specs.Fours.{inRow, lastGood};
 ghost use Rattle.state.specs.WellFormed.{limit, firstGood, heldGood, below, zonesBelow, total, countersGood, directionsGood, tablesGood, linkGood, factsGood, factoryGood, editionOf, wellFormed, speedGood, hurtGood};
 ghost use Rattle.state.specs.Making.{noCounters, newRows, meterOf, blankMeter, factsRefused, notMade, madeOf};
 use clock::Clock;
@@ -20,6 +22,7 @@ pub mod closing;
 pub mod link;
 pub mod pieces;
 pub mod setting;
+mod words;
 
 // A receiver holds so many characters at most.
 pub const MOST_HELD: u8 = 63;
@@ -142,21 +145,40 @@ fn hurt_good(count: u8, mark: u8, place: u8) -> bool
     place == 0
 }
 
-// Whether 64 characters are within 0 to 127, and 0 from the count on. As long as a place is below the count, `below` is 128 or more: it has
-// eight bits like the characters, so that the compiler tests many places at once.
+// Whether the places from the count on, up to a whole word, hold 0.
+fn part_unused(held: &[u8], count: u8) -> bool
+    requires { ⌜ (length (now held) ≡ heldPlaces) × (count ≤ mostHeld) ⌝ }
+    ensures { λ r. ⌜ r ≡ every (between 0 0) (drop (count % 4) (take 4 (drop (count - count % 4) (now (held .entry))))) ⌝ }
+{
+    let used = count % 4;
+    let at = (count - used) as usize;
+    words::part(held[at], held[at + 1], held[at + 2], held[at + 3], used) == 0
+}
+
+// Whether 64 characters are within 0 to 127, and 0 in each word behind that of the count. Both are gathered four at a time.
+fn words_held(held: &[u8], count: u8) -> bool
+    requires { ⌜ (length (now held) ≡ heldPlaces) × (count ≤ mostHeld) ⌝ }
+    ensures { λ r. ⌜ r ≡ (every (between 0 127) (now (held .entry)) && every (between 0 0) (drop (count - count % 4 + 4) (now (held .entry)))) ⌝ }
+{
+    let mut all: u32 = 0;
+    let mut behind: u32 = 0;
+    let mut i: u32 = 0;
+    while i < HELD_PLACES as u32 {
+        let at = i as usize;
+        let four = words::four(held[at], held[at + 1], held[at + 2], held[at + 3]);
+        all = all | four;
+        behind = behind | words::four_if((count as u32) < i, four);
+        i += 4;
+    }
+    words::is_seven(all) & (behind == 0)
+}
+
+// Whether 64 characters are within 0 to 127, and 0 from the count on.
 fn held_good(held: &[u8], count: u8) -> bool
-    requires { ⌜ (length (now held) ≡ heldPlaces) × (count ≤ heldPlaces) ⌝ }
+    requires { ⌜ (length (now held) ≡ heldPlaces) × (count ≤ mostHeld) ⌝ }
     ensures { λ r. ⌜ r ≡ heldGood (now (held .entry)) count ⌝ }
 {
-    let mut ok = true;
-    let mut below = count + 127;
-    let mut i = 0;
-    while i < held.len() {
-        ok = ok & ((held[i] <= 127) & ((128 <= below) | (held[i] == 0)));
-        below -= 1;
-        i += 1;
-    }
-    ok
+    words_held(held, count) & part_unused(held, count)
 }
 
 // Whether every number is below an end.
@@ -207,13 +229,49 @@ fn directions_good(counters: Counters, exported: Counters, family: u8) -> bool
         & counters_good(exported, family::export_end(family))
 }
 
+// What strays from '1' to '4' in the rows that every edition has, gathered four characters at a time.
+fn rows_stray(s: &[u8]) -> u32
+    requires { ⌜ length (now s) ≡ allRows ⌝ }
+    ensures { λ r. ⌜ inRow r ≡ every (between 49 52) (take firstRows (now (s .entry))) ⌝ }
+{
+    let mut bad: u32 = 0;
+    let mut i: u32 = 0;
+    while i < FIRST_ROWS as u32 {
+        let at = i as usize;
+        bad = bad | words::above_one(words::four(s[at], s[at + 1], s[at + 2], s[at + 3]));
+        i += 4;
+    }
+    bad
+}
+
+// Whether the last row is one of edition 2, or else unused. Both are gathered, so that four characters stay one number.
+fn last_good(s: &[u8], used: bool) -> bool
+    requires { ⌜ length (now s) ≡ allRows ⌝ }
+    ensures { λ r. ⌜ r ≡ lastGood used (drop firstRows (now (s .entry))) ⌝ }
+{
+    let mut bad: u32 = 0;
+    let mut bits: u32 = 0;
+    let mut i = FIRST_ROWS as u32;
+    while i < ALL_ROWS as u32 {
+        let at = i as usize;
+        let four = words::four(s[at], s[at + 1], s[at + 2], s[at + 3]);
+        bad = bad | words::above_one(four);
+        bits = bits | four;
+        i += 4;
+    }
+    if used {
+        return words::is_in_row(bad);
+    }
+    bits == 0
+}
+
 // Whether so many rows hold '1' to '4', and the places behind them 0.
 fn tables_good(s: &[u8], tables: u8) -> bool
+    requires { ⌜ (length (now s) ≡ allRows) × ((24 ≤ tables) × (tables ≤ 25)) ⌝ }
     ensures { λ r. ⌜ r ≡ tablesGood tables (now (s .entry)) ⌝ }
 {
-    let end = tables as usize * ROW_LENGTH;
-    let rows = text::all_between(text::first(s, end), 49, 52);
-    (s.len() == ALL_ROWS) & (rows & text::all_between(text::rest(s, end), 0, 0))
+    let rows = words::is_in_row(rows_stray(s));
+    rows & last_good(s, tables == TABLE_PLACES as u8)
 }
 
 fn link_good(link: u8) -> bool

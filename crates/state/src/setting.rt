@@ -59,7 +59,7 @@ pub fn with_receiver(m: Meter, r: Receiver) -> Meter
 }
 
 // A session keeps its speed; modes 0 and 1 have that of the link.
-fn speed_in(link: u8, mode: u8, speed: u8) -> u8
+pub fn speed_in(link: u8, mode: u8, speed: u8) -> u8
     ensures { λ r. ⌜ r ≡ speedIn link mode speed ⌝ }
 {
     if 2 <= mode { speed } else { rest_speed(link) }
