@@ -3,10 +3,9 @@ use mathlib.Core.Path.{_≡_, refl, ap, _∙_}
 use mathlib.Core.List.{List, [], _∷_, _++_, append-assoc}
 use Prim.Native.Nat.{ℕ, _+_, _≤_}
 use native.Mathlib.Omega.{arith}
-use lib.ListN.{length, take, length-append, drop-of-length-le}
-use lib.Seq.{take-all}
-use Rattle.text.specs.Writing.{stored, holding}
-use Rattle.text.proofs.Writing.{and-then, stored-holding}
+use lib.ListN.{length, length-append}
+use Rattle.text.specs.Writing.{stored}
+use Rattle.text.proofs.Writing.{and-then}
 use Rattle.datasets.specs.Sets.{DataSet, dataSet, linesOf, lineOf}
 use Rattle.datasets.proofs.Lengths.{lines-append}
 
@@ -45,9 +44,3 @@ joined s t buf at place mid next after a b =
       next = rw (lines-append s t, length-append (linesOf s) (linesOf t)) (omega (arith, a .next, b .next));
       held = rw (lines-append s t) (and-then buf at (linesOf s) mid place (linesOf t) after (a .held) (a .next) (b .held));
     }
-
--- a text as long as the buffer fills it
-pub filled : (buf s : List ℕ) (n : ℕ) → length s ≡ length buf → length s ≤ n → stored buf 0 (take n s) ≡ s
-unfolding holding
-filled buf s n e h =
-    rw (take-all n s h) (stored-holding buf s (omega arith) ∙ (rw (drop-of-length-le buf {i = length s} (omega arith)) (append-nil s)))

@@ -3,7 +3,7 @@
 ghost use mathlib.Core.Path.{_≡_};
 ghost use mathlib.Core.List.{_++_};
 ghost use Prim.Native.Nat.{_+_, _≤_};
-ghost use lib.ListN.{length};
+ghost use lib.ListN.{length, take, drop};
 ghost use Rattle.line.specs.Quoted.{chars};
 ghost use Rattle.text.specs.Writing.{stored};
 ghost use Rattle.values.specs.Edition.{rowLength};
@@ -92,19 +92,30 @@ pub fn put_energy_set(buf: &mut [u8], at: usize, e: Energy, n: u32, out: bool, f
     put_counter_set(buf, at, &opening, n, family)
 }
 
-// A whole row. It is copied out first: two moves each way, as the length is fixed and a local array is apart from the buffer.
+// Eight characters of a row. They are copied out first: one move or two each way, as their number is fixed and a local array is apart from the buffer.
+fn put_eight(buf: &mut [u8], at: usize, row: &[u8], from: usize) -> usize
+    requires { ⌜ (from + 8 ≤ length (now row)) × (at + 8 ≤ length (now buf)) ⌝ }
+    ensures next { λ r. ⌜ r ≡ at + 8 ⌝ }
+    ensures held { λ _. ⌜ now (buf .exit) ≡ stored (now (buf .entry)) at (take 8 (drop from (now (row .entry)))) ⌝ }
+{
+    let mut copy = [0u8; 8];
+    let mut i = 0;
+    while i < 8 {
+        copy[i] = row[from + i];
+        i += 1;
+    }
+    text::put(buf, at, &copy)
+}
+
+// A whole row, in three parts that a processor with small registers moves too.
 fn put_whole_row(buf: &mut [u8], at: usize, row: &[u8]) -> usize
     requires { ⌜ (length (now row) ≡ rowLength) × (at + rowLength ≤ length (now buf)) ⌝ }
     ensures next { λ r. ⌜ r ≡ at + rowLength ⌝ }
     ensures held { λ _. ⌜ now (buf .exit) ≡ stored (now (buf .entry)) at (now (row .entry)) ⌝ }
 {
-    let mut copy = [0u8; ROW_LENGTH];
-    let mut i = 0;
-    while i < ROW_LENGTH {
-        copy[i] = row[i];
-        i += 1;
-    }
-    text::put(buf, at, &copy)
+    let a = put_eight(buf, at, row, 0);
+    let b = put_eight(buf, a, row, 8);
+    put_eight(buf, b, row, 16)
 }
 
 // A row of any length.

@@ -4,10 +4,12 @@ use mathlib.Core.List.{List, [], _∷_, _++_, append-assoc, map}
 use Prim.Native.Nat.{ℕ, zero, suc, _+_, _-_, _<_, _≤_}
 use native.Mathlib.Omega.{arith}
 use native.Mathlib.Numerals.{add-one}
-use lib.ListN.{length, take, drop, set, length-append, length-map, length-take}
+use lib.Bits.{bitXor, xor-self, xor-zero-l}
+use lib.ListN.{length, getD, take, drop, set, length-append, length-map, length-set, length-drop}
 use lib.Seq.{take-suc-set, take-append-seam, drop-append-seam, length-take-le, take-at, drop-at}
-use Rattle.line.specs.Characters.{sent}
+use Rattle.line.specs.Characters.{seven, sent}
 use Rattle.line.specs.Checksum.{bccOf}
+use Rattle.line.proofs.Xor.{xor-assoc}
 use Rattle.text.specs.Writing.{stored, holding}
 use Rattle.text.proofs.Writing.{stored-is}
 use Rattle.frames.specs.Frames.{closed, sealed, onWire}
@@ -26,16 +28,16 @@ closed-tail c b k h =
     (two-stores b k (bccOf (take k b ++ (3 ∷ []))) h
     ∙ sym (append-assoc (take k b ++ (3 ∷ [])) (bccOf (take k b ++ (3 ∷ [])) ∷ []) (drop (k + 2) b)))
 
-pub closing : (b : List ℕ) (n x : ℕ) → 1 ≤ n → n + 2 ≤ length b → x ≡ bccOf (take (n + 1 - 1) (drop 1 (set b n 3)))
+closing : (b : List ℕ) (n x : ℕ) → 1 ≤ n → n + 2 ≤ length b → x ≡ bccOf (drop 1 (take (n + 1) (set b n 3)))
     → set (set b n 3) (n + 1) x ≡ sealed (take n b) ++ drop (n + 2) b
 closing [] n x h r e = absurd (omega arith)
 closing (c ∷ b) zero x h r e = absurd (omega arith)
 closing (c ∷ b) (suc k) x h r e =
     let i : suc k + 1 ≡ suc (k + 1) = omega arith in
     let j : suc k + 2 ≡ suc (k + 2) = omega arith in
-    let t : suc k + 1 - 1 ≡ suc k = omega arith in
+    let t : suc k + 1 ≡ suc (suc k) = omega arith in
     let s : take (suc k) (set b k 3) ≡ take k b ++ (3 ∷ []) = take-suc-set b k 3 (omega arith) in
-    let y : x ≡ bccOf (take k b ++ (3 ∷ [])) = e ∙ ap (λ (m : ℕ). bccOf (take m (set b k 3))) t ∙ ap bccOf s in
+    let y : x ≡ bccOf (take k b ++ (3 ∷ [])) = e ∙ ap (λ (m : ℕ). bccOf (drop 1 (take m (c ∷ set b k 3)))) t ∙ ap bccOf s in
     rw (i, j, y) (closed-tail c b k (omega arith))
 
 -- and the lengths that follow
@@ -46,7 +48,7 @@ sealed-length (c ∷ xs) h =
     rw (length-append (xs ++ (3 ∷ [])) (bccOf (xs ++ (3 ∷ [])) ∷ []), length-append xs (3 ∷ [])) (omega arith)
 
 -- parity on the closed part of the buffer, as its reader sees it
-pub sending : (b : List ℕ) (n : ℕ) → 1 ≤ n → n + 2 ≤ length b
+sending : (b : List ℕ) (n : ℕ) → 1 ≤ n → n + 2 ≤ length b
     → onWire (take (n + 2) (sealed (take n b) ++ drop (n + 2) b)) ++ drop (n + 2) (sealed (take n b) ++ drop (n + 2) b)
     ≡ holding b (onWire (sealed (take n b)))
 unfolding holding
@@ -59,3 +61,35 @@ sending b n h r =
       length-map (sealed (take n b)) sent,
       l,
     )
+
+-- of a run, its first character out of the BCC of all
+pub first-out : (s : List ℕ) → 1 ≤ length s → bitXor (seven (getD s 0 0)) (bccOf s) ≡ bccOf (drop 1 s)
+unfolding bccOf
+first-out [] h = absurd (omega arith)
+first-out (c ∷ s) h = sym (xor-assoc (seven c) (seven c) (bccOf s)) ∙ ap (λ (k : ℕ). bitXor k (bccOf s)) (xor-self (seven c)) ∙ xor-zero-l (bccOf s)
+
+-- a wire byte stored behind those that were sent
+sent-store : (l : List ℕ) (k y : ℕ) → k < length l → set (map sent (take k l) ++ drop k l) k (sent y) ≡ map sent (take (suc k) (set l k y)) ++ drop (suc k) (set l k y)
+sent-store [] k y h = absurd (omega arith)
+sent-store (c ∷ l) zero y h = refl
+sent-store (c ∷ l) (suc k) y h = ap (λ (r : List ℕ). sent c ∷ r) (sent-store l k y (omega arith))
+
+-- what is sent, and that the buffer stays as long as it was
+pub through-etx : (b : List ℕ) (n : ℕ) → n + 2 ≤ length b → length (take (n + 1) (set b n 3)) ≡ n + 1
+through-etx b n r = length-take-le (n + 1) (set b n 3) (rw (length-set b n 3) (omega arith))
+
+pub kept-long : (b : List ℕ) (n : ℕ) (zs : List ℕ) → n + 2 ≤ length b → zs ≡ onWire (take (n + 1) (set b n 3)) → length (zs ++ drop (n + 1) (set b n 3)) ≡ length b
+kept-long b n zs r f =
+    let front : length zs ≡ n + 1 = ap length f ∙ (length-map (take (n + 1) (set b n 3)) sent ∙ through-etx b n r) in
+    length-append zs (drop (n + 1) (set b n 3)) ∙ omega (arith, front, length-drop (n + 1) (set b n 3), length-set b n 3)
+
+-- ETX stored, all through it sent, and the BCC sent behind it
+pub sealing-stores : (b : List ℕ) (n : ℕ) (zs : List ℕ) (sum x : ℕ) → 1 ≤ n → n + 2 ≤ length b → sum ≡ bccOf (drop 1 (take (n + 1) (set b n 3)))
+    → zs ≡ onWire (take (n + 1) (set b n 3)) → x ≡ sent sum → set (zs ++ drop (n + 1) (set b n 3)) (n + 1) x ≡ holding b (onWire (sealed (take n b)))
+sealing-stores b n zs sum x h r e f g =
+    let l = set b n 3 in
+    let next : suc (n + 1) ≡ n + 2 = omega arith in
+    let shut = set l (n + 1) sum in
+    let first : set (zs ++ drop (n + 1) l) (n + 1) x ≡ onWire (take (suc (n + 1)) shut) ++ drop (suc (n + 1)) shut =
+    rw (f, g) (sent-store l (n + 1) sum (rw (length-set b n 3) (omega arith))) in
+    first ∙ (rw (next, closing b n sum h r e) (sending b n h r))

@@ -3,19 +3,26 @@ ghost use mathlib.Core.Path.{_≡_};
 ghost use mathlib.Core.List.{_++_};
 ghost use Prim.Native.Nat.{_+_, _≤_};
 ghost use lib.ListN.{length, take, drop};
+ghost use Rattle.line.specs.Checksum.{bccOf};
 ghost use Rattle.text.specs.Writing.{holding};
 ghost use Rattle.frames.specs.Frames.{sealed, onWire};
 ghost use Rattle.frames.specs.Session.{wiredLine};
 
-// Puts ETX after the first n characters, and the BCC of all from the second on after that.
-fn close(buf: &mut [u8], n: usize)
-    requires { ⌜ (1 ≤ n) × (n + 2 ≤ length (now buf)) ⌝ }
-    ensures { λ _. ⌜ now (buf .exit) ≡ sealed (take n (now (buf .entry))) ++ drop (n + 2) (now (buf .entry)) ⌝ }
+// Puts parity on a run, and gives the BCC of all from its second character on: one pass, in which each is fetched once.
+fn send_summed(s: &mut [u8]) -> u8
+    requires { ⌜ 1 ≤ length (now s) ⌝ }
+    ensures sum { λ r. ⌜ r ≡ bccOf (drop 1 (now (s .entry))) ⌝ }
+    ensures held { λ _. ⌜ now (s .exit) ≡ onWire (now (s .entry)) ⌝ }
 {
-    let last = n + 1;
-    buf[n] = line::ETX;
-    let sum = line::bcc(&buf[1..last]);
-    buf[last] = sum;
+    let mut sum = s[0];
+    let mut i = 0;
+    while i < s.len() {
+        let c = s[i];
+        sum = sum ^ c;
+        s[i] = line::wire(c);
+        i += 1;
+    }
+    sum % 128
 }
 
 // Puts parity on the first n characters.
@@ -26,14 +33,16 @@ pub fn send(buf: &mut [u8], n: usize)
     line::put_parity(&mut buf[..n]);
 }
 
-// Closes what stands in the first n characters of the buffer, and gives the length of the whole.
+// Closes what stands in the first n characters of the buffer by ETX and BCC, and gives the length of the whole.
 pub fn seal(buf: &mut [u8], n: usize) -> usize
     requires { ⌜ (1 ≤ n) × (n + 2 ≤ length (now buf)) ⌝ }
     ensures whole { λ r. ⌜ r ≡ n + 2 ⌝ }
     ensures held { λ _. ⌜ now (buf .exit) ≡ holding (now (buf .entry)) (onWire (sealed (take n (now (buf .entry))))) ⌝ }
 {
-    close(buf, n);
-    send(buf, n + 2);
+    let last = n + 1;
+    buf[n] = line::ETX;
+    let sum = send_summed(&mut buf[..last]);
+    buf[last] = line::wire(sum);
     n + 2
 }
 

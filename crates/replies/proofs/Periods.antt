@@ -25,7 +25,7 @@ use Rattle.datasets.proofs.Joined.{Lines, joined}
 use Rattle.replies.specs.Shown.{Lengths}
 use Rattle.replies.specs.Block.{inAndOut, directionsLong, blockSets}
 use Rattle.replies.specs.Periods.{keptIn, keptSets, periodSets, periodLong, archiveSets, longSets, longData}
-use Rattle.replies.proofs.Sizes.{sets-long, both-long, came-long, went-long, directions-most}
+use Rattle.replies.proofs.Sizes.{sets-long, both-long, came-long, went-long}
 
 pub kept-long : (family : ℕ) (out : Bool) (k : ℕ) (zones : List ℕ)
     → length (linesOf (keptSets family out k zones)) ≡ 4 * (length (energyName family out) + (counterDigits family + 13))
@@ -98,14 +98,6 @@ long-content tables g h =
     length-append (linesOf (b ++ p)) (33 ∷ 13 ∷ 10 ∷ [])
     ∙ rw (lines-append b p, length-append (linesOf b) (linesOf p), periods, sets-long tables g h) (omega arith)
 
-pub long-most : (tables : ℕ) (g : Registers) → Lengths tables g → length (longData tables g) ≤ 296 + tables * 36 + g .archive .count * 226
-unfolding longData longSets
-long-most tables g h =
-    let b = blockSets tables g in
-    let p = archiveSets (familyIn g) 1 (periodsOf (g .archive)) in
-    rw (length-append (linesOf (b ++ p)) (33 ∷ 13 ∷ 10 ∷ []), lines-append b p, length-append (linesOf b) (linesOf p))
-    (omega (arith, sets-long tables g h, directions-most (familyIn g), archive-most (familyIn g) 1 (periodsOf (g .archive)), kept-many tables g h))
-
 pub long-block-long : (tables : ℕ) (g : Registers) → Lengths tables g
     → length (blockOf (longData tables g)) ≡ 79 + directionsLong (familyIn g) + tables * 36 + g .archive .count * periodLong (familyIn g)
 long-block-long tables g h = block-length (longData tables g) ∙ rw (long-content tables g h) (omega arith)
@@ -135,10 +127,3 @@ next-period family ps d buf at i place mid next after h l q e =
     rw (add-one i, take-suc ps i d h, archive-more family 1 (take i ps) p, number)
     (joined (archiveSets family 1 (take i ps)) (periodSets family (i + 1) p) buf at place mid next after l
     (record { next = q; held = e }))
-
--- the block's lines and then the periods', put in one after the other
-pub all-put-long : (tables : ℕ) (g : Registers) (buf : List ℕ) (at p1 : ℕ) (b1 : List ℕ) (p2 : ℕ) (b2 : List ℕ)
-    → Lines buf at (blockSets tables g) p1 b1 → Lines b1 p1 (archiveSets (familyIn g) 1 (periodsOf (g .archive))) p2 b2
-    → Lines buf at (longSets tables g) p2 b2
-unfolding longSets
-all-put-long tables g buf at p1 b1 p2 b2 = joined (blockSets tables g) (archiveSets (familyIn g) 1 (periodsOf (g .archive))) buf at p1 b1 p2 b2

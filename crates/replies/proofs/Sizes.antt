@@ -33,14 +33,14 @@ use Rattle.replies.specs.Shown.{Lengths, rowOf, energy}
 use Rattle.replies.specs.Answers.{askedSets, askedData}
 use Rattle.replies.specs.Block.{factSets, energySets, inAndOut, directionSets, directionsLong, tableSets, blockSets, blockData}
 
+pub take-short : {A : Type 0} (k : ℕ) (s : List A) → length (take k s) ≤ k
+take-short zero s = omega arith
+take-short (suc k) [] = omega arith
+take-short (suc k) (x ∷ s) = omega (arith, take-short k s)
+
 pub row-short : (rows : List ℕ) (n : ℕ) → length (rowOf rows n) ≤ rowLength
 unfolding rowOf
-row-short rows n = short rowLength (drop (rowStart n) rows)
-  where
-    short : (k : ℕ) (s : List ℕ) → length (take k s) ≤ k
-    short zero s = omega arith
-    short (suc k) [] = omega arith
-    short (suc k) (x ∷ s) = omega (arith, short k s)
+row-short rows n = take-short rowLength (drop (rowStart n) rows)
 
 -- the row of a table that is there
 pub row-long : (rows : List ℕ) (n : ℕ) → suc n * rowLength ≤ length rows → length (rowOf rows (suc n)) ≡ rowLength
@@ -155,6 +155,29 @@ sets-long tables g h =
       tables-long (g .tables) tables (omega (arith, h .rows, h .few)),
     )
 
+-- at most so many, however long the rows are
+tables-most : (rows : List ℕ) (n : ℕ) → length (linesOf (tableSets rows n)) ≤ n * 36
+unfolding tableSets linesOf
+tables-most rows zero = omega arith
+tables-most rows (suc n) =
+    let last = tableSet (suc n) (rowOf rows (suc n)) in
+    rw (lines-append (tableSets rows n) (last ∷ []), length-append (linesOf (tableSets rows n)) (linesOf (last ∷ [])))
+    (omega (arith, tables-most rows n, lines-cons last [], table-line (suc n) (rowOf rows (suc n)), row-short rows (suc n)))
+
+pub sets-most : (tables : ℕ) (g : Registers) → length (g .facts .serial) ≡ 10 → length (g .account) ≡ 10 → length (linesOf (blockSets tables g)) ≤ 293 + tables * 36
+unfolding blockSets
+sets-most tables g serial account =
+    let f = factSets (g .facts .serial) (g .clock) (g .account) in
+    let e = directionSets (familyIn g) (g .counters) (g .exported) in
+    let t = tableSets (g .tables) tables in
+    rw (lines-append f (e ++ t), lines-append e t, length-append (linesOf f) (linesOf e ++ linesOf t), length-append (linesOf e) (linesOf t))
+    (omega (arith, facts-long (g .facts .serial) (g .clock) (g .account) serial account, directions-long (familyIn g) (g .counters) (g .exported), directions-most (familyIn g), tables-most (g .tables) tables))
+
+pub content-most : (tables : ℕ) (g : Registers) → length (g .facts .serial) ≡ 10 → length (g .account) ≡ 10 → length (blockData tables g) ≤ 296 + tables * 36
+unfolding blockData
+content-most tables g serial account =
+    rw (length-append (linesOf (blockSets tables g)) (33 ∷ 13 ∷ 10 ∷ [])) (omega (arith, sets-most tables g serial account))
+
 pub content-long : (tables : ℕ) (g : Registers) → Lengths tables g → length (blockData tables g) ≡ 76 + directionsLong (familyIn g) + tables * 36
 unfolding blockData
 content-long tables g h =
@@ -175,14 +198,14 @@ energy-short : (family : ℕ) (out : Bool) (n count : ℕ) → length (linesOf (
 energy-short family out n count = omega (arith, one-long (energySet family out n count), energy-most family out n count)
 
 -- an answer to R1 has at most 36 characters of data
-pub asked-short : (tables : ℕ) (g : Registers) (a : Ask) → Lengths tables g → length (askedData g a) ≤ 36
+pub asked-short : (g : Registers) (a : Ask) → length (g .facts .serial) ≡ 10 → length (g .account) ≡ 10 → length (askedData g a) ≤ 36
 unfolding askedData askedSets linesOf
-asked-short tables g ask.Clock h = omega (arith, clock-long (g .clock .time) (g .clock .date))
-asked-short tables g ask.Serial h = omega (arith, one-long (serialSet (g .facts .serial)), serial-line (g .facts .serial) (h .serial))
-asked-short tables g ask.Account h = omega (arith, one-long (accountSet (g .account)), account-line (g .account) (h .account))
-asked-short tables g (ask.Energy e) h = energy-short (familyIn g) false (energyNo e) (energy (g .counters) e)
-asked-short tables g (ask.Export e) h = energy-short (familyIn g) true (energyNo e) (energy (g .exported) e)
-asked-short tables g (ask.Table t) h =
+asked-short g ask.Clock serial account = omega (arith, clock-long (g .clock .time) (g .clock .date))
+asked-short g ask.Serial serial account = omega (arith, one-long (serialSet (g .facts .serial)), serial-line (g .facts .serial) serial)
+asked-short g ask.Account serial account = omega (arith, one-long (accountSet (g .account)), account-line (g .account) account)
+asked-short g (ask.Energy e) serial account = energy-short (familyIn g) false (energyNo e) (energy (g .counters) e)
+asked-short g (ask.Export e) serial account = energy-short (familyIn g) true (energyNo e) (energy (g .exported) e)
+asked-short g (ask.Table t) serial account =
     let row = rowOf (g .tables) (t .0) in
     omega (arith, one-long (tableSet (t .0) row), table-line (t .0) row, row-short (g .tables) (t .0))
 
@@ -243,4 +266,4 @@ ended sets buf at place mid after l e = and-then buf at (linesOf sets) mid place
 
 -- so every answer to R1 fits, with STX, ETX and BCC
 pub asked-fits : (tables : ℕ) (g : Registers) (a : Ask) → Lengths tables g → length (blockOf (askedData g a)) ≤ 39
-asked-fits tables g a h = rw (block-length (askedData g a)) (omega (arith, asked-short tables g a h))
+asked-fits tables g a h = rw (block-length (askedData g a)) (omega (arith, asked-short g a (h .serial) (h .account)))

@@ -1,3 +1,4 @@
+pub mod Plain
 pub mod Shown
 pub mod Answers
 pub mod Block

@@ -5,6 +5,7 @@ use Prim.Native.Nat.{ℕ, _+_}
 use lib.Dec.{eqb}
 use lib.ListN.{getD}
 use Rattle.line.specs.Quoted.{chars}
+use Rattle.line.specs.Controls.{STX}
 use Rattle.state.specs.declared.Period.{Period}
 use Rattle.state.specs.declared.Registers.{Registers}
 use Rattle.state.specs.Setting.{zonePlace}
@@ -40,6 +41,10 @@ archiveSets family k (p ∷ ps) = periodSets family k p ++ archiveSets family (k
 -- the block, and the periods from 01 on, the newest first
 unfoldable pub longSets : ℕ → Registers → List DataSet
 longSets tables g = blockSets tables g ++ archiveSets (familyIn g) 1 (periodsOf (g .archive))
+
+-- as far as the tables go: STX and the lines of the block
+unfoldable pub longStart : ℕ → Registers → List ℕ
+longStart tables g = STX ∷ linesOf (blockSets tables g)
 
 -- and the line that ends it, `!` CR LF
 unfoldable pub longData : ℕ → Registers → List ℕ

@@ -3,15 +3,16 @@ ghost use mathlib.Core.Path.{_≡_};
 ghost use mathlib.Core.List.{[], _∷_};
 ghost use Prim.Native.Nat.{_+_, _≤_};
 ghost use lib.ListN.{length};
-ghost use Rattle.state.specs.WellFormed.{tablesIn};
 ghost use Rattle.text.specs.Writing.{stored};
 ghost use Rattle.datasets.specs.Sets.{lineOf, linesOf, timeSet, dateSet, tableSet};
-ghost use Rattle.replies.specs.Shown.{Lengths, energy, rowOf};
+ghost use Rattle.replies.specs.Plain.{withoutArchive};
+ghost use Rattle.replies.specs.Shown.{energy, rowOf};
 ghost use Rattle.replies.specs.Answers.{askedData};
 use crate::Ask;
+use crate::Plain;
 use clock::Clock;
+use state::ALL_ROWS;
 use state::Counters;
-use state::Registers;
 use state::setting::row_start;
 use values::Energy;
 use values::ROW_LENGTH;
@@ -55,42 +56,41 @@ fn put_asked_table(buf: &mut [u8], at: usize, rows: &[u8], t: TableNo) -> usize
 }
 
 // The data that R1 asks for.
-pub fn put_asked(buf: &mut [u8], at: usize, g: Registers, a: Ask) -> usize
-    requires { ⌜ Lengths (tablesIn g) g × (at + 36 ≤ length (now buf)) ⌝ }
-    ensures next { λ r. ⌜ r ≡ at + length (askedData g a) ⌝ }
-    ensures held { λ _. ⌜ now (buf .exit) ≡ stored (now (buf .entry)) at (askedData g a) ⌝ }
+pub fn put_asked(buf: &mut [u8], at: usize, p: Plain, rows: &[u8; ALL_ROWS], a: Ask) -> usize
+    requires { ⌜ at + 36 ≤ length (now buf) ⌝ }
+    ensures next { λ r. ⌜ r ≡ at + length (askedData (withoutArchive p (now (rows .entry))) a) ⌝ }
+    ensures held { λ _. ⌜ now (buf .exit) ≡ stored (now (buf .entry)) at (askedData (withoutArchive p (now (rows .entry))) a) ⌝ }
 {
     match a {
         Ask::Clock => {
-            return put_clock_sets(buf, at, g.clock);
+            return put_clock_sets(buf, at, p.clock);
         }
         Ask::Serial => {
-            let f = g.facts;
+            let f = p.facts;
             let s = f.serial;
             return datasets::put_serial_set(buf, at, &s);
         }
         Ask::Account => {
-            let s = g.account;
+            let s = p.account;
             return datasets::put_account_set(buf, at, &s);
         }
         Ask::Energy(e) => {
-            let f = g.facts;
+            let f = p.facts;
             return datasets::put_energy_set(
                 buf,
                 at,
                 e,
-                energy_of(g.counters, e),
+                energy_of(p.counters, e),
                 false,
                 f.decimals,
             );
         }
         Ask::Export(e) => {
-            let f = g.facts;
-            return datasets::put_energy_set(buf, at, e, energy_of(g.exported, e), true, f.decimals);
+            let f = p.facts;
+            return datasets::put_energy_set(buf, at, e, energy_of(p.exported, e), true, f.decimals);
         }
         Ask::Table(t) => {
-            let s = g.tables;
-            return put_asked_table(buf, at, &s, t);
+            return put_asked_table(buf, at, rows, t);
         }
     }
 }

@@ -1,18 +1,18 @@
 // The data sets of the data block.
 ghost use mathlib.Core.Path.{_≡_};
-ghost use Prim.Native.Nat.{_+_, _*_, _≤_};
-ghost use lib.ListN.{length, take};
+ghost use Prim.Native.Nat.{_+_, _*_, _<_, _≤_};
+ghost use lib.ListN.{length};
 ghost use Rattle.text.specs.Writing.{stored};
 ghost use Rattle.state.specs.Sizes.{tablePlaces, rowLength, periodPlaces};
 ghost use Rattle.datasets.specs.Sets.{linesOf};
-ghost use Rattle.replies.specs.Shown.{Lengths};
+ghost use Rattle.replies.specs.Plain.{withoutArchive};
 ghost use Rattle.replies.specs.Block.{factSets, energySets, directionSets, tableSets, blockSets, blockData};
-ghost use Rattle.replies.specs.Periods.{keptSets, periodSets, archiveSets, longData};
+ghost use Rattle.replies.specs.Periods.{keptSets, periodSets};
+use crate::Plain;
 use clock::Clock;
+use state::ALL_ROWS;
 use state::Counters;
-use state::PERIODS;
 use state::Period;
-use state::Registers;
 use values::Energy;
 use values::ROW_LENGTH;
 use values::TableNo;
@@ -20,8 +20,14 @@ use values::ZoneNo;
 use values::family::is_eqm;
 
 // Serial, date, time and account.
-fn put_facts(buf: &mut [u8], at: usize, serial: &[u8], clock: Clock, account: &[u8]) -> usize
-    requires { ⌜ (length (now serial) ≡ 10) × (length (now account) ≡ 10) × (at + 73 ≤ length (now buf)) ⌝ }
+fn put_facts(
+    buf: &mut [u8],
+    at: usize,
+    serial: &[u8; 10],
+    clock: Clock,
+    account: &[u8; 10],
+) -> usize
+    requires { ⌜ at + 73 ≤ length (now buf) ⌝ }
     ensures next { λ r. ⌜ r ≡ at + 73 ⌝ }
     ensures held { λ _. ⌜ now (buf .exit) ≡ stored (now (buf .entry)) at (linesOf (factSets (now (serial .entry)) clock (now (account .entry)))) ⌝ }
 {
@@ -82,27 +88,26 @@ fn put_tables(buf: &mut [u8], at: usize, rows: &[u8], tables: u8) -> usize
 }
 
 // All of these.
-fn put_sets(buf: &mut [u8], at: usize, g: Registers, tables: u8) -> usize
-    requires { ⌜ Lengths tables g × (at + 313 + tables * 36 ≤ length (now buf)) ⌝ }
-    ensures next { λ r. ⌜ r ≡ at + length (linesOf (blockSets tables g)) ⌝ }
-    ensures held { λ _. ⌜ now (buf .exit) ≡ stored (now (buf .entry)) at (linesOf (blockSets tables g)) ⌝ }
+pub fn put_sets(buf: &mut [u8], at: usize, p: Plain, rows: &[u8; ALL_ROWS], tables: u8) -> usize
+    requires { ⌜ (tables ≤ tablePlaces) × (at + 313 + tables * 36 ≤ length (now buf)) ⌝ }
+    ensures next { λ r. ⌜ r ≡ at + length (linesOf (blockSets tables (withoutArchive p (now (rows .entry))))) ⌝ }
+    ensures held { λ _. ⌜ now (buf .exit) ≡ stored (now (buf .entry)) at (linesOf (blockSets tables (withoutArchive p (now (rows .entry))))) ⌝ }
 {
-    let f = g.facts;
+    let f = p.facts;
     let serial = f.serial;
-    let account = g.account;
-    let rows = g.tables;
-    let a = put_facts(buf, at, &serial, g.clock, &account);
-    let b = put_directions(buf, a, g.counters, g.exported, f.decimals);
-    put_tables(buf, b, &rows, tables)
+    let account = p.account;
+    let a = put_facts(buf, at, &serial, p.clock, &account);
+    let b = put_directions(buf, a, p.counters, p.exported, f.decimals);
+    put_tables(buf, b, rows, tables)
 }
 
 // And the line that ends them.
-pub fn put_block(buf: &mut [u8], at: usize, g: Registers, tables: u8) -> usize
-    requires { ⌜ Lengths tables g × (at + 316 + tables * 36 ≤ length (now buf)) ⌝ }
-    ensures next { λ r. ⌜ r ≡ at + length (blockData tables g) ⌝ }
-    ensures held { λ _. ⌜ now (buf .exit) ≡ stored (now (buf .entry)) at (blockData tables g) ⌝ }
+pub fn put_block(buf: &mut [u8], at: usize, p: Plain, rows: &[u8; ALL_ROWS], tables: u8) -> usize
+    requires { ⌜ (tables ≤ tablePlaces) × (at + 316 + tables * 36 ≤ length (now buf)) ⌝ }
+    ensures next { λ r. ⌜ r ≡ at + length (blockData tables (withoutArchive p (now (rows .entry)))) ⌝ }
+    ensures held { λ _. ⌜ now (buf .exit) ≡ stored (now (buf .entry)) at (blockData tables (withoutArchive p (now (rows .entry)))) ⌝ }
 {
-    let a = put_sets(buf, at, g, tables);
+    let a = put_sets(buf, at, p, rows, tables);
     text::put(buf, a, b"!\r\n")
 }
 
@@ -119,7 +124,7 @@ fn put_kept(buf: &mut [u8], at: usize, k: u8, zones: [u32; 4], out: bool, family
 }
 
 // Its time, and these; of an EQM meter both directions'.
-fn put_period(buf: &mut [u8], at: usize, k: u8, p: Period, family: u8) -> usize
+pub fn put_period(buf: &mut [u8], at: usize, k: u8, p: Period, family: u8) -> usize
     requires { ⌜ at + 242 ≤ length (now buf) ⌝ }
     ensures next { λ r. ⌜ r ≡ at + length (linesOf (periodSets family k p)) ⌝ }
     ensures held { λ _. ⌜ now (buf .exit) ≡ stored (now (buf .entry)) at (linesOf (periodSets family k p)) ⌝ }
@@ -134,38 +139,11 @@ fn put_period(buf: &mut [u8], at: usize, k: u8, p: Period, family: u8) -> usize
     b
 }
 
-// So many periods, numbered from 01 on.
-fn put_periods(
-    buf: &mut [u8],
-    at: usize,
-    periods: [Period; PERIODS],
-    count: usize,
-    family: u8,
-) -> usize
-    requires { ⌜ (count ≤ periodPlaces) × (at + count * 226 + 16 ≤ length (now buf)) ⌝ }
-    ensures next { λ r. ⌜ r ≡ at + length (linesOf (archiveSets family 1 (take count periods))) ⌝ }
-    ensures held { λ _. ⌜ now (buf .exit) ≡ stored (now (buf .entry)) at (linesOf (archiveSets family 1 (take count periods))) ⌝ }
+// The period at place i of an archive, whose number is one more.
+pub fn put_numbered(buf: &mut [u8], at: usize, i: usize, p: Period, family: u8) -> usize
+    requires { ⌜ (i < periodPlaces) × (at + 242 ≤ length (now buf)) ⌝ }
+    ensures next { λ r. ⌜ r ≡ at + length (linesOf (periodSets family (i + 1) p)) ⌝ }
+    ensures held { λ _. ⌜ now (buf .exit) ≡ stored (now (buf .entry)) at (linesOf (periodSets family (i + 1) p)) ⌝ }
 {
-    let mut i = 0;
-    let mut place = at;
-    while i < count {
-        let p = periods[i];
-        place = put_period(buf, place, (i + 1) as u8, p, family);
-        i += 1;
-    }
-    place
-}
-
-// The block with the closed periods after its tables.
-pub fn put_long_block(buf: &mut [u8], at: usize, g: Registers, tables: u8) -> usize
-    requires { ⌜ Lengths tables g × (at + 332 + tables * 36 + g .archive .count * 226 ≤ length (now buf)) ⌝ }
-    ensures next { λ r. ⌜ r ≡ at + length (longData tables g) ⌝ }
-    ensures held { λ _. ⌜ now (buf .exit) ≡ stored (now (buf .entry)) at (longData tables g) ⌝ }
-{
-    let f = g.facts;
-    let archive = g.archive;
-    let periods = archive.periods;
-    let a = put_sets(buf, at, g, tables);
-    let b = put_periods(buf, a, periods, archive.count as usize, f.decimals);
-    text::put(buf, b, b"!\r\n")
+    put_period(buf, at, (i + 1) as u8, p, family)
 }

@@ -1,49 +1,37 @@
--- `datasets::put_whole_row` meets its contract: the copy holds the row as far as it was gone through, and in the end is the row. Assumes nothing.
-use mathlib.Core.Path.{_≡_, refl, sym, ap, _∙_}
-use Prim.Native.Nat.{ℕ, _+_, _≤_, _-_}
-use native.Mathlib.Nat.{zero-add}
+-- `datasets::put_whole_row` meets its contract: its three parts, one after the other, are the row. Assumes nothing.
+use mathlib.Core.Path.{_≡_, ap, _∙_}
+use mathlib.Core.List.{List, _++_}
+use Prim.Native.Nat.{ℕ, _+_}
 use native.Mathlib.Omega.{arith}
-use lib.ListN.{length, getD, take, set, length-set, replicate}
+use lib.ListN.{length, take, drop, length-append, length-drop}
+use lib.Seq.{take-add, take-all, length-take-le}
 use Rattle.text.specs.Writing.{stored}
-use Rattle.text.proofs.Writing.{stored-next}
-use Rattle.datasets.proofs.Joined.{filled}
+use Rattle.text.proofs.Writing.{and-then}
+use borrow.Author.Needs.{needs}
 use Rattle.datasets.proofs.put_whole_row.Statement.{statement}
 use Rattle.datasets.proofs.put_whole_row.Tie as tie
 
-abbrev Inv-loop : tie.InvT-loop
-Inv-loop buf at row copy₀ i₀ copy i = (i ≤ 24) × (length copy ≡ 24) × (copy ≡ stored (replicate 24 0) 0 (take i row))
+three : (row : List ℕ) → length row ≡ 24 → take 8 row ++ take 8 (drop 8 row) ++ take 8 (drop 16 row) ≡ row
+three row long = rw (← take-add 8 8 row, ← take-add 16 8 row) (take-all 24 row (omega arith))
 
-abbrev μ-loop : tie.MeasureT-loop
-μ-loop buf at row copy₀ i₀ copy i = 24 - i
-
-loop-holds : tie.Need-loop-holds Inv-loop μ-loop
-unfolding stored
-loop-holds c = (omega arith, refl, refl)
-
-loop-again : tie.Need-loop-again Inv-loop μ-loop
-loop-again c =
-    let turn = c .before .before .loop in
-    let i = turn .i in
-    let row = c .before .before .before .before .before .args .row .now in
-    let place : i ≡ 0 + i = sym (zero-add i) in (
-      omega arith,
-      simp length-set (turn .inv .1),
-      rw (turn .inv .2) (ap (λ (k : ℕ). set (stored (replicate 24 0) 0 (take i row)) k (getD row i 0)) place ∙ stored-next (replicate 24 0) 0 row i (omega arith)),
+returns : tie.Need-returns
+returns c =
+    let c2 = c .before .before in
+    let c6 = c2 .before .before .before .before in
+    let c10 = c6 .before .before .before .before in
+    let start = c10 .before .before .before .before in
+    let a = start .args in
+    let row = a .row .now in
+    let first = c10 .put-eight .ensures in
+    let second = c6 .put-eight2 .ensures in
+    let third = c2 .put-eight3 .ensures in
+    let front : length (take 8 row) ≡ 8 = length-take-le 8 row (omega (arith, start .pre .0)) in
+    let next : length (take 8 (drop 8 row)) ≡ 8 = length-take-le 8 (drop 8 row) (omega (arith, length-drop 8 row, start .pre .0)) in
+    let two = and-then (a .buf .now) (a .at) (take 8 row) _ _ (take 8 (drop 8 row)) _ (first .1) (omega (arith, first .0, front)) (second .1) in
+    let behind : c6 .put-eight2 .result ≡ a .at + length (take 8 row ++ take 8 (drop 8 row)) = rw (length-append (take 8 row) (take 8 (drop 8 row))) (omega (arith, first .0, second .0, front, next)) in (
+      omega (arith, first .0, second .0, third .0),
+      and-then (a .buf .now) (a .at) (take 8 row ++ take 8 (drop 8 row)) _ _ (take 8 (drop 16 row)) _ two behind (third .1) ∙ ap (stored (a .buf .now) (a .at)) (three row (start .pre .0)),
     )
 
-slice-aggregate-put : tie.Need-slice-aggregate-put Inv-loop μ-loop
-slice-aggregate-put c = sym (c .before .before .before .loop .inv .1)
-
-put-requires : tie.Need-put-requires Inv-loop μ-loop
-put-requires c κs = omega (arith, c .before .before .before .loop .inv .1)
-
-returns : tie.Need-returns Inv-loop μ-loop
-returns c = let c6 = c .before .before .before .before .before .before in let c9 = c6 .before .before .before in let start = c9 in
-    let turn = c6 .loop in
-    let row = start .args .row .now in
-    let put = c .before .before .put .ensures in
-    let done : turn .copy ≡ row = turn .inv .2 ∙ filled (replicate 24 0) row (turn .i) (omega arith) (omega arith) in
-    (omega (arith, put .0, turn .inv .1), put .1 ∙ ap (stored (start .args .buf .now) (start .args .at)) done)
-
 pub put-whole-row-spec : {M : Type 1} → statement M
-put-whole-row-spec = tie.close (tie.spec Inv-loop μ-loop loop-holds (λ c. omega arith) (λ c. omega arith) (λ c. omega arith) (λ c. omega arith) loop-again slice-aggregate-put put-requires (λ c. omega arith) returns)
+put-whole-row-spec = tie.close (tie.spec (λ c κs. search needs) (λ c κs. search needs) (λ c κs. search needs) (λ c. search needs) returns)

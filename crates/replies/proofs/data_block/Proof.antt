@@ -2,10 +2,11 @@
 use mathlib.Core.List.{[], _∷_}
 use native.Mathlib.Omega.{arith}
 use Rattle.text.proofs.Writing.{length-stored}
-use Rattle.state.specs.WellFormed.{familyIn}
 use Rattle.frames.proofs.Sealing.{blocking, block-length}
 use Rattle.replies.specs.Block.{blockData}
-use Rattle.replies.proofs.Sizes.{content-long, directions-most}
+use Rattle.replies.specs.Plain.{withoutArchive}
+use Rattle.replies.proofs.Handed.{serial-long, account-long}
+use Rattle.replies.proofs.Sizes.{content-most}
 use borrow.Author.Needs.{needs}
 use Rattle.replies.proofs.data_block.Statement.{statement}
 use Rattle.replies.proofs.data_block.Tie as tie
@@ -14,11 +15,11 @@ seal-requires : tie.Need-seal-requires
 seal-requires c κs =
     let c3 = c .before .before .before in let c7 = c3 .before .before .before .before in let start = c7 .before .before .before .before in
     let a = start .args in
+    let g = withoutArchive (a .p) (a .rows .now) in
     let first = c7 .put .ensures in
     let shown = c3 .put-block .ensures in
-    let long = content-long (a .tables) (a .g) (start .pre .0) in
-    let most = directions-most (familyIn (a .g)) in
-    (omega (arith, first .0, shown .0), rw (shown .1, length-stored (c7 .put .last .0) (c7 .put .result) (blockData (a .tables) (a .g)), first .1, length-stored (a .buf .now) 0 (2 ∷ [])) (omega (arith, first .0, shown .0, long, most, start .pre .0 .few, start .pre .1)))
+    let long = content-most (a .tables) g (serial-long (a .p) _ (start .good .1 .0)) (account-long (a .p) _ (start .good .1 .0)) in
+    (omega (arith, first .0, shown .0), rw (shown .1, length-stored (c7 .put .last .0) (c7 .put .result) (blockData (a .tables) g), first .1, length-stored (a .buf .now) 0 (2 ∷ [])) (omega (arith, first .0, shown .0, long, start .pre .0, start .pre .1)))
 
 returns : tie.Need-returns
 returns c =
@@ -27,12 +28,13 @@ returns c =
     let c14 = c10 .before .before .before .before in
     let start = c14 in
     let a = start .args in
+    let g = withoutArchive (a .p) (a .rows .now) in
     let first = c10 .put .ensures in
     let shown = c6 .put-block .ensures in
     let shut = c .before .before .seal .ensures in
-    let long = content-long (a .tables) (a .g) (start .pre .0) in (
-      omega (arith, first .0, shown .0, shut .0, block-length (blockData (a .tables) (a .g))),
-      blocking (a .buf .now) (blockData (a .tables) (a .g)) _ _ _ _ _ (omega (arith, long, directions-most (familyIn (a .g)), start .pre .0 .few, start .pre .1)) (first .0) (first .1) (shown .0) (shown .1) (shut .1),
+    let long = content-most (a .tables) g (serial-long (a .p) _ (start .good .1 .0)) (account-long (a .p) _ (start .good .1 .0)) in (
+      omega (arith, first .0, shown .0, shut .0, block-length (blockData (a .tables) g)),
+      blocking (a .buf .now) (blockData (a .tables) g) _ _ _ _ _ (omega (arith, long, start .pre .0, start .pre .1)) (first .0) (first .1) (shown .0) (shown .1) (shut .1),
     )
 
 pub data-block-spec : {M : Type 1} → statement M
