@@ -1,4 +1,4 @@
--- What the receiver holds, lent out of the record as a `&mut` for the time of a call, and come back. Assumes `Given`.
+-- A run of characters within a record, lent out of it as a `&mut` for the time of a call, and come back. Assumes `Given`.
 use mathlib.Core.Path.{_≡_, refl, sym, subst}
 use Prim.Native.Nat.{ℕ}
 use mathlib.Core.List.{List, [], _∷_, map-id}
@@ -22,30 +22,26 @@ use denote.Ref.{MutRef}
 use denote.Lend.{lends-ref, ref-back}
 use denote.Steps.{facts, owned}
 use Rattle.lent.proofs.Known.{inField}
-use Rattle.state.proofs.Receiver.Laws as R′
 
-abbrev pub places : RattleType
-places = Array u8 64
+module _ {M : Type 1} (𝓤 : URA M) (H : Heap 𝓤) (A : Atoms 𝓤) (W : Given 𝓤 H A) (n : ℕ) (b o : ℕ) where
+  abbrev places : RattleType
+  places = Array u8 n
 
--- the machine value of what is held, as the record's field has it
-abbrev pub valOf : List ℕ → Val
-valOf ys = R′.the-laws .1 .0 .val (inField ys)
-
-module _ {M : Type 1} (𝓤 : URA M) (H : Heap 𝓤) (A : Atoms 𝓤) (W : Given 𝓤 H A) (b o : ℕ) where
-  pub lends-held : (ys : List ℕ) (v : Val) → Is places ys (v ∷ []) → (ℓ : Lifetime) (κ : Lft)
+  pub lends-run : (ys : List ℕ) (v : Val) → Is places ys (v ∷ []) → (ℓ : Lifetime) (κ : Lft)
       → ent 𝓤 (sem 𝓤 H A (cellAt fullShare (places .mir) (v ∷ []) b o)) (H .⇛ (ex 𝓤 (λ (δ : GName). sep 𝓤 (sem 𝓤 H A (MutRef ℓ κ places .own (record { ptr = (b, o); name = δ; now = ys }) (vptr b o ∷ []))) (A .lent κ (Body (mem places) b o δ)))))
   unfolding partOf
-  lends-held ys v is ℓ κ =
-      qed W (‵ (cellAt fullShare (places .mir) (v ∷ []) b o) ∷ []) ∵ owned ! places (Is places) (array-makes 𝓤 H A W u8 (uint-makes 𝓤 H A W w8) 64) ys (v ∷ []) is $ move ! (1 ∷ 0 ∷ []) $ fjoin ! $
+  lends-run ys v is ℓ κ =
+      qed W (‵ (cellAt fullShare (places .mir) (v ∷ []) b o) ∷ []) ∵ owned ! places (Is places) (array-makes 𝓤 H A W u8 (uint-makes 𝓤 H A W w8) n) ys (v ∷ []) is $ move ! (1 ∷ 0 ∷ []) $ fjoin ! $
       fpack ! (List Val) (λ us. fsep (cellAt fullShare (places .mir) us b o) (places .own ys us)) (v ∷ []) $ by ! (lends-ref 𝓤 H A W places ℓ κ ys b o)
 
-  pub held-back : (κ : Lft) (δ : GName) (zs : List ℕ)
+  -- of a field whose machine value is `val` of its list
+  pub run-back : (val : List ℕ → Val) (tells : (ys : List ℕ) (vs : List Val) → Is places ys vs → vs ≡ val ys ∷ []) (κ : Lft) (δ : GName) (zs : List ℕ)
       → ent 𝓤 (sep 𝓤 (A .dead κ) (sep 𝓤 (A .lent κ (Body (mem places) b o δ)) (A .res δ (places .coded .code zs))))
-      (H .⇛ (guard 𝓤 (Is places (inField zs) (valOf zs ∷ [])) (sem 𝓤 H A (cellAt fullShare (places .mir) (valOf zs ∷ []) b o))))
+      (H .⇛ (guard 𝓤 (Is places (inField zs) (val (inField zs) ∷ [])) (sem 𝓤 H A (cellAt fullShare (places .mir) (val (inField zs) ∷ []) b o))))
   unfolding partOf
-  held-back κ δ zs =
+  run-back val tells κ δ zs =
       qed W (‵ (fdead κ) ∷ ‵ (flent κ (Body (mem places) b o δ)) ∷ ‵ (fres δ (places .coded .code zs)) ∷ []) ∵ updating ! $
       use3 W (later (‵ (mem places .lies zs b o))) (ref-back 𝓤 H A W places κ δ zs b o) $ await ! tt $ fpick ! (λ vs. fsplit ! $ move ! (1 ∷ []) $ facts ! places (Is places) (shows 𝓤 H A places) zs vs (λ is.
       let is-field = subst (λ (l : List ℕ). Is places l vs) (sym (map-id zs)) is in
-      let told = R′.the-laws .1 .0 .tells (inField zs) vs is-field in
+      let told = tells (inField zs) vs is-field in
       rewrite ! 0 (λ (us : List Val). ‵ (cellAt fullShare (places .mir) us b o)) told refl $ at-once ! $ check ! (subst (Is places (inField zs)) told is-field) $ done !))

@@ -1,11 +1,12 @@
 -- What an answer says besides the next state.
 use lib.ListN.{length}
 use Rattle.meter.specs.Outcomes.{Outcome}
-use Rattle.meter.specs.declared.Answer.{Answer}
+use Rattle.meter.specs.declared.Acted.{Acted}
 use Rattle.settling.specs.declared.Heard.{Heard}
 use Rattle.firmware.specs.declared.Reply.{Reply}
 
-abbrev pub replyTo : Answer → Reply
+-- what a deed answers
+abbrev pub replyTo : Acted → Reply
 replyTo a = record { number = a .number; length = a .length; speed = a .speed; place = a .place }
 
 -- the number, the reply's length, its speed and the place

@@ -1,3 +1,4 @@
 pub mod Behind
 pub mod Known
 pub mod Fields
+pub mod Forks

@@ -1,6 +1,7 @@
 -- What is known of a well-formed meter where the code needs it. Assumes nothing.
 use mathlib.Core.Path.{_≡_, refl, sym, ap, _∙_}
 use mathlib.Core.Bool.{Bool, true, _&&_}
+use mathlib.Core.List.{List}
 use Prim.Native.Nat.{ℕ, _+_, _-_, _≤_, _<_}
 use native.Mathlib.Omega.{arith}
 use borrow.Author.Tests.{leb-true}
@@ -24,8 +25,8 @@ use Rattle.state.proofs.Archives.{formed-archive}
 use Rattle.replies.specs.Shown.{Lengths}
 
 -- a piece of what is held is as long as it is asked to be
-pub piece-long : (m : Meter) → wellFormed m ≡ true → (a n : ℕ) → a + n ≤ heldPlaces → length (take n (drop a (m .receiver .held))) ≡ n
-piece-long m h a n r = length-take-le n (drop a (m .receiver .held)) (omega (arith, length-drop a (m .receiver .held), long m h .held))
+pub piece-long : (held : List ℕ) → length held ≡ heldPlaces → (a n : ℕ) → a + n ≤ heldPlaces → length (take n (drop a held)) ≡ n
+piece-long held h a n r = length-take-le n (drop a held) (omega (arith, length-drop a held, h))
 
 pub archive-good : (m : Meter) → wellFormed m ≡ true → archiveGood (familyOf m) (m .registers .archive) ≡ true
 archive-good m h = formed-registers (m .registers) (formed m h .registers) .archive

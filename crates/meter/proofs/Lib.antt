@@ -2,3 +2,4 @@ pub mod SignOn
 pub mod Known
 pub mod Tests
 pub mod Places
+pub mod Done

@@ -5,3 +5,4 @@ pub mod SignOn
 pub mod Character
 pub mod Events
 pub mod Life
+pub mod Deeds

@@ -1,159 +1,286 @@
-// What a decision does: the reply, and the one thing that changes.
+// A deed done: what it says put into the reply, what is stored of the meter, and last its tables and its archive.
 ghost use mathlib.Core.Path.{_≡_};
-ghost use mathlib.Core.Bool.{true};
+ghost use mathlib.Core.Bool.{true, false, cond};
 ghost use Prim.Native.Nat.{_≤_};
 ghost use lib.ListN.{length};
 ghost use Rattle.text.specs.Writing.{holding};
 ghost use Rattle.frames.specs.Frames.{onWire};
-ghost use Rattle.state.specs.Sizes.{tablePlaces, replyRoom};
-ghost use Rattle.state.specs.WellFormed.{wellFormed};
-ghost use Rattle.state.specs.Setting.{withRegisters, withClock};
+ghost use Rattle.state.specs.Sizes.{heldPlaces, periodPlaces, replyRoom};
+ghost use Rattle.state.specs.Making.{emptyReceiver};
+ghost use Rattle.state.specs.WellFormed.{wellFormed, archiveGood};
+ghost use Rattle.replies.specs.Plain.{registersOf, withoutArchive};
 ghost use Rattle.meter.specs.Outcomes.{answerOf};
-ghost use Rattle.meter.specs.Acting.{tried, acted, accountTaken, rowTaken};
-ghost use Rattle.meter.specs.Character.{frameEnded};
+ghost use Rattle.meter.specs.Deeds.{RoomFor, Writable, plainOf, smallOf, shortSaid, longSaid, saidBy, accountAfter, clockAfter, tablesAfter, closesAfter, answered, actedWith, archiveAfter, storedIn, done};
+use crate::Acted;
 use crate::Answer;
-use crate::answers;
+use crate::Deed;
+use crate::Says;
+use crate::Small;
+use crate::Writes;
+use crate::link;
 use clock::Clock;
-use deciding::Verdict;
-use replies::Ask;
+use replies::Plain;
+use state::ALL_ROWS;
+use state::Archive;
+use state::HELD_PLACES;
 use state::Meter;
-use state::setting::emptied;
-use state::setting::in_mode;
+use state::Receiver;
+use state::Registers;
+use state::setting::empty_receiver;
+use state::setting::row_start;
 use state::setting::ten;
 use state::setting::with_account;
-use state::setting::with_attempts;
+use state::setting::with_archive;
 use state::setting::with_clock;
 use state::setting::with_registers;
-use state::setting::with_row;
 use state::setting::with_tables;
-use values::TableNo;
 
-// P1 with eight digits.
-fn try_password(m: Meter, reply: &mut [u8]) -> Answer
-    requires { ⌜ (wellFormed m ≡ true) × (replyRoom ≤ length (now reply)) ⌝ }
-    ensures result { λ r. ⌜ r ≡ answerOf (tried m) ⌝ }
-    ensures held { λ _. ⌜ now (reply .exit) ≡ holding (now (reply .entry)) (onWire (tried m .reply)) ⌝ }
+// The registers but for what is long.
+fn plain_of(g: Registers) -> Plain
+    ensures { λ r. ⌜ r ≡ plainOf g ⌝ }
 {
-    let r = m.receiver;
-    let g = m.registers;
-    let held = r.held;
-    let f = g.facts;
-    let password = f.password;
-    let attempts = m.attempts;
-    if attempts == 3 {
-        return answers::refuse(11, m, reply);
+    let facts = g.facts;
+    let account = g.account;
+    let clock = g.clock;
+    let counters = g.counters;
+    let exported = g.exported;
+    Plain {
+        facts,
+        account,
+        clock,
+        counters,
+        exported,
     }
-    if text::same(text::first(text::rest(&held, 5), 8), &password) {
-        return answers::accept(m.speed, in_mode(with_attempts(m, 0), 4), reply);
-    }
-    answers::refuse(10, with_attempts(m, attempts + 1), reply)
 }
 
-// R1: the data asked for.
-fn read(m: Meter, a: Ask, reply: &mut [u8]) -> Answer
-    requires { ⌜ (wellFormed m ≡ true) × (replyRoom ≤ length (now reply)) ⌝ }
-    ensures result { λ r. ⌜ r ≡ answerOf (acted m (Verdict.Read a)) ⌝ }
-    ensures held { λ _. ⌜ now (reply .exit) ≡ holding (now (reply .entry)) (onWire (acted m (Verdict.Read a) .reply)) ⌝ }
+// The meter but for what is long.
+pub fn small_of(m: Meter) -> Small
+    ensures { λ r. ⌜ r ≡ smallOf m ⌝ }
 {
-    let g = m.registers;
-    let length = replies::answer(reply, g, a);
-    Answer {
-        number: 1,
-        length,
+    let receiver = m.receiver;
+    Small {
+        mode: m.mode,
+        attempts: m.attempts,
         speed: m.speed,
-        place: 0,
-        next: emptied(m),
+        receiver,
+        plain: plain_of(m.registers),
     }
 }
 
-// The state that a write of the account leaves, the receiver aside.
-fn take_account(m: Meter) -> Meter
-    requires { ⌜ wellFormed m ≡ true ⌝ }
-    ensures { λ r. ⌜ r ≡ accountTaken m ⌝ }
+// What is said, put into the reply.
+fn say(says: Says, p: Plain, rows: &[u8; ALL_ROWS], reply: &mut [u8]) -> usize
+    requires { ⌜ (length (p .facts .serial) ≡ 10) × RoomFor false says (length (now reply)) ⌝ }
+    ensures whole { λ r. ⌜ r ≡ length (shortSaid (withoutArchive p (now (rows .entry))) says) ⌝ }
+    ensures held { λ _. ⌜ now (reply .exit) ≡ holding (now (reply .entry)) (onWire (shortSaid (withoutArchive p (now (rows .entry))) says)) ⌝ }
 {
-    let r = m.receiver;
-    let g = m.registers;
-    let held = r.held;
-    with_registers(
-        m,
-        with_account(g, ten(text::first(text::rest(&held, 6), 10))),
-    )
+    let f = p.facts;
+    let serial = f.serial;
+    match says {
+        Says::Nothing => 0,
+        Says::Refusal => link::refuse(f.link, reply),
+        Says::Identification => link::identify(f.link, f.edition, &serial, reply),
+        Says::Block => replies::data_block(reply, p, rows, values::tables_of(f.edition)),
+        Says::Invitation => replies::ask_password(reply),
+        Says::Accepted => replies::acknowledge(reply),
+        Says::Asked(a) => replies::answer(reply, p, rows, a),
+    }
 }
 
-// The state that a write of a table leaves, the receiver aside.
-fn take_row(m: Meter, t: TableNo) -> Meter
-    requires { ⌜ (wellFormed m ≡ true) × ((1 ≤ t .0) × (t .0 ≤ tablePlaces)) ⌝ }
-    ensures { λ r. ⌜ r ≡ rowTaken m (t .0) ⌝ }
+// The account after a write.
+fn account_after(held: &[u8; HELD_PLACES as usize], account: [u8; 10], w: Writes) -> [u8; 10]
+    ensures { λ r. ⌜ r ≡ accountAfter (now (held .entry)) account w ⌝ }
 {
-    let r = m.receiver;
-    let g = m.registers;
+    match w {
+        Writes::None => account,
+        Writes::ClockSet(c) => account,
+        Writes::AccountSet => ten(text::first(text::rest(held, 6), 10)),
+        Writes::RowSet(t) => account,
+        Writes::Closed => account,
+        Writes::MonthClosed(c) => account,
+    }
+}
+
+// The clock after a write, or after the second that starts a month.
+fn clock_after(clock: Clock, w: Writes) -> Clock
+    ensures { λ r. ⌜ r ≡ clockAfter clock w ⌝ }
+{
+    match w {
+        Writes::None => clock,
+        Writes::ClockSet(c) => c,
+        Writes::AccountSet => clock,
+        Writes::RowSet(t) => clock,
+        Writes::Closed => clock,
+        Writes::MonthClosed(c) => c,
+    }
+}
+
+// The receiver after a deed.
+fn receiver_after(r: Receiver, empties: bool) -> Receiver
+    ensures { λ x. ⌜ x ≡ cond empties emptyReceiver r ⌝ }
+{
+    if empties { empty_receiver() } else { r }
+}
+
+// What is answered and stored, where so much was said.
+fn answer_with(s: Small, length: usize, d: Deed) -> Acted
+    ensures { λ r. ⌜ r ≡ answered s length d ⌝ }
+{
+    let r = s.receiver;
     let held = r.held;
+    let p = s.plain;
+    let account = p.account;
+    let writes = d.writes;
+    Acted {
+        number: d.number,
+        length,
+        speed: d.speed,
+        place: d.place,
+        mode: d.mode,
+        attempts: d.attempts,
+        rate: d.rate,
+        receiver: receiver_after(r, d.empties),
+        account: account_after(&held, account, writes),
+        clock: clock_after(p.clock, writes),
+        writes,
+    }
+}
+
+// A deed that says no closed periods.
+pub fn act_short(s: Small, rows: &[u8; ALL_ROWS], d: Deed, reply: &mut [u8]) -> Acted
+    requires { ⌜ (length (s .plain .facts .serial) ≡ 10) × RoomFor false (d .says) (length (now reply)) ⌝ }
+    ensures result { λ r. ⌜ r ≡ actedWith s (shortSaid (withoutArchive (s .plain) (now (rows .entry))) (d .says)) d ⌝ }
+    ensures held { λ _. ⌜ now (reply .exit) ≡ holding (now (reply .entry)) (onWire (shortSaid (withoutArchive (s .plain) (now (rows .entry))) (d .says))) ⌝ }
+{
+    let says = d.says;
+    let length = say(says, s.plain, rows, reply);
+    answer_with(s, length, d)
+}
+
+// A deed that says the block with them.
+pub fn act_long(s: Small, rows: &[u8; ALL_ROWS], a: Archive, d: Deed, reply: &mut [u8]) -> Acted
+    requires { ⌜ (a .count ≤ periodPlaces) × (replyRoom ≤ length (now reply)) ⌝ }
+    ensures result { λ r. ⌜ r ≡ actedWith s (longSaid (registersOf (s .plain) (now (rows .entry)) a)) d ⌝ }
+    ensures held { λ _. ⌜ now (reply .exit) ≡ holding (now (reply .entry)) (onWire (longSaid (registersOf (s .plain) (now (rows .entry)) a))) ⌝ }
+{
+    let p = s.plain;
+    let f = p.facts;
+    let length = replies::long_block(reply, p, rows, a, values::tables_of(f.edition));
+    answer_with(s, length, d)
+}
+
+// The row that is written, put where it belongs.
+pub fn put_row(rows: &mut [u8; ALL_ROWS], r: Receiver, w: Writes)
+    requires { ⌜ Writable w × (length (r .held) ≡ heldPlaces) ⌝ }
+    ensures { λ _. ⌜ now (rows .exit) ≡ tablesAfter (r .held) (now (rows .entry)) w ⌝ }
+{
+    let held = r.held;
+    match w {
+        Writes::None => {}
+        Writes::ClockSet(c) => {}
+        Writes::AccountSet => {}
+        Writes::RowSet(t) => {
+            text::put(
+                rows,
+                row_start(t),
+                text::first(text::rest(&held, 9), values::ROW_LENGTH),
+            );
+        }
+        Writes::Closed => {}
+        Writes::MonthClosed(c) => {}
+    }
+}
+
+// Whether a period is closed.
+pub fn closes(w: Writes) -> bool
+    ensures { λ r. ⌜ r ≡ closesAfter w ⌝ }
+{
+    match w {
+        Writes::None => false,
+        Writes::ClockSet(c) => false,
+        Writes::AccountSet => false,
+        Writes::RowSet(t) => false,
+        Writes::Closed => true,
+        Writes::MonthClosed(c) => true,
+    }
+}
+
+// The tables after a deed.
+fn rows_after(rows: [u8; ALL_ROWS], r: Receiver, w: Writes) -> [u8; ALL_ROWS]
+    requires { ⌜ Writable w × (length (r .held) ≡ heldPlaces) ⌝ }
+    ensures { λ x. ⌜ x ≡ tablesAfter (r .held) rows w ⌝ }
+{
+    let mut next = rows;
+    put_row(&mut next, r, w);
+    next
+}
+
+// The archive after a deed.
+fn archive_after(g: Registers, a: Acted) -> Archive
+    requires { ⌜ archiveGood (g .facts .decimals) (g .archive) ≡ true ⌝ }
+    ensures { λ x. ⌜ x ≡ archiveAfter g a ⌝ }
+{
+    let w = a.writes;
+    if closes(w) {
+        return state::closing::close_with(g.archive, a.clock, g.counters, g.exported);
+    }
+    g.archive
+}
+
+// The registers after a deed.
+fn registers_after(m: Meter, a: Acted) -> Registers
+    requires { ⌜ (archiveGood (m .registers .facts .decimals) (m .registers .archive) ≡ true) × (Writable (a .writes) × (length (m .receiver .held) ≡ heldPlaces)) ⌝ }
+    ensures { λ x. ⌜ x ≡ storedIn m a .registers ⌝ }
+{
+    let g = m.registers;
+    let w = a.writes;
+    let account = a.account;
+    let tables = g.tables;
+    let rows = rows_after(tables, m.receiver, w);
+    let next = with_archive(g, archive_after(g, a));
+    with_tables(with_clock(with_account(next, account), a.clock), rows)
+}
+
+// The meter after a deed.
+fn stored(m: Meter, a: Acted) -> Meter
+    requires { ⌜ (archiveGood (m .registers .facts .decimals) (m .registers .archive) ≡ true) × (Writable (a .writes) × (length (m .receiver .held) ≡ heldPlaces)) ⌝ }
+    ensures { λ x. ⌜ x ≡ storedIn m a ⌝ }
+{
+    let receiver = a.receiver;
+    let mut next = with_registers(m, registers_after(m, a));
+    next.mode = a.mode;
+    next.attempts = a.attempts;
+    next.speed = a.rate;
+    next.receiver = receiver;
+    next
+}
+
+// What a deed says, put into the reply, and what is stored of the meter.
+fn act(m: Meter, d: Deed, reply: &mut [u8]) -> Acted
+    requires { ⌜ (wellFormed m ≡ true) × (replyRoom ≤ length (now reply)) ⌝ }
+    ensures result { λ r. ⌜ r ≡ actedWith (smallOf m) (saidBy (m .registers) d) d ⌝ }
+    ensures held { λ _. ⌜ now (reply .exit) ≡ holding (now (reply .entry)) (onWire (saidBy (m .registers) d)) ⌝ }
+{
+    let g = m.registers;
     let rows = g.tables;
-    let row = text::first(text::rest(&held, 9), values::ROW_LENGTH);
-    with_registers(m, with_tables(g, with_row(rows, t, row)))
-}
-
-// The state that a write of the clock leaves.
-fn take_clock(m: Meter, c: Clock) -> Meter
-    ensures { λ r. ⌜ r ≡ withRegisters m (withClock (m .registers) c) ⌝ }
-{
-    let g = m.registers;
-    with_registers(m, with_clock(g, c))
-}
-
-// W1 of a table.
-fn write_row(m: Meter, t: TableNo, reply: &mut [u8]) -> Answer
-    requires { ⌜ (wellFormed m ≡ true) × (replyRoom ≤ length (now reply)) ⌝ }
-    ensures result { λ r. ⌜ r ≡ answerOf (acted m (Verdict.WriteTable t)) ⌝ }
-    ensures held { λ _. ⌜ now (reply .exit) ≡ holding (now (reply .entry)) (onWire (acted m (Verdict.WriteTable t) .reply)) ⌝ }
-{
-    let g = m.registers;
-    let f = g.facts;
-    if values::is_table(t, values::tables_of(f.edition)) {
-        return answers::accept(m.speed, emptied(take_row(m, t)), reply);
+    let s = small_of(m);
+    if d.long {
+        return act_long(s, &rows, g.archive, d, reply);
     }
-    answers::refuse(9, m, reply)
+    act_short(s, &rows, d, reply)
 }
 
-// What a decision does.
-fn act(m: Meter, v: Verdict, reply: &mut [u8]) -> Answer
-    requires { ⌜ (wellFormed m ≡ true) × (replyRoom ≤ length (now reply)) ⌝ }
-    ensures result { λ r. ⌜ r ≡ answerOf (acted m v) ⌝ }
-    ensures held { λ _. ⌜ now (reply .exit) ≡ holding (now (reply .entry)) (onWire (acted m v .reply)) ⌝ }
+// A deed done by a well-formed meter.
+pub fn perform(m: Meter, d: Deed, reply: &mut [u8]) -> Answer
+    requires { ⌜ ((wellFormed m ≡ true) × Writable (d .writes)) × (replyRoom ≤ length (now reply)) ⌝ }
+    ensures result { λ r. ⌜ r ≡ answerOf (done m d) ⌝ }
+    ensures held { λ _. ⌜ now (reply .exit) ≡ holding (now (reply .entry)) (onWire (saidBy (m .registers) d)) ⌝ }
 {
-    match v {
-        Verdict::Refuse(n) => answers::refuse(n, m, reply),
-        Verdict::Leave => answers::accept(m.speed, in_mode(m, 0), reply),
-        Verdict::Enter => answers::accept(m.speed, in_mode(m, 3), reply),
-        Verdict::Password => try_password(m, reply),
-        Verdict::Read(a) => read(m, a, reply),
-        Verdict::WriteClock(c) => answers::accept(m.speed, emptied(take_clock(m, c)), reply),
-        Verdict::WriteAccount => answers::accept(m.speed, emptied(take_account(m)), reply),
-        Verdict::WriteTable(t) => write_row(m, t, reply),
+    let a = act(m, d, reply);
+    Answer {
+        number: a.number,
+        length: a.length,
+        speed: a.speed,
+        place: a.place,
+        next: stored(m, a),
     }
-}
-
-// A frame is whole: its held characters, and c as its BCC.
-pub fn act_on_frame(m: Meter, c: u8, damaged: bool, reply: &mut [u8]) -> Answer
-    requires { ⌜ (wellFormed m ≡ true) × (replyRoom ≤ length (now reply)) ⌝ }
-    ensures result { λ r. ⌜ r ≡ answerOf (frameEnded m c damaged) ⌝ }
-    ensures held { λ _. ⌜ now (reply .exit) ≡ holding (now (reply .entry)) (onWire (frameEnded m c damaged .reply)) ⌝ }
-{
-    let r = m.receiver;
-    let held = r.held;
-    let hurt = (r.mark == 1) | damaged;
-    if hurt {
-        return answers::refuse_at(3, receiving::hurt_place(r, damaged), m, reply);
-    }
-    let g = m.registers;
-    let f = g.facts;
-    let v = deciding::decide(
-        values::tables_of(f.edition),
-        f.decimals,
-        m.mode,
-        text::first(&held, r.count as usize),
-        false,
-        c,
-    );
-    act(m, v, reply)
 }

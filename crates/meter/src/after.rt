@@ -10,36 +10,23 @@ ghost use Rattle.state.specs.WellFormed.{wellFormed};
 ghost use Rattle.meter.specs.Outcomes.{answerOf};
 ghost use Rattle.meter.specs.Events.{afterSilence, afterTick, afterPulse, afterPowerUp};
 use crate::Answer;
+use crate::acting;
 use crate::answers;
-use crate::link;
+use crate::deeds;
 use state::Meter;
-use state::link::link_of;
-use state::link::rest_speed;
 use state::setting::in_mode;
 use state::setting::with_attempts;
 use state::setting::with_registers;
 
 // Silence, with room for the reply.
 pub fn silence(m: Meter, reply: &mut [u8]) -> Answer
-    requires { ⌜ replyRoom ≤ length (now reply) ⌝ }
+    requires { ⌜ (wellFormed m ≡ true) × (replyRoom ≤ length (now reply)) ⌝ }
     ensures result { λ r. ⌜ r ≡ answerOf (afterSilence m) ⌝ }
     ensures held { λ _. ⌜ now (reply .exit) ≡ holding (now (reply .entry)) (onWire (afterSilence m .reply)) ⌝ }
 {
-    if m.mode == 0 {
-        return answers::quiet(0, in_mode(m, 0));
-    }
-    if m.mode == 1 {
-        let link = link_of(m);
-        let length = link::refuse(link, reply);
-        return Answer {
-            number: 1,
-            length,
-            speed: rest_speed(link),
-            place: 0,
-            next: in_mode(m, 0),
-        };
-    }
-    answers::quiet(1, in_mode(m, 0))
+    let s = acting::small_of(m);
+    let d = deeds::of_silence(deeds::standing_in(s));
+    acting::perform(m, d, reply)
 }
 
 // The clock one second on, and a period closed where a month starts.

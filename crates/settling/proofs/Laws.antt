@@ -1,4 +1,4 @@
--- What is settled is all that the event does; what is left meets a well-formed meter, and nothing else refuses it. Assumes nothing.
+-- What is settled is all that the event does; what is left meets a well-formed meter, nothing else refuses it, and it comes of its deed. Assumes nothing.
 use mathlib.Core.Path.{_≡_, refl, _∙_}
 use mathlib.Core.Bool.{Bool, true, false, cond}
 use mathlib.Core.List.{List}
@@ -22,14 +22,17 @@ use Rattle.receiving.specs.declared.Hearing.the-variants.{Drop, Hold, Restart, 
 use Rattle.receiving.specs.Hearing.{hearing}
 use Rattle.receiving.specs.Receivers.{lastHeld, heldAfter}
 use Rattle.meter.specs.Outcomes.{Outcome, silent, unheard}
+use Rattle.meter.specs.Deeds.{standingOf, monthStarted, acts, heardDeed, characterDeed, leftDeed, done}
 use Rattle.meter.specs.Events.{afterTick, afterPulse}
 use Rattle.meter.specs.Character.{symbol, heard, taken}
 use Rattle.meter.specs.declared.Event.{Event}
 use Rattle.meter.specs.declared.Event.the-variants.{Character, Silence, Tick, Pulse, PowerUp, PulseOut, Unknown}
 use Rattle.meter.specs.Life.{met, refusal, happened}
 use Rattle.meter.proofs.Tests.{met-in-order, pulse-small, pulse-out-small}
+use Rattle.meter.proofs.Done.{heard-done, silence-done, start-done, month-done}
 use Rattle.settling.specs.declared.Seen.{Seen}
 use Rattle.settling.specs.declared.Heard.{Heard}
+use Rattle.settling.specs.Acting.{deedOf}
 use Rattle.settling.specs.Settling.{seenIn, ends, refuses, movesOn, heardAs, heardBy, tickedBy, pulsedBy, toldBy, heardOf, settlesBy, settles, settledOutcome, Countable}
 
 heard-settled : (m : Meter) (c : ℕ) (damaged : Bool) (h : Hearing) → heardAs (seenIn m) c damaged h .settled ≡ true → heard m c damaged h ≡ settledOutcome m (heardAs (seenIn m) c damaged h)
@@ -128,3 +131,53 @@ left-is m room e = go (isEdition (editionOf m)) refl (eqb (refusal (familyOf m) 
     go true o true a true w h s = record { formed = w; unrefused = eqb-true (refusal (familyOf m) room e) 0 a; all = met-in-order m room e ∙ rw (o, a, w) }
     go true o true a false w h s = absurd (let z : _≡_ {A = ℕ} 0 1 = cc in omega arith)
     go true o false a q w h s = absurd (let z : _≡_ {A = ℕ} 0 1 = cc in omega arith)
+
+heard-left : (m : Meter) (c : ℕ) (damaged : Bool) (h : Hearing) → heardAs (seenIn m) c damaged h .settled ≡ false → heard m c damaged h ≡ done m (heardDeed (standingOf m) (m .receiver .held) h c damaged)
+unfolding heardAs acts
+heard-left m c damaged Drop e = absurd (let z : _≡_ {A = ℕ} 0 1 = cc in omega arith)
+heard-left m c damaged Hold e = absurd (let z : _≡_ {A = ℕ} 0 1 = cc in omega arith)
+heard-left m c damaged Restart e = absurd (let z : _≡_ {A = ℕ} 0 1 = cc in omega arith)
+heard-left m c damaged Empty e = absurd (let z : _≡_ {A = ℕ} 0 1 = cc in omega arith)
+heard-left m c damaged Line e = heard-done m c damaged Line refl
+heard-left m c damaged Confirm e = heard-done m c damaged Confirm refl
+heard-left m c damaged Frame e = heard-done m c damaged Frame refl
+heard-left m c damaged TooLong e = heard-done m c damaged TooLong refl
+
+-- the second that is left starts a month
+tick-left : (m : Meter) → tickedBy (seenIn m) .settled ≡ false → afterTick m ≡ done m (monthStarted (standingOf m) (nextSecond (m .registers .clock)))
+unfolding tickedBy monthClosed
+tick-left m = go (monthStarts next)
+  where
+    next : Clock
+    next = nextSecond (m .registers .clock)
+
+    went : Bool → Heard
+    went b = cond b (ends (seenIn m)) (movesOn (seenIn m) next (m .registers .counters) (m .registers .exported))
+
+    go : (b : Bool) → went b .settled ≡ false → silent 1 (withRegisters m (cond b (closing (withClock (m .registers) next)) (withClock (m .registers) next))) ≡ done m (monthStarted (standingOf m) next)
+    go true s = month-done m next
+    go false s = absurd (let z : _≡_ {A = ℕ} 0 1 = cc in omega arith)
+
+event-left : (m : Meter) (room : ℕ) (e : Event) → refusal (familyOf m) room e ≡ 0 → heardIn m e .settled ≡ false → happened m e ≡ done m (deedOf m e)
+unfolding heardIn heardOf heardBy pulsedBy happened taken refusal leftDeed characterDeed
+event-left m room (Character b) r s = heard-left m (symbol b) (damagedAt b) (hearing (m .mode) (m .receiver .count) (lastHeld (m .receiver)) (symbol b)) s
+event-left m room Silence r s = silence-done m
+event-left m room Tick r s = tick-left m s
+event-left m room (Pulse units) r s = absurd (let z : _≡_ {A = ℕ} 0 1 = cc in omega arith)
+event-left m room PowerUp r s = start-done m
+event-left m room (PulseOut units) r s = absurd (let z : _≡_ {A = ℕ} 0 1 = cc in omega arith)
+event-left m room Unknown r s = absurd (omega (arith, r))
+
+-- an event that is not settled comes of its deed
+pub left-done : (m : Meter) (room : ℕ) (e : Event) → settles m room e .settled ≡ false → happened m e ≡ done m (deedOf m e)
+unfolding settlesBy heardIn
+left-done m room e s = let left = left-is m room e s in event-left m room e (left .unrefused) (go (isEdition (editionOf m)) (eqb (refusal (familyOf m) room e) 0) (wellFormed m) (heardIn m e) s)
+  where
+    not : ℕ → Heard
+    not n = refuses (seenIn m) n
+
+    go : (k p q : Bool) (h : Heard) → cond k (cond p (cond q h (not 14)) (not (refusal (familyOf m) room e))) (not 16) .settled ≡ false → h .settled ≡ false
+    go true true true h s = s
+    go true true false h s = absurd (let z : _≡_ {A = ℕ} 0 1 = cc in omega arith)
+    go true false q h s = absurd (let z : _≡_ {A = ℕ} 0 1 = cc in omega arith)
+    go false p q h s = absurd (let z : _≡_ {A = ℕ} 0 1 = cc in omega arith)

@@ -1,15 +1,27 @@
 // Most events have no reply and change little: a character the receiver, a second the clock, a pulse its counters; or they are refused. They are settled here
-// from what they ask of the state, so that none of it is copied for them but that.
+// from what they ask of the state, so that none of it is copied for them but that. On the others the meter acts, with its tables lent on where they lie.
 ghost use mathlib.Core.Path.{_≡_};
 ghost use mathlib.Core.Bool.{true, false};
 ghost use Prim.Native.Nat.{_≤_, _<_};
-ghost use Rattle.meter.specs.Life.{eventOf};
+ghost use lib.ListN.{length};
+ghost use Rattle.text.specs.Writing.{holding};
+ghost use Rattle.frames.specs.Frames.{onWire};
+ghost use Rattle.state.specs.WellFormed.{wellFormed, familyOf};
+ghost use Rattle.meter.specs.Life.{eventOf, refusal};
+ghost use Rattle.meter.specs.Deeds.{standingIn, leftDeed, saidBy};
 ghost use Rattle.settling.specs.Settling.{standing, goesOn, movesOn, heardAs, heardBy, tickedBy, pulsedBy, toldBy, heardOf, settlesBy, settles, Countable};
+ghost use Rattle.settling.specs.Acting.{deedOf, actedBy};
 use clock::Clock;
+use meter::Acted;
+use meter::Deed;
 use meter::Event;
+use meter::Small;
+use meter::acting;
+use meter::deeds;
 use meter::events;
 use receiving::Hearing;
 use receiving::Holding;
+use replies::Plain;
 use state::ALL_ROWS;
 use state::Counters;
 use state::HELD_PLACES;
@@ -275,4 +287,45 @@ pub fn look(m: &Meter, kind: u8, value: u32, room: usize) -> Heard
         value,
         room,
     )
+}
+
+// What an event that is not settled comes to.
+fn deed_of(s: Small, kind: u8, value: u32) -> Deed
+    requires { ⌜ (s .attempts ≤ 3) × ((length (s .plain .facts .serial) ≡ 10) × (length (s .plain .facts .password) ≡ 8)) ⌝ }
+    ensures { λ r. ⌜ r ≡ leftDeed (standingIn s) (s .receiver .held) (s .plain .clock) (eventOf kind value) ⌝ }
+{
+    deeds::of_small(s, events::event_of(kind, value))
+}
+
+// Whether it says the closed periods.
+fn is_long(d: Deed) -> bool
+    ensures { λ r. ⌜ r ≡ d .long ⌝ }
+{
+    d.long
+}
+
+// An event that is not settled, by a record that is lent: its reply, and what is to be stored. The tables are lent on, and the archive is copied for the long block alone.
+pub fn act(m: &Meter, kind: u8, value: u32, reply: &mut [u8]) -> Acted
+    requires { ⌜ (wellFormed (now m) ≡ true) × (refusal (familyOf (now m)) (length (now reply)) (eventOf kind value) ≡ 0) ⌝ }
+    ensures { λ r. ⌜ (r ≡ actedBy (now (m .entry)) (eventOf kind value))
+        × (now (reply .exit) ≡ holding (now (reply .entry)) (onWire (saidBy (now (m .entry) .registers) (deedOf (now (m .entry)) (eventOf kind value))))) ⌝ }
+{
+    let s = Small {
+        mode: m.mode,
+        attempts: m.attempts,
+        speed: m.speed,
+        receiver: m.receiver,
+        plain: Plain {
+            facts: m.registers.facts,
+            account: m.registers.account,
+            clock: m.registers.clock,
+            counters: m.registers.counters,
+            exported: m.registers.exported,
+        },
+    };
+    let d = deed_of(s, kind, value);
+    if is_long(d) {
+        return acting::act_long(s, &m.registers.tables, m.registers.archive, d, reply);
+    }
+    acting::act_short(s, &m.registers.tables, d, reply)
 }

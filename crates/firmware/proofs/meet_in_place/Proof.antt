@@ -1,6 +1,6 @@
 -- `firmware::meet_in_place` meets its contract: a walk of its MIR, by hand. The record is lent as a `&` for the time of `settling::look`, and its borrow is opened when that has come back.
--- Where the event is settled, what the receiver holds is lent as a `&mut` to `settle`, the rest that was heard is stored into the record, the borrow is closed there, and the reply's slice is given up as it is. Otherwise `meter::events::act` is called on a copy of the state and is given
--- the slice for good, the next state is stored over the record, and the borrow is closed at it. All that is known of the callees is that each meets its contract. Assumes nothing.
+-- Where the event is settled, what the receiver holds is lent as a `&mut` to `settle`, the rest that was heard is stored into the record, the borrow is closed there, and the reply's slice is given up as it is.
+-- Otherwise the borrow is closed as it was, and record and slice are given to `act_in_place` for good. All that is known of the callees is that each meets its contract. Assumes nothing.
 use mathlib.Core.Path.{_≡_, refl, sym, _∙_, ap, subst}
 use mathlib.Core.Bool.{Bool, true, false, not}
 use lib.Dec.{T}
@@ -20,18 +20,19 @@ use prog.Wp.{Heap, Calls, Loops, WpFn, Tables}
 use ghost.Atoms.{Atoms, sem}
 use contract.Monad.{Fun, fact}
 use contract.Running.{givenOf, tables, tablesOf}
-use types.Kit.{Given, Go, given, learn, use3, atRet, ‵, raw, some, later, _⊛_, _$_, _∵_, !, qed, by, move, keep, drop, use0, use1, use2, rewrite, split, join, pick, fsplit, fsplit3, fjoin, fjoin3, feqI, feqL, suffices, frame, await, done}
-use types.Run.{look, look-raw, init, store, store-raw, forget, stop, hop, fld, from, load, addr, of-opd, and-then, no-more, assigns, land, first, branches, skips, exec, returns, returns-within, enter, alloc1, alloc0, params1, pass1, pass0, free1, free0}
+use types.Kit.{Given, Go, given, learn, use3, ‵, raw, some, later, _⊛_, _$_, _∵_, !, qed, by, move, keep, drop, use0, use1, use2, rewrite, split, join, pick, fsplit, fsplit3, fjoin, fjoin3, feqI, feqL, suffices, frame, await, done}
+use types.Run.{look, init, forget, stop, hop, fld, from, load, addr, of-opd, and-then, no-more, assigns, land, returns, returns-within, enter, alloc1, alloc0, params1, pass1, pass0, free1, free0}
 use types.Part.{agg, whole, sub, look-in, store-in}
 use types.SemTy.{Body}
 use types.Tokens.{lft-new, lft-end}
 use borrow.Table.Owned as O
 use borrow.Rule.Reshare.{keptS, ref-reshare, ref-reshare-back}
 use sound.WpLaws.{FmC, fmOf, WpFn-mono}
-use denote.RattleType.{owns}
+use denote.RattleType.{RattleType, owns}
 use denote.Laws.{Is, shows}
 use denote.Memory.{cellAt, partAt, mem}
 use denote.Plain.{Boolean, uint-vals, uint-tells, uint-makes}
+use denote.Array.{Array}
 use denote.Builtin.{u8, u32, usize}
 use denote.Ref.{RefT, MutRef, ptr-vals, mut-tells}
 use denote.Slice.{sliceVal, MutSlice, Room, heres, codedHoleys, finally, res-finally, slice-vals, mut-slice-tells}
@@ -46,7 +47,7 @@ use denote.Triple.Clauses.{ensured, lasts}
 use denote.Triple.Entry.{onEntry}
 use denote.Triple.Spec.{Meets, tripleOf}
 use denote.Triple.Table.{entered, cited}
-use denote.Triple.Walked.{says, Stays, stay-ref, stay-none, gave-slice, walkOf, AllGo, goes-none, goes-ref, goes-gave-slice, Walks, ends-at, walked, walk-meets}
+use denote.Triple.Walked.{says, Stays, gave-ref, stay-none, gave-slice, walkOf, AllGo, goes-none, goes-gave-ref, goes-gave-slice, Walks, ends-at, walked, walk-meets}
 use denote.Exit.{yes}
 use Rattle.state.specs.declared.Meter.{Meter}
 use Rattle.state.specs.Setting.{withReceiver, withRegisters, withClock, withCounters, withExported}
@@ -60,33 +61,29 @@ use Rattle.state.proofs.Counters as U
 use Rattle.state.proofs.Counters.Laws as U′
 use Rattle.clock.proofs.Clock as K
 use Rattle.clock.proofs.Clock.Laws as K′
-use Rattle.meter.specs.Outcomes.{Outcome, answerOf}
+use Rattle.meter.specs.Outcomes.{Outcome}
 use Rattle.meter.specs.declared.Event.{Event}
-use Rattle.meter.specs.Life.{eventOf, met, happened}
+use Rattle.meter.specs.Life.{eventOf, met}
+use Rattle.meter.specs.Deeds.{done as all-done}
 use Rattle.frames.specs.Frames.{onWire}
 use Rattle.text.specs.Writing.{holding}
-use Rattle.meter.specs.declared.Answer.{Answer}
-use Rattle.meter.proofs.Answer as N
-use Rattle.meter.proofs.Answer.Laws as N′
-use Rattle.meter.proofs.events.act as act
-use Rattle.meter.proofs.events.act.Symbol as act-def
-use Rattle.meter.proofs.events.act.Symbol.{name as #meter·events·act}
-use Rattle.meter.proofs.events.act.Met as act-thm
 use Rattle.settling.specs.declared.Heard.{Heard}
 use Rattle.receiving.specs.Receivers.{heldAfter}
 use Rattle.settling.specs.Settling.{settles}
 use Rattle.settling.proofs.Heard as E
 use Rattle.settling.proofs.Heard.Laws as E′
-use Rattle.settling.proofs.Laws.{settled-is, Left, left-is}
+use Rattle.settling.specs.Acting.{deedOf}
+use Rattle.settling.proofs.Laws.{settled-is, Left, left-is, left-done}
 use Rattle.settling.proofs.look as look-at
 use Rattle.settling.proofs.look.Symbol as look-def
 use Rattle.settling.proofs.look.Symbol.{name as #settling·look}
 use Rattle.settling.proofs.look.Met as look-thm
 use Rattle.firmware.specs.declared.Reply.{Reply}
-use Rattle.firmware.specs.Replies.{replyTo, replyOf, settledReply}
+use Rattle.firmware.specs.Replies.{replyOf, settledReply}
 use Rattle.lent.proofs.Behind.{behind}
+use Rattle.lent.proofs.Forks.{forks}
 use Rattle.lent.proofs.Known.{inField}
-use Rattle.firmware.proofs.Lending.{places, valOf, lends-held, held-back}
+use Rattle.firmware.proofs.Lending.{lends-run, run-back}
 use Rattle.firmware.proofs.Reply as P
 use Rattle.firmware.proofs.Reply.Laws as P′
 use Rattle.firmware.proofs.is_settled as settled
@@ -97,30 +94,31 @@ use Rattle.firmware.proofs.settle as settle
 use Rattle.firmware.proofs.settle.Symbol as settle-def
 use Rattle.firmware.proofs.settle.Symbol.{name as #firmware·settle}
 use Rattle.firmware.proofs.settle.Met as settle-thm
-use Rattle.firmware.proofs.next_of as next
-use Rattle.firmware.proofs.next_of.Symbol as next-def
-use Rattle.firmware.proofs.next_of.Symbol.{name as #firmware·next-of}
-use Rattle.firmware.proofs.next_of.Met as next-thm
-use Rattle.firmware.proofs.reply_of as reply
-use Rattle.firmware.proofs.reply_of.Symbol as reply-def
-use Rattle.firmware.proofs.reply_of.Symbol.{name as #firmware·reply-of}
-use Rattle.firmware.proofs.reply_of.Met as reply-thm
+use Rattle.firmware.proofs.act_in_place as act
+use Rattle.firmware.proofs.act_in_place.Symbol as act-def
+use Rattle.firmware.proofs.act_in_place.Symbol.{name as #firmware·act-in-place}
+use Rattle.firmware.proofs.act_in_place.Met as act-thm
 use Rattle.firmware.proofs.meet_in_place.Key.{name as #firmware·meet-in-place}
 use Rattle.firmware.proofs.meet_in_place as f
 use Rattle.firmware.proofs.meet_in_place.Statement as stated
 use Rattle.firmware.proofs.meet_in_place.Code as code
-use Rattle.firmware.proofs.meet_in_place.Code.Mir as body
 
 abbrev stayed : Stays (f.ended .signature .params) (f.ended .kept)
-stayed = (stay-ref (0 ∷ []) tt (plain (λ _. S.the-row)), (stay-none (λ _. u8) yes, (stay-none (λ _. u32) yes, (gave-slice (1 ∷ []) tt (plain (λ _. u8)), tt))))
+stayed = (gave-ref (0 ∷ []) tt (plain (λ _. S.the-row)), (stay-none (λ _. u8) yes, (stay-none (λ _. u32) yes, (gave-slice (1 ∷ []) tt (plain (λ _. u8)), tt))))
+
+abbrev places : RattleType
+places = Array u8 64
+
+-- the machine value of what is held, as the record's field has it
+abbrev valOf : List ℕ → Val
+valOf ys = R′.the-laws .1 .0 .val (inField ys)
 
 -- what the call asks of its result, of the record at exit and of the buffer at exit
 abbrev Said : Outcome → List ℕ → Reply → Meter → List ℕ → Type 0
 Said o ys t m′ zs = (t ≡ replyOf o) × (m′ ≡ o .next) × (zs ≡ holding ys (onWire (o .reply)))
 
-said : (o o′ : Outcome) (ys zs : List ℕ) (r : Answer) (t : Reply) (m′ : Meter) → o ≡ o′
-    → r ≡ answerOf o′ → zs ≡ holding ys (onWire (o′ .reply)) → m′ ≡ r .next → t ≡ replyTo r → Said o ys t m′ zs
-said o o′ ys zs r t m′ all e ez em et = rw all (et ∙ ap replyTo e, em ∙ ap (λ (a : Answer). a .next) e, ez)
+said : (o o′ : Outcome) (ys zs : List ℕ) (t : Reply) (m′ : Meter) → o ≡ o′ → Said o′ ys t m′ zs → Said o ys t m′ zs
+said o o′ ys zs t m′ all e = rw all e
 
 -- the state that a settled event leaves, where the receiver then holds these
 abbrev after : Meter → Heard → List ℕ → Meter
@@ -158,21 +156,9 @@ module _ {M : Type 1} (𝓤 : URA M) (H : Heap 𝓤) (A : Atoms 𝓤) (at-mem : 
   abbrev Act : Contract 𝓤
   Act = tripleOf 𝓤 H A act.signature (act.spec 𝓤 H A at-mem run)
 
-  abbrev Next : Contract 𝓤
-  Next = tripleOf 𝓤 H A next.signature (next.spec 𝓤 H A at-mem run)
-
-  abbrev ReplyOf : Contract 𝓤
-  ReplyOf = tripleOf 𝓤 H A reply.signature (reply.spec 𝓤 H A at-mem run)
-
-  -- of the helpers' `ensured`, the clause alone: none has a last value
+  -- of the helper's `ensured`, the clause alone: it has no last value
   settled-says : (r : Heard) (y : Bool) → ent 𝓤 (ensured 𝓤 H A settled.ended (settled.clauses 𝓤 H A at-mem run) tt (r, tt) tt y) (fact 𝓤 (y ≡ r .settled))
   settled-says r y = exE 𝓤 _ (λ ws. snd∗ 𝓤 (sem 𝓤 H A (lasts settled.ended tt (r, tt) ws)) (fact 𝓤 (y ≡ r .settled)))
-
-  next-says : (r : Answer) (s : Meter) → ent 𝓤 (ensured 𝓤 H A next.ended (next.clauses 𝓤 H A at-mem run) tt (r, tt) tt s) (fact 𝓤 (s ≡ r .next))
-  next-says r s = exE 𝓤 _ (λ ws. snd∗ 𝓤 (sem 𝓤 H A (lasts next.ended tt (r, tt) ws)) (fact 𝓤 (s ≡ r .next)))
-
-  reply-says : (r : Answer) (t : Reply) → ent 𝓤 (ensured 𝓤 H A reply.ended (reply.clauses 𝓤 H A at-mem run) tt (r, tt) tt t) (fact 𝓤 (t ≡ replyTo r))
-  reply-says r t = exE 𝓤 _ (λ ws. snd∗ 𝓤 (sem 𝓤 H A (lasts reply.ended tt (r, tt) ws)) (fact 𝓤 (t ≡ replyTo r)))
 
 module _ {M : Type 1} (𝓤 : URA M) (H : Heap 𝓤) (A : Atoms 𝓤) (W : Given 𝓤 H A) (at-mem : Memory → SProp 𝓤) (run : Routine → Fun 𝓤) (κ κ₁ : Lft) (q q₁ : Share) (b o : ℕ) (γ : GName) (h : Meter) (n n₁ : ℕ) (b₁ o₁ : ℕ) (γ₁ : GName) (ys : List ℕ) (fits : n < 2 ^ 8) (fits₁ : n₁ < 2 ^ 32) where
   abbrev event : Event
@@ -246,12 +232,13 @@ module _ {M : Type 1} (𝓤 : URA M) (H : Heap 𝓤) (A : Atoms 𝓤) (W : Given
   goes-settled r v = qed W (‵ (E.the-row .own r (v ∷ [])) ∷ []) ∵ nothing ! $ move ! (1 ∷ 0 ∷ []) $ join ! $ nothing ! $ join ! $ frame ! $ done !
 
   abbrev to-act : Act 𝓤 H A at-mem run .Ghost
-  to-act = (((κ₁, tt), (q₁, tt), tt, (h, (n, (n₁, (y, tt)))), (LL.vals S.the-type S′.the-laws h, (vint w8 n ∷ [], (vint w32 n₁ ∷ [], (s₁ ∷ [], tt))))), tt)
+  to-act = (((κ, (κ₁, tt)), (q, (q₁, tt)), tt, x, at), tt)
 
-  goes-act : Is S.the-row h (LL.vals S.the-type S′.the-laws h) → Left h (length ys) event → ent 𝓤 (sep 𝓤 (sep 𝓤 (A .lft κ₁ q₁) (sem 𝓤 H A ftrue)) (sem 𝓤 H A (MutSlice (named 1) κ₁ u8 .own y (s₁ ∷ [])))) (Act 𝓤 H A at-mem run .pre to-act)
-  goes-act was left =
-      qed W ((‵ (flft κ₁ q₁) ⊛ ‵ ftrue) ∷ ‵ (MutSlice (named 1) κ₁ u8 .own y (s₁ ∷ [])) ∷ []) ∵ says ! (left .formed, left .unrefused) $ nothing ! $ move ! (2 ∷ 0 ∷ []) $ fjoin ! $ owned ! u32 (Is u32) (uint-makes 𝓤 H A W w32) n₁ _ (refl, fits₁) $ fjoin ! $ owned ! u8 (Is u8) (uint-makes 𝓤 H A W w8) n _ (refl, fits) $ fjoin ! $
-      owned ! S.the-row (Is S.the-row) (LL.makes S.the-type S′.the-plain 𝓤 H A) h _ was $ fjoin ! $ move ! (1 ∷ 0 ∷ []) $ join ! $ done !
+  goes-act : Left h (length ys) event → ent 𝓤 (sep 𝓤 (sep 𝓤 (A .lft κ q) (sep 𝓤 (A .lft κ₁ q₁) (sem 𝓤 H A ftrue))) (sep 𝓤 (A .obs γ (S.the-row .coded .code h)) (sep 𝓤 (A .bor κ (Body (mem S.the-row) b o γ)) (sem 𝓤 H A (MutSlice (named 1) κ₁ u8 .own y (s₁ ∷ [])))))) (Act 𝓤 H A at-mem run .pre to-act)
+  goes-act left =
+      qed W ((‵ (flft κ q) ⊛ (‵ (flft κ₁ q₁) ⊛ ‵ ftrue)) ∷ ‵ (fobs γ (S.the-row .coded .code h)) ∷ ‵ (fbor κ (Body (mem S.the-row) b o γ)) ∷ ‵ (MutSlice (named 1) κ₁ u8 .own y (s₁ ∷ [])) ∷ []) ∵ says ! (left .formed, left .unrefused) $
+      nothing ! $ move ! (4 ∷ 0 ∷ []) $ fjoin ! $ owned ! u32 (Is u32) (uint-makes 𝓤 H A W w32) n₁ _ (refl, fits₁) $ fjoin ! $ owned ! u8 (Is u8) (uint-makes 𝓤 H A W w8) n _ (refl, fits) $ fjoin ! $
+      move ! (2 ∷ 3 ∷ []) $ feqI ! (List Val) (vptr b o ∷ []) (vptr b o ∷ []) refl $ fjoin3 ! $ fjoin ! $ move ! (1 ∷ 0 ∷ []) $ join ! $ done !
 
   -- the slice is given up as it is
   gives-up : ent 𝓤 (sem 𝓤 H A (MutSlice (named 1) κ₁ u8 .own y (s₁ ∷ []))) (sem 𝓤 H A (finally u8 γ₁ ys))
@@ -283,139 +270,117 @@ module _ {M : Type 1} (𝓤 : URA M) (H : Heap 𝓤) (A : Atoms 𝓤) (W : Given
       let m = LL.owed S.the-type S′.the-laws h (LL.vals S.the-type S′.the-laws h) was in
       LL.owed R.the-type R′.the-laws (h .receiver) (LL.vals R.the-type R′.the-laws (h .receiver)) (m .1 .1 .1 .0) .1 .0
 
-  abbrev to-next : Answer → Val → Next 𝓤 H A at-mem run .Ghost
-  to-next r v = ((tt, tt, tt, (r, tt), (v ∷ [], tt)), tt)
-
-  goes-next : (r : Answer) (v : Val) → ent 𝓤 (sem 𝓤 H A (N.the-row .own r (v ∷ []))) (Next 𝓤 H A at-mem run .pre (to-next r v))
-  goes-next r v = qed W (‵ (N.the-row .own r (v ∷ [])) ∷ []) ∵ nothing ! $ move ! (1 ∷ 0 ∷ []) $ join ! $ nothing ! $ join ! $ frame ! $ done !
-
-  abbrev to-reply : Answer → Val → ReplyOf 𝓤 H A at-mem run .Ghost
-  to-reply r v = ((tt, tt, tt, (r, tt), (v ∷ [], tt)), tt)
-
-  goes-reply : (r : Answer) (v : Val) → ent 𝓤 (sem 𝓤 H A (N.the-row .own r (v ∷ []))) (ReplyOf 𝓤 H A at-mem run .pre (to-reply r v))
-  goes-reply r v = qed W (‵ (N.the-row .own r (v ∷ [])) ∷ []) ∵ nothing ! $ move ! (1 ∷ 0 ∷ []) $ join ! $ nothing ! $ join ! $ frame ! $ done !
-
   exits : (t : Reply) (v : Val) (s : Meter) (zs : List ℕ) → Said (met h (length ys) event) ys t s zs → length zs ≡ length ys
-      → ent 𝓤 (sep 𝓤 (sem 𝓤 H A (P.the-row .own t (v ∷ []))) (sep 𝓤 (A .obs γ (S.the-row .coded .code s)) (sep 𝓤 (A .bor κ (Body (mem S.the-row) b o γ)) (sep 𝓤 (A .lft κ q) (sep 𝓤 (sep 𝓤 (A .lft κ₁ q₁) (sem 𝓤 H A ftrue)) (sem 𝓤 H A (finally u8 γ₁ zs))))))) (Post v)
+      → ent 𝓤 (sep 𝓤 (sem 𝓤 H A (P.the-row .own t (v ∷ []))) (sep 𝓤 (A .lft κ q) (sep 𝓤 (A .res γ (S.the-row .coded .code s)) (sep 𝓤 (sep 𝓤 (A .lft κ₁ q₁) (sem 𝓤 H A ftrue)) (sem 𝓤 H A (finally u8 γ₁ zs)))))) (Post v)
   exits t v s zs e l =
-      qed W (‵ (P.the-row .own t (v ∷ [])) ∷ ‵ (fobs γ (S.the-row .coded .code s)) ∷ ‵ (fbor κ (Body (mem S.the-row) b o γ)) ∷ ‵ (flft κ q) ∷ (‵ (flft κ₁ q₁) ⊛ ‵ ftrue) ∷ ‵ (finally u8 γ₁ zs) ∷ []) ∵
-      suffices ! _ (ends-at 𝓤 H A f.ended stayed (f.clauses 𝓤 H A at-mem run) W (((κ, (κ₁, tt)), (q, (q₁, tt)), tt, x, at), tt) v t (s, (tt, (tt, (zs, tt)))) (tt, (tt, (tt, (l, tt))))) $ says ! e $ move ! (3 ∷ 4 ∷ []) $ join ! $ frame ! $
-      nothing ! $ move ! (4 ∷ 0 ∷ []) $ fjoin ! $ owned ! u32 (Is u32) (uint-makes 𝓤 H A W w32) n₁ _ (refl, fits₁) $ fjoin ! $ owned ! u8 (Is u8) (uint-makes 𝓤 H A W w8) n _ (refl, fits) $ fjoin ! $ move ! (2 ∷ 3 ∷ []) $ feqI ! (List Val) (vptr b o ∷ []) (vptr b o ∷ []) refl $ fjoin3 ! $ fjoin ! $ done !
+      qed W (‵ (P.the-row .own t (v ∷ [])) ∷ ‵ (flft κ q) ∷ ‵ (fres γ (S.the-row .coded .code s)) ∷ (‵ (flft κ₁ q₁) ⊛ ‵ ftrue) ∷ ‵ (finally u8 γ₁ zs) ∷ []) ∵
+      suffices ! _ (ends-at 𝓤 H A f.ended stayed (f.clauses 𝓤 H A at-mem run) W (((κ, (κ₁, tt)), (q, (q₁, tt)), tt, x, at), tt) v t (s, (tt, (tt, (zs, tt)))) (tt, (tt, (tt, (l, tt))))) $ says ! e $ move ! (1 ∷ 3 ∷ []) $ join ! $ frame ! $
+      nothing ! $ move ! (3 ∷ 0 ∷ []) $ fjoin ! $ owned ! u32 (Is u32) (uint-makes 𝓤 H A W w32) n₁ _ (refl, fits₁) $ fjoin ! $ owned ! u8 (Is u8) (uint-makes 𝓤 H A W w8) n _ (refl, fits) $ fjoin ! $ move ! (2 ∷ 0 ∷ []) $ fjoin ! $ done !
 
-  module _ (C : Calls 𝓤 H) (Λ : Loops 𝓤 H) (fm : FmC 𝓤 H (W .laws) C) (known-look : Triple 𝓤 (C #settling·look) (Look 𝓤 H A at-mem run)) (known-settled : Triple 𝓤 (C #firmware·is-settled) (Settled 𝓤 H A at-mem run)) (known-settle : Triple 𝓤 (C #firmware·settle) (Settle 𝓤 H A at-mem run)) (known-act : Triple 𝓤 (C #meter·events·act) (Act 𝓤 H A at-mem run)) (known-next : Triple 𝓤 (C #firmware·next-of) (Next 𝓤 H A at-mem run)) (known-reply : Triple 𝓤 (C #firmware·reply-of) (ReplyOf 𝓤 H A at-mem run)) where
+  module _ (C : Calls 𝓤 H) (Λ : Loops 𝓤 H) (fm : FmC 𝓤 H (W .laws) C) (known-look : Triple 𝓤 (C #settling·look) (Look 𝓤 H A at-mem run)) (known-settled : Triple 𝓤 (C #firmware·is-settled) (Settled 𝓤 H A at-mem run)) (known-settle : Triple 𝓤 (C #firmware·settle) (Settle 𝓤 H A at-mem run)) (known-act : Triple 𝓤 (C #firmware·act-in-place) (Act 𝓤 H A at-mem run)) where
     walk : Room u8 (length ys) → ent 𝓤 (onEntry 𝓤 H A f.signature (κ, (κ₁, tt)) (q, (q₁, tt)) x at) (WpFn 𝓤 H C Λ code.function (vptr b o ∷ vint w8 n ∷ vint w32 n₁ ∷ s₁ ∷ []) Post)
     walk room =
         qed W ((‵ (flft κ q) ⊛ (‵ (flft κ₁ q₁) ⊛ ‵ ftrue)) ∷ ‵ (owns (MutRef (named 0) κ S.the-row ∷ u8 ∷ u32 ∷ MutSlice (named 1) κ₁ u8 ∷ []) x at) ∷ []) ∵ split ! $ move ! (2 ∷ []) $ fsplit ! $ fsplit3 ! $ drop ! $
         move ! (2 ∷ []) $ fsplit ! $ drop ! $ fsplit ! $ drop ! $ fsplit ! $ move ! (2 ∷ 3 ∷ 4 ∷ []) $
         -- [obs; the borrow; its token; what the slice owns; true; the slice's token]
         enter ! C Λ code.function (vptr b o ∷ vint w8 n ∷ vint w32 n₁ ∷ s₁ ∷ []) _ $
-        alloc1 ! (λ l₀. alloc1 ! (λ l₁. alloc1 ! (λ l₂. alloc1 ! (λ l₃. alloc1 ! (λ l₄. alloc1 ! (λ l₅. alloc1 ! (λ l₆. alloc1 ! (λ l₇. alloc1 ! (λ l₈. alloc1 ! (λ l₉. alloc1 ! (λ l₁₀. alloc1 ! (λ l₁₁. alloc1 ! (λ l₁₂. alloc1 ! (λ l₁₃. alloc1 ! (λ l₁₄. alloc0 ! $ params1 ! $
-        pass1 ! (init ! 26 refl (tt, tt)) $ pass1 ! (init ! 24 refl (tt, record { fits = fits })) $ pass1 ! (init ! 22 refl (tt, record { fits = fits₁ })) $ pass1 ! (init ! 20 refl (tt, (tt, (record { fits = room .0 }, tt)))) $ pass0 ! $
-        -- [room for _14 0; _13 2; _12 4; _11 6; _10 8; _9 10; _8 12; _7 14; _6 16; _5 18; _4 20; _3 22; _2 24; _1 26; room for _0 28; obs 30; the borrow; its token; what the slice owns 33; true; the slice's token 35]
-        assigns ! (addr ! (from ! (hop ! (look ! 26 refl) (stop !)))) (from ! (stop !)) (init ! 12 refl (tt, tt)) $
-        assigns ! (of-opd ! (load ! (from ! (fld ! refl (stop !))) (look-in ! 20 (sub ! 1 refl (whole !))))) (from ! (stop !)) (init ! 10 refl (tt, record { fits = room .0 })) $
+        alloc1 ! (λ l₀. alloc1 ! (λ l₁. alloc1 ! (λ l₂. alloc1 ! (λ l₃. alloc1 ! (λ l₄. alloc1 ! (λ l₅. alloc1 ! (λ l₆. alloc1 ! (λ l₇. alloc1 ! (λ l₈. alloc1 ! (λ l₉. alloc1 ! (λ l₁₀. alloc1 ! (λ l₁₁. alloc1 ! (λ l₁₂. alloc1 ! (λ l₁₃. alloc0 ! $ params1 ! $
+        pass1 ! (init ! 24 refl (tt, tt)) $ pass1 ! (init ! 22 refl (tt, record { fits = fits })) $ pass1 ! (init ! 20 refl (tt, record { fits = fits₁ })) $ pass1 ! (init ! 18 refl (tt, (tt, (record { fits = room .0 }, tt)))) $ pass0 ! $
+        -- [room for _13 0; _12 2; _11 4; _10 6; _9 8; _8 10; _7 12; _6 14; _5 16; _4 18; _3 20; _2 22; _1 24; room for _0 26; obs 28; the borrow; its token; what the slice owns 31; true; the slice's token 33]
+        assigns ! (addr ! (from ! (hop ! (look ! 24 refl) (stop !)))) (from ! (stop !)) (init ! 12 refl (tt, tt)) $
+        assigns ! (of-opd ! (load ! (from ! (fld ! refl (stop !))) (look-in ! 18 (sub ! 1 refl (whole !))))) (from ! (stop !)) (init ! 10 refl (tt, record { fits = room .0 })) $
         -- `look`: the record is lent as a `&` for a lifetime ν of the call
-        move ! (30 ∷ 31 ∷ 32 ∷ []) $ lft-new ! tt (λ ν. move ! (1 ∷ 2 ∷ []) $ fjoin ! $ move ! (0 ∷ 2 ∷ []) $
+        move ! (28 ∷ 29 ∷ 30 ∷ []) $ lft-new ! tt (λ ν. move ! (1 ∷ 2 ∷ []) $ fjoin ! $ move ! (0 ∷ 2 ∷ []) $
         use2 W (later (some (λ (δ : GName). ‵ (O.ShrRef erased (ν ∷ []) S.the-row .own (seen δ)) ⊛ ‵ (keptS S.the-row κ q (ν ∷ []) γ h b o)))) (ref-reshare 𝓤 H A W S.the-row κ q (ν ∷ []) b o γ h) $ await ! tt $ pick ! (λ δ. split ! $ fsplit ! $
-        -- [res; the fractured borrow; what is kept; the token of ν; room for _14 4; …]
+        -- [res; the fractured borrow; what is kept; the token of ν; room for _13 4; …]
         join ! $ move ! (2 ∷ 0 ∷ []) $ join ! $ use1 W (raw (Look 𝓤 H A at-mem run .pre (to-look (ν ∷ []) δ))) (goes-look (ν ∷ []) δ (room .0)) $
-        -- [what `look` asks; what is kept 1; room for _14 2; _13 4; _12 6; _11 8; _10 10; _9 12; _8 14; _7 16; _6 18; _5 20; _4 22; _3 24; _2 26; _1 28; room for _0 30; what the slice owns 32; true; its token 34]
-        calls-at ! fm (Look 𝓤 H A at-mem run) known-look (to-look (ν ∷ []) δ) (and-then ! (load ! (from ! (stop !)) (look ! 14 refl)) (and-then ! (load ! (from ! (stop !)) (look ! 26 refl)) (and-then ! (load ! (from ! (stop !)) (look ! 24 refl)) (and-then ! (load ! (from ! (stop !)) (look ! 12 refl)) (no-more !))))) (λ w.
+        -- [what `look` asks; what is kept; room for _13 2; _12 4; _11 6; _10 8; _9 10; _8 12; _7 14; _6 16; _5 18; _4 20; _3 22; _2 24; _1 26; room for _0 28; what the slice owns 30; true; its token 32]
+        calls-at ! fm (Look 𝓤 H A at-mem run) known-look (to-look (ν ∷ []) δ) (and-then ! (load ! (from ! (stop !)) (look ! 14 refl)) (and-then ! (load ! (from ! (stop !)) (look ! 24 refl)) (and-then ! (load ! (from ! (stop !)) (look ! 22 refl)) (and-then ! (load ! (from ! (stop !)) (look ! 12 refl)) (no-more !))))) (λ w.
         use1 W (later (some (λ (r : Heard). ((‵ (flft (ν ∷ []) fullShare) ⊛ ‵ ftrue) ⊛ ‵ (E.the-row .own r (w ∷ []))) ⊛ raw (ensured 𝓤 H A look-at.ended (look-at.clauses 𝓤 H A at-mem run) (ν ∷ [], tt) (seen δ, (n, (n₁, (length ys, tt)))) tt r)))) (id⊢ 𝓤 _) $ await ! tt $ pick ! (λ r.
         split ! $ move ! (1 ∷ []) $ use1 W (raw (fact 𝓤 (r ≡ settles h (length ys) event))) (look-says (ν ∷ []) δ r) $ heard ! (r ≡ settles h (length ys) event) (λ e. split ! $ move ! (1 ∷ []) $
-        peeks ! E.the-row (Is E.the-row) (shows 𝓤 H A E.the-row) r (w ∷ []) (λ is. land ! (from ! (stop !)) (init ! 21 refl (LL.lawful E.the-type E′.the-laws 𝓤 H A W .typed r _ is .0)) $
-        -- [what was heard; the token of ν and true; what is kept; room for _14 3; …]: ν is ended, and the record comes back
+        peeks ! E.the-row (Is E.the-row) (shows 𝓤 H A E.the-row) r (w ∷ []) (λ is. land ! (from ! (stop !)) (init ! 19 refl (LL.lawful E.the-type E′.the-laws 𝓤 H A W .typed r _ is .0)) $
+        -- [what was heard; the token of ν and true; what is kept; room for _13 3; …]: ν is ended, and the record comes back
         move ! (1 ∷ []) $ split ! $ lft-end ! tt $ move ! (0 ∷ 3 ∷ []) $ use2 W (later (‵ (O.MutRef erased κ S.the-row .own (seen γ)) ⊛ ‵ (flft κ q))) (ref-reshare-back 𝓤 H A W S.the-row κ q (ν ∷ []) b o γ h) $ await ! tt $ split ! $ fsplit ! $
         move ! (4 ∷ 3 ∷ []) $ drop ! $ drop ! $
         opens ! tt S.the-row {h = h} b o (λ vs. spelt ! S.the-row (Is S.the-row) (shows 𝓤 H A S.the-row) (LL.vals S.the-type S′.the-laws) (LL.tells S.the-type S′.the-laws) fullShare h vs b o $
         move ! (1 ∷ []) $ peeks ! S.the-row (Is S.the-row) (shows 𝓤 H A S.the-row) h (LL.vals S.the-type S′.the-laws h) (λ was. drop ! $
-        -- [the record's cell; the open borrow; obs; auth; _14 4; _13 6; _12 8; _11 10; _10 12; _9 14; _8 16; _7 18; _6 20; _5 22; _4 24; _3 26; _2 28; _1 30; room for _0 32; what the slice owns 34; true; the slice's token 36]
+        -- [the record's cell; the open borrow; obs; auth; _13 4; _12 6; _11 8; _10 10; _9 12; _8 14; _7 16; _6 18; _5 20; _4 22; _3 24; _2 26; _1 28; room for _0 30; what the slice owns 32; true; the slice's token 34]
         -- `is_settled`
         owned ! E.the-row (Is E.the-row) (LL.makes E.the-type E′.the-plain 𝓤 H A) r (w ∷ []) is $ use1 W (raw (Settled 𝓤 H A at-mem run .pre (to-settled r w))) (goes-settled r w) $
-        calls-at ! fm (Settled 𝓤 H A at-mem run) known-settled (to-settled r w) (and-then ! (load ! (from ! (stop !)) (look ! 23 refl)) (no-more !)) (λ v. use1 W (later (some (λ (z : Bool). (‵ ftrue ⊛ ‵ (Boolean .own z (v ∷ []))) ⊛ raw (ensured 𝓤 H A settled.ended (settled.clauses 𝓤 H A at-mem run) tt (r, tt) tt z)))) (id⊢ 𝓤 _) $ await ! tt $ pick ! (λ z.
+        calls-at ! fm (Settled 𝓤 H A at-mem run) known-settled (to-settled r w) (and-then ! (load ! (from ! (stop !)) (look ! 21 refl)) (no-more !)) (λ v. use1 W (later (some (λ (z : Bool). (‵ ftrue ⊛ ‵ (Boolean .own z (v ∷ []))) ⊛ raw (ensured 𝓤 H A settled.ended (settled.clauses 𝓤 H A at-mem run) tt (r, tt) tt z)))) (id⊢ 𝓤 _) $ await ! tt $ pick ! (λ z.
         split ! $ move ! (1 ∷ []) $ use1 W (raw (fact 𝓤 (z ≡ r .settled))) (settled-says 𝓤 H A at-mem run r z) $ heard ! (z ≡ r .settled) (λ ez. split ! $ drop ! $
         facts ! Boolean (Is Boolean) (shows 𝓤 H A Boolean) z (v ∷ []) (λ is-z. land ! (from ! (stop !)) (init ! 12 refl (subst (λ (u : Val). T (hasTy tyBool u) × WT u) (sym (ap only is-z)) (tt, tt))) $
-        rewrite ! 12 (λ (u : Val). ‵ (fat fullShare tyBool l₁₀ 0 u)) (ap only is-z) refl $
-        first ! $ branches ! (load ! (from ! (stop !)) (look ! 12 refl))
+        rewrite ! 12 (λ (u : Val). ‵ (fat fullShare tyBool l₉ 0 u)) (ap only is-z) refl $
+        forks ! (load ! (from ! (stop !)) (look ! 12 refl))
         -- settled: what was heard lies in its local as the record of its fields
         (λ on. let is-all = subst (Is E.the-row r) (LL.tells E.the-type E′.the-laws r (w ∷ []) is) is in let told = LL.owed E.the-type E′.the-laws r (lain r) is-all .1 .1 .1 .1 in
-        rewrite ! 22 (λ (u : Val). ‵ (fat fullShare E′.mir l₅ 0 u)) (ap only (LL.tells E.the-type E′.the-laws r (w ∷ []) is)) refl $
-        assigns ! (addr ! (from ! (hop ! (look ! 30 refl) (fld ! {τ = R′.mir} {d = 3} refl (fld ! {τ = tyArray (tyInt w8) 64} {d = 1} refl (stop !)))))) (from ! (stop !)) (init ! 10 refl (tt, tt)) $
+        rewrite ! 20 (λ (u : Val). ‵ (fat fullShare E′.mir l₅ 0 u)) (ap only (LL.tells E.the-type E′.the-laws r (w ∷ []) is)) refl $
+        assigns ! (addr ! (from ! (hop ! (look ! 28 refl) (fld ! {τ = R′.mir} {d = 3} refl (fld ! {τ = tyArray (tyInt w8) 64} {d = 1} refl (stop !)))))) (from ! (stop !)) (init ! 10 refl (tt, tt)) $
         -- `settle`: what is held is taken out of the record's cell, and lent for a lifetime ν₁ of the call
         use1 W (‵ (cellAt fullShare (places .mir) (valOf (h .receiver .held) ∷ []) b (o + 3 + 1)) ⊛ raw (all 𝓤 Back)) held-out $ split ! $ lft-new ! tt (λ ν₁. move ! (1 ∷ []) $
-        use1 W (later (some (λ (ε : GName). ‵ (MutRef (named 0) (ν₁ ∷ []) places .own (lent ε) (vptr b (o + 3 + 1) ∷ [])) ⊛ ‵ (flent (ν₁ ∷ []) (Body (mem places) b (o + 3 + 1) ε))))) (lends-held 𝓤 H A W b (o + 3 + 1) held (valOf (h .receiver .held)) (held-is was) (named 0) (ν₁ ∷ [])) $ await ! tt $ pick ! (λ ε. split ! $
-        -- [what the loan owns; the way back from ν₁; its token; the way back to the cell; the open borrow; obs; auth; _14 7; …]
+        use1 W (later (some (λ (ε : GName). ‵ (MutRef (named 0) (ν₁ ∷ []) places .own (lent ε) (vptr b (o + 3 + 1) ∷ [])) ⊛ ‵ (flent (ν₁ ∷ []) (Body (mem places) b (o + 3 + 1) ε))))) (lends-run 𝓤 H A W 64 b (o + 3 + 1) held (valOf (h .receiver .held)) (held-is was) (named 0) (ν₁ ∷ [])) $ await ! tt $ pick ! (λ ε. split ! $
+        -- [what the loan owns; the way back from ν₁; its token; the way back to the cell; the open borrow; obs; auth; _13 7; …]
         owned ! E.the-row (Is E.the-row) (LL.makes E.the-type E′.the-plain 𝓤 H A) r (lain r) is-all $ move ! (0 ∷ 3 ∷ []) $ join ! $ move ! (1 ∷ 0 ∷ []) $ join ! $ use1 W (raw (Settle 𝓤 H A at-mem run .pre (to-settle (ν₁ ∷ []) ε r (only (lain r))))) (goes-settle (ν₁ ∷ []) ε r (only (lain r))) $
-        calls-at ! fm (Settle 𝓤 H A at-mem run) known-settle (to-settle (ν₁ ∷ []) ε r (only (lain r))) (and-then ! (load ! (from ! (stop !)) (look ! 12 refl)) (and-then ! (load ! (from ! (stop !)) (look ! 24 refl)) (no-more !))) (λ u.
+        calls-at ! fm (Settle 𝓤 H A at-mem run) known-settle (to-settle (ν₁ ∷ []) ε r (only (lain r))) (and-then ! (load ! (from ! (stop !)) (look ! 12 refl)) (and-then ! (load ! (from ! (stop !)) (look ! 22 refl)) (no-more !))) (λ u.
         use1 W (later (some (λ (t : Reply). ((‵ (flft (ν₁ ∷ []) fullShare) ⊛ ‵ ftrue) ⊛ ‵ (P.the-row .own t (u ∷ []))) ⊛ raw (ensured 𝓤 H A settle.ended (settle.clauses 𝓤 H A at-mem run) (ν₁ ∷ [], tt) (lent ε, (r, tt)) tt t)))) (id⊢ 𝓤 _) $ await ! tt $ pick ! (λ t.
         split ! $ move ! (1 ∷ []) $ use1 W (some (λ (zs : List ℕ × (Unit {0} × Unit {0})). ‵ (lasts settle.ended (ν₁ ∷ [], tt) (lent ε, (r, tt)) zs) ⊛ raw (fact 𝓤 ((t ≡ settledReply r) × (zs .0 ≡ heldAfter (r .holding) held))))) (id⊢ 𝓤 _) $ pick ! (λ zs.
         split ! $ move ! (1 ∷ []) $ heard ! ((t ≡ settledReply r) × (zs .0 ≡ heldAfter (r .holding) held)) (λ eh. fsplit ! $ move ! (1 ∷ []) $ drop ! $ move ! (1 ∷ []) $ split ! $ move ! (1 ∷ []) $
-        -- [what the answer owns; the token of ν₁ and true; res; the way back from ν₁; the way back to the cell; the open borrow; obs; auth; _14 8; …]
-        peeks ! P.the-row (Is P.the-row) (shows 𝓤 H A P.the-row) t (u ∷ []) (λ is-t. land ! (from ! (stop !)) (init ! 24 refl (LL.lawful P.the-type P′.the-laws 𝓤 H A W .typed t _ is-t .0)) $
-        move ! (1 ∷ []) $ split ! $ lft-end ! tt $ move ! (0 ∷ 4 ∷ 3 ∷ []) $ use3 W (later (given (Is places (inField (zs .0)) (valOf (zs .0) ∷ [])) (‵ (cellAt fullShare (places .mir) (valOf (zs .0) ∷ []) b (o + 3 + 1))))) (held-back 𝓤 H A W b (o + 3 + 1) (ν₁ ∷ []) ε (zs .0)) $ await ! tt $ learn ! (λ is-held.
+        -- [what the answer owns; the token of ν₁ and true; res; the way back from ν₁; the way back to the cell; the open borrow; obs; auth; _13 8; …]
+        peeks ! P.the-row (Is P.the-row) (shows 𝓤 H A P.the-row) t (u ∷ []) (λ is-t. land ! (from ! (stop !)) (init ! 22 refl (LL.lawful P.the-type P′.the-laws 𝓤 H A W .typed t _ is-t .0)) $
+        move ! (1 ∷ []) $ split ! $ lft-end ! tt $ move ! (0 ∷ 4 ∷ 3 ∷ []) $ use3 W (later (given (Is places (inField (zs .0)) (valOf (zs .0) ∷ [])) (‵ (cellAt fullShare (places .mir) (valOf (zs .0) ∷ []) b (o + 3 + 1))))) (run-back 𝓤 H A W 64 b (o + 3 + 1) (R′.the-laws .1 .0 .val) (R′.the-laws .1 .0 .tells) (ν₁ ∷ []) ε (zs .0)) $ await ! tt $ learn ! (λ is-held.
         move ! (3 ∷ []) $ use1 W (raw (Back (valOf (zs .0)))) (allE 𝓤 Back (valOf (zs .0))) $ move ! (1 ∷ 0 ∷ []) $ use2 W (‵ (cellAt fullShare (S.the-row .mir) (with-held (valOf (zs .0)) ∷ []) b o)) (held-in (valOf (zs .0))) $
-        -- [the record's cell; true; what the answer owns; the open borrow; obs; auth; _14 6; …; _5 24; …; _1 32; room for _0 34; what the slice owns 36; true; its token 38]: the rest that was heard is stored
-        assigns ! (of-opd ! (load ! (from ! (fld ! {τ = tyInt w8} {d = 6} refl (stop !))) (look-in ! 24 {τ = tyInt w8} (sub ! 4 {τ = tyInt w8} {d = 6} refl (whole !))))) (from ! (hop ! (look ! 32 refl) (fld ! {τ = R′.mir} {d = 3} refl (fld ! {τ = tyInt w8} {d = 0} refl (stop !))))) (store-in ! 0 (sub ! 0 {d = 0} refl (sub ! 3 {d = 3} refl (whole !))) (tt, record { fits = told .0 .1 })) $
-        assigns ! (of-opd ! (load ! (from ! (fld ! {τ = tyInt w8} {d = 7} refl (stop !))) (look-in ! 24 {τ = tyInt w8} (sub ! 5 {τ = tyInt w8} {d = 7} refl (whole !))))) (from ! (hop ! (look ! 32 refl) (fld ! {τ = R′.mir} {d = 3} refl (fld ! {τ = tyInt w8} {d = 65} refl (stop !))))) (store-in ! 0 (sub ! 2 {d = 65} refl (sub ! 3 {d = 3} refl (whole !))) (tt, record { fits = told .1 .0 .1 })) $
-        assigns ! (of-opd ! (load ! (from ! (fld ! {τ = tyInt w8} {d = 8} refl (stop !))) (look-in ! 24 {τ = tyInt w8} (sub ! 6 {τ = tyInt w8} {d = 8} refl (whole !))))) (from ! (hop ! (look ! 32 refl) (fld ! {τ = R′.mir} {d = 3} refl (fld ! {τ = tyInt w8} {d = 66} refl (stop !))))) (store-in ! 0 (sub ! 3 {d = 66} refl (sub ! 3 {d = 3} refl (whole !))) (tt, record { fits = told .1 .1 .0 .1 })) $
-        assigns ! (of-opd ! (load ! (from ! (fld ! {τ = K′.mir} {d = 10} refl (stop !))) (look-in ! 24 {τ = K′.mir} (sub ! 7 {τ = K′.mir} {d = 10} refl (whole !))))) (from ! (hop ! (look ! 32 refl) (fld ! {τ = G′.mir} {d = 72} refl (fld ! {τ = K′.mir} {d = 32} refl (stop !))))) (store-in ! 0 (behind ! (sub ! 2 {d = 32} refl (sub ! 4 {d = 72} refl (whole !)))) (LL.lawful K.the-type K′.the-laws 𝓤 H A W .typed (r .clock) _ (told .1 .1 .1 .0) .0)) $
-        assigns ! (of-opd ! (load ! (from ! (fld ! {τ = U′.mir} {d = 20} refl (stop !))) (look-in ! 24 {τ = U′.mir} (sub ! 8 {τ = U′.mir} {d = 20} refl (whole !))))) (from ! (hop ! (look ! 32 refl) (fld ! {τ = G′.mir} {d = 72} refl (fld ! {τ = U′.mir} {d = 40} refl (stop !))))) (store-in ! 0 (behind ! (sub ! 3 {d = 40} refl (sub ! 4 {d = 72} refl (whole !)))) (LL.lawful U.the-type U′.the-laws 𝓤 H A W .typed (r .counters) _ (told .1 .1 .1 .1 .0) .0)) $
-        assigns ! (of-opd ! (load ! (from ! (fld ! {τ = U′.mir} {d = 40} refl (stop !))) (look-in ! 24 {τ = U′.mir} (sub ! 9 {τ = U′.mir} {d = 40} refl (whole !))))) (from ! (hop ! (look ! 32 refl) (fld ! {τ = G′.mir} {d = 72} refl (fld ! {τ = U′.mir} {d = 60} refl (stop !))))) (store-in ! 0 (behind ! (sub ! 4 {d = 60} refl (sub ! 4 {d = 72} refl (whole !)))) (LL.lawful U.the-type U′.the-laws 𝓤 H A W .typed (r .exported) _ (told .1 .1 .1 .1 .1 .0) .0)) $
+        -- [the record's cell; true; what the answer owns; the open borrow; obs; auth; _13 6; …; _5 22; …; _1 30; room for _0 32; what the slice owns 34; true; its token 36]: the rest that was heard is stored
+        assigns ! (of-opd ! (load ! (from ! (fld ! {τ = tyInt w8} {d = 6} refl (stop !))) (look-in ! 22 {τ = tyInt w8} (sub ! 4 {τ = tyInt w8} {d = 6} refl (whole !))))) (from ! (hop ! (look ! 30 refl) (fld ! {τ = R′.mir} {d = 3} refl (fld ! {τ = tyInt w8} {d = 0} refl (stop !))))) (store-in ! 0 (sub ! 0 {d = 0} refl (sub ! 3 {d = 3} refl (whole !))) (tt, record { fits = told .0 .1 })) $
+        assigns ! (of-opd ! (load ! (from ! (fld ! {τ = tyInt w8} {d = 7} refl (stop !))) (look-in ! 22 {τ = tyInt w8} (sub ! 5 {τ = tyInt w8} {d = 7} refl (whole !))))) (from ! (hop ! (look ! 30 refl) (fld ! {τ = R′.mir} {d = 3} refl (fld ! {τ = tyInt w8} {d = 65} refl (stop !))))) (store-in ! 0 (sub ! 2 {d = 65} refl (sub ! 3 {d = 3} refl (whole !))) (tt, record { fits = told .1 .0 .1 })) $
+        assigns ! (of-opd ! (load ! (from ! (fld ! {τ = tyInt w8} {d = 8} refl (stop !))) (look-in ! 22 {τ = tyInt w8} (sub ! 6 {τ = tyInt w8} {d = 8} refl (whole !))))) (from ! (hop ! (look ! 30 refl) (fld ! {τ = R′.mir} {d = 3} refl (fld ! {τ = tyInt w8} {d = 66} refl (stop !))))) (store-in ! 0 (sub ! 3 {d = 66} refl (sub ! 3 {d = 3} refl (whole !))) (tt, record { fits = told .1 .1 .0 .1 })) $
+        assigns ! (of-opd ! (load ! (from ! (fld ! {τ = K′.mir} {d = 10} refl (stop !))) (look-in ! 22 {τ = K′.mir} (sub ! 7 {τ = K′.mir} {d = 10} refl (whole !))))) (from ! (hop ! (look ! 30 refl) (fld ! {τ = G′.mir} {d = 72} refl (fld ! {τ = K′.mir} {d = 32} refl (stop !))))) (store-in ! 0 (behind ! (sub ! 2 {d = 32} refl (sub ! 4 {d = 72} refl (whole !)))) (LL.lawful K.the-type K′.the-laws 𝓤 H A W .typed (r .clock) _ (told .1 .1 .1 .0) .0)) $
+        assigns ! (of-opd ! (load ! (from ! (fld ! {τ = U′.mir} {d = 20} refl (stop !))) (look-in ! 22 {τ = U′.mir} (sub ! 8 {τ = U′.mir} {d = 20} refl (whole !))))) (from ! (hop ! (look ! 30 refl) (fld ! {τ = G′.mir} {d = 72} refl (fld ! {τ = U′.mir} {d = 40} refl (stop !))))) (store-in ! 0 (behind ! (sub ! 3 {d = 40} refl (sub ! 4 {d = 72} refl (whole !)))) (LL.lawful U.the-type U′.the-laws 𝓤 H A W .typed (r .counters) _ (told .1 .1 .1 .1 .0) .0)) $
+        assigns ! (of-opd ! (load ! (from ! (fld ! {τ = U′.mir} {d = 40} refl (stop !))) (look-in ! 22 {τ = U′.mir} (sub ! 9 {τ = U′.mir} {d = 40} refl (whole !))))) (from ! (hop ! (look ! 30 refl) (fld ! {τ = G′.mir} {d = 72} refl (fld ! {τ = U′.mir} {d = 60} refl (stop !))))) (store-in ! 0 (behind ! (sub ! 4 {d = 60} refl (sub ! 4 {d = 72} refl (whole !)))) (LL.lawful U.the-type U′.the-laws 𝓤 H A W .typed (r .exported) _ (told .1 .1 .1 .1 .1 .0) .0)) $
         owned ! S.the-row (Is S.the-row) (LL.makes S.the-type S′.the-plain 𝓤 H A) (after h r (zs .0)) _ (settled-row r (zs .0) is-all is-held was) $ move ! (1 ∷ 0 ∷ 4 ∷ 5 ∷ 6 ∷ []) $ closes ! tt S.the-row (after h r (zs .0)) (LL.vals S.the-type S′.the-laws (after h r (zs .0))) b o $
-        -- [obs; the borrow; its token; true; what the answer owns; _14 5; …; _6 21; …; room for _0 33; what the slice owns 35; true; its token 37]
-        assigns ! (of-opd ! (load ! (from ! (stop !)) (look ! 21 refl))) (from ! (stop !)) (init ! 33 refl (LL.lawful P.the-type P′.the-laws 𝓤 H A W .typed t _ is-t .0)) $
-        returns-within ! Post refl (look ! 33 refl) $ forget ! 11 refl $ forget ! 13 refl $ forget ! 15 refl $ forget ! 17 refl $ forget ! 21 refl $ forget ! 23 refl $ forget ! 25 refl $ forget ! 27 refl $ forget ! 29 refl $ forget ! 31 refl $ forget ! 33 refl $
-        move ! (33 ∷ 34 ∷ []) $ free1 ! $ move ! (31 ∷ 32 ∷ []) $ free1 ! $ move ! (29 ∷ 30 ∷ []) $ free1 ! $ move ! (27 ∷ 28 ∷ []) $ free1 ! $ move ! (25 ∷ 26 ∷ []) $ free1 ! $ move ! (23 ∷ 24 ∷ []) $ free1 ! $ move ! (21 ∷ 22 ∷ []) $ free1 ! $ move ! (19 ∷ 20 ∷ []) $ free1 ! $ move ! (17 ∷ 18 ∷ []) $ free1 ! $ move ! (15 ∷ 16 ∷ []) $ free1 ! $ move ! (13 ∷ 14 ∷ []) $ free1 ! $ move ! (11 ∷ 12 ∷ []) $ free1 ! $ move ! (9 ∷ 10 ∷ []) $ free1 ! $ move ! (7 ∷ 8 ∷ []) $ free1 ! $ move ! (5 ∷ 6 ∷ []) $ free1 ! $ free0 ! $
-        move ! (5 ∷ []) $ use1 W (‵ (finally u8 γ₁ ys)) gives-up $ keep ! (5 ∷ 1 ∷ 2 ∷ 3 ∷ 7 ∷ 0 ∷ []) $
+        -- [obs; the borrow; its token; true; what the answer owns; _13 5; …; _6 19; …; room for _0 31; what the slice owns 33; true; its token 35]
+        assigns ! (of-opd ! (load ! (from ! (stop !)) (look ! 19 refl))) (from ! (stop !)) (init ! 31 refl (LL.lawful P.the-type P′.the-laws 𝓤 H A W .typed t _ is-t .0)) $
+        returns-within ! Post refl (look ! 31 refl) $ forget ! 11 refl $ forget ! 13 refl $ forget ! 15 refl $ forget ! 17 refl $ forget ! 19 refl $ forget ! 21 refl $ forget ! 23 refl $ forget ! 25 refl $ forget ! 27 refl $ forget ! 29 refl $ forget ! 31 refl $
+        move ! (31 ∷ 32 ∷ []) $ free1 ! $ move ! (29 ∷ 30 ∷ []) $ free1 ! $ move ! (27 ∷ 28 ∷ []) $ free1 ! $ move ! (25 ∷ 26 ∷ []) $ free1 ! $ move ! (23 ∷ 24 ∷ []) $ free1 ! $ move ! (21 ∷ 22 ∷ []) $ free1 ! $ move ! (19 ∷ 20 ∷ []) $ free1 ! $ move ! (17 ∷ 18 ∷ []) $ free1 ! $ move ! (15 ∷ 16 ∷ []) $ free1 ! $ move ! (13 ∷ 14 ∷ []) $ free1 ! $ move ! (11 ∷ 12 ∷ []) $ free1 ! $ move ! (9 ∷ 10 ∷ []) $ free1 ! $ move ! (7 ∷ 8 ∷ []) $ free1 ! $ move ! (5 ∷ 6 ∷ []) $ free1 ! $ free0 ! $
+        -- [obs; the borrow; its token; true; what the answer owns; what the slice owns; true; its token]
+        move ! (5 ∷ []) $ use1 W (‵ (finally u8 γ₁ ys)) gives-up $ move ! (1 ∷ []) $ use1 W (‵ (fres γ (S.the-row .coded .code (after h r (zs .0))))) (W .names .obs-res γ (S.the-row .coded .code (after h r (zs .0)))) $ keep ! (5 ∷ 3 ∷ 0 ∷ 7 ∷ 1 ∷ []) $
         by ! (exits t u (after h r (zs .0)) ys (said-settled h event ys (zs .0) r t e (sym ez ∙ is-true z on) (eh .1) (eh .0)) refl))))))))))
-        -- left to the meter
-        (λ off. skips ! $ exec ! C Λ _ body.t-6 (atRet _ Post) $ let left = left-is h (length ys) event (ap (λ (a : Heard). a .settled) (sym e) ∙ (sym ez ∙ is-false z off)) in
-        assigns ! (of-opd ! (load ! (from ! (hop ! (look ! 30 refl) (stop !))) (look-raw ! 0 refl))) (from ! (stop !)) (init ! 8 refl (LL.lawful S.the-type S′.the-laws 𝓤 H A W .typed h _ was .0)) $
-        assigns ! (addr ! (from ! (fld ! refl (hop ! (look-in ! 24 (sub ! 0 refl (whole !))) (stop !))))) (from ! (stop !)) (init ! 6 refl (tt, tt)) $
-        assigns ! (agg ! (and-then ! (load ! (from ! (stop !)) (look ! 6 refl)) (and-then ! (load ! (from ! (fld ! refl (stop !))) (look-in ! 24 (sub ! 1 refl (whole !)))) (no-more !)))) (from ! (stop !)) (init ! 4 refl (tt, (tt, (record { fits = room .0 }, tt)))) $
-        -- `act`
-        move ! (36 ∷ 34 ∷ []) $ use2 W (raw (Act 𝓤 H A at-mem run .pre to-act)) (goes-act was left) $
-        calls-at ! fm (Act 𝓤 H A at-mem run) known-act to-act (and-then ! (load ! (from ! (stop !)) (look ! 9 refl)) (and-then ! (load ! (from ! (stop !)) (look ! 29 refl)) (and-then ! (load ! (from ! (stop !)) (look ! 27 refl)) (and-then ! (load ! (from ! (stop !)) (look ! 5 refl)) (no-more !))))) (λ w₁.
-        use1 W (later (some (λ (a : Answer). ((‵ (flft κ₁ q₁) ⊛ ‵ ftrue) ⊛ ‵ (N.the-row .own a (w₁ ∷ []))) ⊛ raw (ensured 𝓤 H A act.ended (act.clauses 𝓤 H A at-mem run) (κ₁, tt) (h, (n, (n₁, (y, tt)))) tt a)))) (id⊢ 𝓤 _) $ await ! tt $ pick ! (λ a.
-        split ! $ move ! (1 ∷ []) $ use1 W (some (λ (zs : Unit {0} × (Unit {0} × (Unit {0} × (List ℕ × Unit {0})))). ‵ (lasts act.ended (κ₁, tt) (h, (n, (n₁, (y, tt)))) zs) ⊛ (raw (fact 𝓤 (a ≡ answerOf (happened h event))) ⊛ raw (fact 𝓤 (zs .1 .1 .1 .0 ≡ holding ys (onWire (happened h event .reply))))))) (id⊢ 𝓤 _) $ pick ! (λ zs.
-        split ! $ move ! (1 ∷ []) $ split ! $ heard ! (a ≡ answerOf (happened h event)) (λ ea. heard ! (zs .1 .1 .1 .0 ≡ holding ys (onWire (happened h event .reply))) (λ ezs.
-        fsplit ! $ move ! (1 ∷ []) $ fsplit ! $ move ! (1 ∷ []) $ fsplit ! $ move ! (1 ∷ []) $ fsplit ! $ fsplit ! $ move ! (1 ∷ []) $ feqL ! (λ l.
-        -- [the last list; four of nothing; the token and what the answer owns 5; the record's cell 6; …]
-        move ! (5 ∷ []) $ split ! $ move ! (1 ∷ []) $ peeks ! N.the-row (Is N.the-row) (shows 𝓤 H A N.the-row) a (w₁ ∷ []) (λ is-a.
-        land ! (from ! (stop !)) (init ! 25 refl (LL.lawful N.the-type N′.the-laws 𝓤 H A W .typed a _ is-a .0)) $
-        -- `next_of`
-        use1 W (raw (Next 𝓤 H A at-mem run .pre (to-next a w₁))) (goes-next a w₁) $
-        calls-at ! fm (Next 𝓤 H A at-mem run) known-next (to-next a w₁) (and-then ! (load ! (from ! (stop !)) (look ! 25 refl)) (no-more !)) (λ d. use1 W (later (some (λ (s : Meter). (‵ ftrue ⊛ ‵ (S.the-row .own s (d ∷ []))) ⊛ raw (ensured 𝓤 H A next.ended (next.clauses 𝓤 H A at-mem run) tt (a, tt) tt s)))) (id⊢ 𝓤 _) $ await ! tt $ pick ! (λ s.
-        split ! $ move ! (1 ∷ []) $ use1 W (raw (fact 𝓤 (s ≡ a .next))) (next-says 𝓤 H A at-mem run a s) $ heard ! (s ≡ a .next) (λ es. split ! $ drop ! $
-        peeks ! S.the-row (Is S.the-row) (shows 𝓤 H A S.the-row) s (d ∷ []) (λ is-s. land ! (from ! (stop !)) (store ! 15 refl (LL.lawful S.the-type S′.the-laws 𝓤 H A W .typed s _ is-s .0)) $
-        -- the next state is stored, and the borrow is closed at it
-        assigns ! (of-opd ! (load ! (from ! (stop !)) (look ! 15 refl))) (from ! (hop ! (look ! 37 refl) (stop !))) (store-raw ! 7 refl (LL.lawful S.the-type S′.the-laws 𝓤 H A W .typed s _ is-s .0)) $
-        move ! (7 ∷ 0 ∷ 8 ∷ 9 ∷ 10 ∷ []) $ closes ! tt S.the-row s (d ∷ []) b o $
-        -- `reply_of`
-        owned ! N.the-row (Is N.the-row) (LL.makes N.the-type N′.the-plain 𝓤 H A) a (w₁ ∷ []) is-a $ use1 W (raw (ReplyOf 𝓤 H A at-mem run .pre (to-reply a w₁))) (goes-reply a w₁) $
-        calls-at ! fm (ReplyOf 𝓤 H A at-mem run) known-reply (to-reply a w₁) (and-then ! (load ! (from ! (stop !)) (look ! 24 refl)) (no-more !)) (λ u. use1 W (later (some (λ (t : Reply). (‵ ftrue ⊛ ‵ (P.the-row .own t (u ∷ []))) ⊛ raw (ensured 𝓤 H A reply.ended (reply.clauses 𝓤 H A at-mem run) tt (a, tt) tt t)))) (id⊢ 𝓤 _) $ await ! tt $ pick ! (λ t.
-        split ! $ move ! (1 ∷ []) $ use1 W (raw (fact 𝓤 (t ≡ replyTo a))) (reply-says 𝓤 H A at-mem run a t) $ heard ! (t ≡ replyTo a) (λ et. split ! $ drop ! $
-        peeks ! P.the-row (Is P.the-row) (shows 𝓤 H A P.the-row) t (u ∷ []) (λ is-t. land ! (from ! (stop !)) (init ! 38 refl (LL.lawful P.the-type P′.the-laws 𝓤 H A W .typed t _ is-t .0)) $
-        returns ! (look ! 38 refl) $ forget ! 10 refl $ forget ! 12 refl $ forget ! 14 refl $ forget ! 18 refl $ forget ! 20 refl $ forget ! 22 refl $ forget ! 24 refl $ forget ! 28 refl $ forget ! 30 refl $ forget ! 32 refl $ forget ! 34 refl $ forget ! 36 refl $ forget ! 38 refl $
-        move ! (38 ∷ 39 ∷ []) $ free1 ! $ move ! (36 ∷ 37 ∷ []) $ free1 ! $ move ! (34 ∷ 35 ∷ []) $ free1 ! $ move ! (32 ∷ 33 ∷ []) $ free1 ! $ move ! (30 ∷ 31 ∷ []) $ free1 ! $ move ! (28 ∷ 29 ∷ []) $ free1 ! $ move ! (26 ∷ 27 ∷ []) $ free1 ! $ move ! (24 ∷ 25 ∷ []) $ free1 ! $ move ! (22 ∷ 23 ∷ []) $ free1 ! $ move ! (20 ∷ 21 ∷ []) $ free1 ! $ move ! (18 ∷ 19 ∷ []) $ free1 ! $ move ! (16 ∷ 17 ∷ []) $ free1 ! $ move ! (14 ∷ 15 ∷ []) $ free1 ! $ move ! (12 ∷ 13 ∷ []) $ free1 ! $ move ! (10 ∷ 11 ∷ []) $ free1 ! $ free0 ! $
-        keep ! (0 ∷ 1 ∷ 2 ∷ 3 ∷ 4 ∷ 5 ∷ []) $ by ! (exits t u s (zs .1 .1 .1 .0) (said _ _ ys (zs .1 .1 .1 .0) a t s (left .all) ea ezs es et) l))))))))))))))))))))))))))))))))))))))))))))
+        -- left to the meter: the borrow is closed as it was
+        (λ off. let unsettled = ap (λ (a : Heard). a .settled) (sym e) ∙ (sym ez ∙ is-false z off) in let left = left-is h (length ys) event unsettled in
+        owned ! S.the-row (Is S.the-row) (LL.makes S.the-type S′.the-plain 𝓤 H A) h _ was $ move ! (1 ∷ 0 ∷ 2 ∷ 3 ∷ 4 ∷ []) $ closes ! tt S.the-row h (LL.vals S.the-type S′.the-laws h) b o $
+        -- [obs; the borrow; its token; room for _13 3; _12 5; _11 7; _10 9; _9 11; _8 13; _7 15; _6 17; _5 19; _4 21; _3 23; _2 25; _1 27; room for _0 29; what the slice owns 31; true; its token 33]
+        assigns ! (addr ! (from ! (hop ! (look ! 27 refl) (stop !)))) (from ! (stop !)) (init ! 7 refl (tt, tt)) $
+        assigns ! (addr ! (from ! (fld ! refl (hop ! (look-in ! 21 (sub ! 0 refl (whole !))) (stop !))))) (from ! (stop !)) (init ! 5 refl (tt, tt)) $
+        assigns ! (agg ! (and-then ! (load ! (from ! (stop !)) (look ! 5 refl)) (and-then ! (load ! (from ! (fld ! refl (stop !))) (look-in ! 21 (sub ! 1 refl (whole !)))) (no-more !)))) (from ! (stop !)) (init ! 3 refl (tt, (tt, (record { fits = room .0 }, tt)))) $
+        -- `act_in_place`
+        move ! (2 ∷ 33 ∷ []) $ join ! $ move ! (2 ∷ 31 ∷ []) $ join ! $ move ! (2 ∷ 0 ∷ []) $ join ! $ move ! (1 ∷ 0 ∷ []) $ join ! $ use1 W (raw (Act 𝓤 H A at-mem run .pre to-act)) (goes-act left) $
+        -- [what it asks; _13 1; _12 3; _11 5; _10 7; _9 9; _8 11; _7 13; _6 15; _5 17; _4 19; _3 21; _2 23; _1 25; room for _0 27; true]
+        calls-at ! fm (Act 𝓤 H A at-mem run) known-act to-act (and-then ! (load ! (from ! (stop !)) (look ! 5 refl)) (and-then ! (load ! (from ! (stop !)) (look ! 23 refl)) (and-then ! (load ! (from ! (stop !)) (look ! 21 refl)) (and-then ! (load ! (from ! (stop !)) (look ! 1 refl)) (no-more !))))) (λ w₁.
+        use1 W (later (some (λ (t : Reply). ((‵ (flft κ q) ⊛ (‵ (flft κ₁ q₁) ⊛ ‵ ftrue)) ⊛ ‵ (P.the-row .own t (w₁ ∷ []))) ⊛ raw (ensured 𝓤 H A act.ended (act.clauses 𝓤 H A at-mem run) (κ, (κ₁, tt)) x tt t)))) (id⊢ 𝓤 _) $ await ! tt $ pick ! (λ t.
+        split ! $ move ! (1 ∷ []) $ use1 W (some (λ (zs : Meter × (Unit {0} × (Unit {0} × (List ℕ × Unit {0})))). ‵ (lasts act.ended (κ, (κ₁, tt)) x zs) ⊛ raw (fact 𝓤 (Said (all-done h (deedOf h event)) ys t (zs .0) (zs .1 .1 .1 .0))))) (id⊢ 𝓤 _) $ pick ! (λ zs.
+        split ! $ move ! (1 ∷ []) $ heard ! (Said (all-done h (deedOf h event)) ys t (zs .0) (zs .1 .1 .1 .0)) (λ ea. fsplit ! $ move ! (1 ∷ []) $ fsplit ! $ move ! (1 ∷ []) $ fsplit ! $ move ! (1 ∷ []) $ fsplit ! $ fsplit ! $ move ! (1 ∷ []) $ feqL ! (λ l.
+        -- [the last list; three of nothing; the record's last value 4; the tokens and what the answer owns 5; _13 6; …]
+        move ! (5 ∷ []) $ split ! $ move ! (1 ∷ []) $ peeks ! P.the-row (Is P.the-row) (shows 𝓤 H A P.the-row) t (w₁ ∷ []) (λ is-t. land ! (from ! (stop !)) (init ! 33 {τ = P′.mir} {v = w₁} refl (LL.lawful P.the-type P′.the-laws 𝓤 H A W .typed t _ is-t .0)) $
+        returns ! (look ! 33 refl) $ forget ! 7 refl $ forget ! 9 refl $ forget ! 11 refl $ forget ! 15 refl $ forget ! 17 refl $ forget ! 19 refl $ forget ! 23 refl $ forget ! 25 refl $ forget ! 27 refl $ forget ! 29 refl $ forget ! 31 refl $ forget ! 33 refl $
+        move ! (33 ∷ 34 ∷ []) $ free1 ! $ move ! (31 ∷ 32 ∷ []) $ free1 ! $ move ! (29 ∷ 30 ∷ []) $ free1 ! $ move ! (27 ∷ 28 ∷ []) $ free1 ! $ move ! (25 ∷ 26 ∷ []) $ free1 ! $ move ! (23 ∷ 24 ∷ []) $ free1 ! $ move ! (21 ∷ 22 ∷ []) $ free1 ! $ move ! (19 ∷ 20 ∷ []) $ free1 ! $ move ! (17 ∷ 18 ∷ []) $ free1 ! $ move ! (15 ∷ 16 ∷ []) $ free1 ! $ move ! (13 ∷ 14 ∷ []) $ free1 ! $ move ! (11 ∷ 12 ∷ []) $ free1 ! $ move ! (9 ∷ 10 ∷ []) $ free1 ! $ move ! (7 ∷ 8 ∷ []) $ free1 ! $ free0 ! $
+        -- [what the answer owns; the tokens; the last list; three of nothing; the record's last value 6; true]
+        move ! (1 ∷ []) $ split ! $ keep ! (2 ∷ 0 ∷ 7 ∷ 1 ∷ 3 ∷ []) $ by ! (exits t w₁ (zs .0) (zs .1 .1 .1 .0) (said _ _ ys (zs .1 .1 .1 .0) t (zs .0) (left .all ∙ left-done h (length ys) event unsettled) ea) l))))))))))))))))))))))))))))))))))
 
 module _ {M : Type 1} (𝓤 : URA M) (H : Heap 𝓤) (A : Atoms 𝓤) (W : Given 𝓤 H A) (at-mem : Memory → SProp 𝓤) (run : Routine → Fun 𝓤) where
-  walks : (C : Calls 𝓤 H) (Λ : Loops 𝓤 H) → FmC 𝓤 H (W .laws) C → Triple 𝓤 (C #settling·look) (Look 𝓤 H A at-mem run) → Triple 𝓤 (C #firmware·is-settled) (Settled 𝓤 H A at-mem run) → Triple 𝓤 (C #firmware·settle) (Settle 𝓤 H A at-mem run) → Triple 𝓤 (C #meter·events·act) (Act 𝓤 H A at-mem run) → Triple 𝓤 (C #firmware·next-of) (Next 𝓤 H A at-mem run) → Triple 𝓤 (C #firmware·reply-of) (ReplyOf 𝓤 H A at-mem run)
+  walks : (C : Calls 𝓤 H) (Λ : Loops 𝓤 H) → FmC 𝓤 H (W .laws) C → Triple 𝓤 (C #settling·look) (Look 𝓤 H A at-mem run) → Triple 𝓤 (C #firmware·is-settled) (Settled 𝓤 H A at-mem run) → Triple 𝓤 (C #firmware·settle) (Settle 𝓤 H A at-mem run) → Triple 𝓤 (C #firmware·act-in-place) (Act 𝓤 H A at-mem run)
       → Walks 𝓤 H A f.ended stayed (WpFn 𝓤 H C Λ code.function) (f.clauses 𝓤 H A at-mem run)
-  walks C Λ fm known-look known-settled known-settle known-act known-next known-reply = walked 𝓤 H A f.ended stayed (f.clauses 𝓤 H A at-mem run) (WpFn 𝓤 H C Λ code.function)
+  walks C Λ fm known-look known-settled known-settle known-act = walked 𝓤 H A f.ended stayed (f.clauses 𝓤 H A at-mem run) (WpFn 𝓤 H C Λ code.function)
       (λ κs. (ptr-vals, (uint-vals w8, (uint-vals w32, (slice-vals, tt))))) (λ κs. (mut-tells (named 0) (κs .0) S.the-row, (uint-tells w8, (uint-tells w32, (mut-slice-tells (named 1) (κs .1 .0) u8, tt)))))
       (λ κs qs bounds a g are. via 𝓤 _ (fst∗ 𝓤 _ (emp 𝓤)) (walk 𝓤 H A W at-mem run (κs .0) (κs .1 .0) (qs .0) (qs .1 .0) (a .0 .ptr .0) (a .0 .ptr .1) (a .0 .name) (a .0 .now) (a .1 .0) (a .1 .1 .0) (a .1 .1 .1 .0 .ptr .0) (a .1 .1 .1 .0 .ptr .1) (a .1 .1 .1 .0 .name) (a .1 .1 .1 .0 .now) (are .1 .0 .1) (are .1 .1 .0 .1)
-      C Λ fm known-look known-settled known-settle known-act known-next known-reply (are .1 .1 .1 .0 .0 .1)))
+      C Λ fm known-look known-settled known-settle known-act (are .1 .1 .1 .0 .0 .1)))
 
   goes : AllGo 𝓤 H A W 2 (f.signature .params) (f.ended .kept) stayed
-  goes = (goes-ref 𝓤 H A W 2 0 tt (plain (λ _. S.the-row)), (goes-none 𝓤 H A W 2 (λ _. u8) yes (λ κs x f. refl), (goes-none 𝓤 H A W 2 (λ _. u32) yes (λ κs x f. refl), (goes-gave-slice 𝓤 H A W 2 1 tt (plain (λ _. u8)), tt))))
+  goes = (goes-gave-ref 𝓤 H A W 2 0 tt (plain (λ _. S.the-row)), (goes-none 𝓤 H A W 2 (λ _. u8) yes (λ κs x f. refl), (goes-none 𝓤 H A W 2 (λ _. u32) yes (λ κs x f. refl), (goes-gave-slice 𝓤 H A W 2 1 tt (plain (λ _. u8)), tt))))
 
 meets : {M : Type 1} (𝓤 : URA M) (H : Heap 𝓤) (A : Atoms 𝓤) → Given 𝓤 H A → (at-mem : Memory → SProp 𝓤) (run : Routine → Fun 𝓤) (𝓣 : Tables 𝓤 H)
-    → Triple 𝓤 (𝓣 .C #settling·look) (Look 𝓤 H A at-mem run) → Triple 𝓤 (𝓣 .C #firmware·is-settled) (Settled 𝓤 H A at-mem run) → Triple 𝓤 (𝓣 .C #firmware·settle) (Settle 𝓤 H A at-mem run) → Triple 𝓤 (𝓣 .C #meter·events·act) (Act 𝓤 H A at-mem run) → Triple 𝓤 (𝓣 .C #firmware·next-of) (Next 𝓤 H A at-mem run) → Triple 𝓤 (𝓣 .C #firmware·reply-of) (ReplyOf 𝓤 H A at-mem run)
+    → Triple 𝓤 (𝓣 .C #settling·look) (Look 𝓤 H A at-mem run) → Triple 𝓤 (𝓣 .C #firmware·is-settled) (Settled 𝓤 H A at-mem run) → Triple 𝓤 (𝓣 .C #firmware·settle) (Settle 𝓤 H A at-mem run) → Triple 𝓤 (𝓣 .C #firmware·act-in-place) (Act 𝓤 H A at-mem run)
     → Meets 𝓤 H A f.signature (WpFn 𝓤 H (𝓣 .C) (𝓣 .Λ) code.function) (f.spec 𝓤 H A at-mem run)
-meets 𝓤 H A W at-mem run 𝓣 known-look known-settled known-settle known-act known-next known-reply = walk-meets 𝓤 H A f.ended stayed W (goes 𝓤 H A W at-mem run) (f.clauses 𝓤 H A at-mem run) (WpFn 𝓤 H (𝓣 .C) (𝓣 .Λ) code.function) (WpFn-mono 𝓤 H (W .laws) 𝓣 code.function)
-    (walks 𝓤 H A W at-mem run (𝓣 .C) (𝓣 .Λ) (fmOf 𝓤 H (W .laws) 𝓣) known-look known-settled known-settle known-act known-next known-reply)
+meets 𝓤 H A W at-mem run 𝓣 known-look known-settled known-settle known-act = walk-meets 𝓤 H A f.ended stayed W (goes 𝓤 H A W at-mem run) (f.clauses 𝓤 H A at-mem run) (WpFn 𝓤 H (𝓣 .C) (𝓣 .Λ) code.function) (WpFn-mono 𝓤 H (W .laws) 𝓣 code.function)
+    (walks 𝓤 H A W at-mem run (𝓣 .C) (𝓣 .Λ) (fmOf 𝓤 H (W .laws) 𝓣) known-look known-settled known-settle known-act)
 
 pub meet-in-place-spec : {M : Type 1} → stated.statement M
 unfolding code.routine tablesOf
@@ -426,6 +391,4 @@ meet-in-place-spec 𝓤 H 𝓜 𝓖 𝓡 =
     (cited 𝓤 H (Look 𝓤 H (𝓖 .A) (𝓜 .mem) (𝓡 .run)) 𝓜 𝓡 code.env #settling·look look-def.routine code.calls-settling·look (look-thm.met 𝓤 H 𝓜 𝓖 𝓡))
     (cited 𝓤 H (Settled 𝓤 H (𝓖 .A) (𝓜 .mem) (𝓡 .run)) 𝓜 𝓡 code.env #firmware·is-settled settled-def.routine code.calls-firmware·is-settled (settled-thm.met 𝓤 H 𝓜 𝓖 𝓡))
     (cited 𝓤 H (Settle 𝓤 H (𝓖 .A) (𝓜 .mem) (𝓡 .run)) 𝓜 𝓡 code.env #firmware·settle settle-def.routine code.calls-firmware·settle (settle-thm.met 𝓤 H 𝓜 𝓖 𝓡))
-    (cited 𝓤 H (Act 𝓤 H (𝓖 .A) (𝓜 .mem) (𝓡 .run)) 𝓜 𝓡 code.env #meter·events·act act-def.routine code.calls-meter·events·act (act-thm.met 𝓤 H 𝓜 𝓖 𝓡))
-    (cited 𝓤 H (Next 𝓤 H (𝓖 .A) (𝓜 .mem) (𝓡 .run)) 𝓜 𝓡 code.env #firmware·next-of next-def.routine code.calls-firmware·next-of (next-thm.met 𝓤 H 𝓜 𝓖 𝓡))
-    (cited 𝓤 H (ReplyOf 𝓤 H (𝓖 .A) (𝓜 .mem) (𝓡 .run)) 𝓜 𝓡 code.env #firmware·reply-of reply-def.routine code.calls-firmware·reply-of (reply-thm.met 𝓤 H 𝓜 𝓖 𝓡)))
+    (cited 𝓤 H (Act 𝓤 H (𝓖 .A) (𝓜 .mem) (𝓡 .run)) 𝓜 𝓡 code.env #firmware·act-in-place act-def.routine code.calls-firmware·act-in-place (act-thm.met 𝓤 H 𝓜 𝓖 𝓡)))

@@ -1,4 +1,6 @@
 -- `meter::hear_nothing` meets its contract: each way out is the case of the definition that its tests name. Assumes nothing.
+use mathlib.Core.Path.{sym, _∙_}
+use native.Mathlib.Omega.{arith}
 use Rattle.text.specs.Writing.{holding}
 use Rattle.meter.specs.Events.{silence}
 use borrow.Author.Tests.{not-true, not-false, lt-ltb, le-ltb}
@@ -20,6 +22,9 @@ returns-2 c =
     let is = not-false (known .before .has-edition .result) (known .if1 .left) in
     let short = lt-ltb _ _ (c .before .if2 .taken) in
     (rw (← known .before .has-edition .ensures, is, short, c .unheard-with2 .ensures), rw (← known .before .has-edition .ensures, is, short))
+
+silence-requires : tie.Need-silence-requires
+silence-requires c κs = (sym (c .before .before .is-well-formed .ensures) ∙ c .before .if3 .taken, omega arith)
 
 returns-3 : tie.Need-returns-3
 unfolding silence holding
@@ -45,4 +50,4 @@ returns-4 c =
     (rw (← known .before .has-edition .ensures, is, long, ← formed .is-well-formed .ensures, bad, c .unheard-with3 .ensures), rw (← known .before .has-edition .ensures, is, long, ← formed .is-well-formed .ensures, bad))
 
 pub hear-nothing-spec : {M : Type 1} → statement M
-hear-nothing-spec = tie.close (tie.spec (λ c κs. search needs) (λ c κs. search needs) returns (λ c κs. search needs) returns-2 (λ c κs. search needs) (λ c κs. search needs) (λ c. search needs) returns-3 (λ c κs. search needs) returns-4)
+hear-nothing-spec = tie.close (tie.spec (λ c κs. search needs) (λ c κs. search needs) returns (λ c κs. search needs) returns-2 (λ c κs. search needs) silence-requires (λ c. search needs) returns-3 (λ c κs. search needs) returns-4)

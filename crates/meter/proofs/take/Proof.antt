@@ -1,10 +1,11 @@
 -- `meter::take` meets its contract: each way out is the case of the definition that its tests name. Assumes nothing.
-use mathlib.Core.Path.{sym, _∙_}
+use mathlib.Core.Path.{refl, sym, _∙_}
 use Rattle.state.proofs.Limits.{limit-most}
 use Rattle.receiving.proofs.Laws.{hold-room}
 use native.Mathlib.Omega.{arith}
 use Rattle.text.specs.Writing.{holding}
 use Rattle.meter.specs.Character.{taken, heard}
+use Rattle.meter.specs.Deeds.{acts}
 use borrow.Author.Needs.{needs}
 use Rattle.meter.proofs.take.Statement.{statement}
 use Rattle.meter.proofs.take.Tie as tie
@@ -48,45 +49,65 @@ returns-4 c =
     let c9 = c8 .before in
     (rw (← c9 .damaged .ensures, ← c8 .symbol-of .ensures, ← c6 .last-held .ensures, ← c5 .hear .ensures, c3 .enum-told4 .given .1, c .quiet4 .ensures, c .before .with-receiver3 .ensures, c .before .before .empty-receiver .ensures), rw (← c9 .damaged .ensures, ← c8 .symbol-of .ensures, ← c6 .last-held .ensures, ← c5 .hear .ensures, c3 .enum-told4 .given .1))
 
+act-on-requires : tie.Need-act-on-requires
+unfolding acts
+act-on-requires c κs = let told = c .before in (c .before .before .before .before .before .before .before .before .before .pre, rw (told .enum-told5 .given .1) refl)
+
+act-on-requires-2 : tie.Need-act-on-requires-2
+unfolding acts
+act-on-requires-2 c κs = let told = c .before in (c .before .before .before .before .before .before .before .before .before .pre, rw (told .enum-told6 .given .1) refl)
+
+act-on-requires-3 : tie.Need-act-on-requires-3
+unfolding acts
+act-on-requires-3 c κs = let told = c .before in (c .before .before .before .before .before .before .before .before .before .pre, rw (told .enum-told7 .given .1) refl)
+
+act-on-requires-4 : tie.Need-act-on-requires-4
+unfolding acts
+act-on-requires-4 c κs = let told = c .before in (c .before .before .before .before .before .before .before .before .before .pre, rw (told .enum-told8 .given .1) refl)
+
 returns-5 : tie.Need-returns-5
-unfolding taken heard holding
+unfolding taken holding
 returns-5 c =
     let c4 = c .before .before .before .before in
     let c6 = c4 .before .before in
     let c7 = c6 .before in
     let c9 = c7 .before .before in
     let c10 = c9 .before in
-    (rw (← c10 .damaged .ensures, ← c9 .symbol-of .ensures, ← c7 .last-held .ensures, ← c6 .hear .ensures, c4 .enum-told5 .given .1, c .before .before .end-line .ensures .0), rw (← c10 .damaged .ensures, ← c9 .symbol-of .ensures, ← c7 .last-held .ensures, ← c6 .hear .ensures, c4 .enum-told5 .given .1) (c .before .before .end-line .ensures .1))
+    let said = c .before .before .act-on .ensures in
+    (rw (← c10 .damaged .ensures, ← c9 .symbol-of .ensures, ← c7 .last-held .ensures, ← c6 .hear .ensures) (said .0), rw (← c10 .damaged .ensures, ← c9 .symbol-of .ensures, ← c7 .last-held .ensures, ← c6 .hear .ensures) (said .1))
 
 returns-6 : tie.Need-returns-6
-unfolding taken heard holding
+unfolding taken holding
 returns-6 c =
     let c4 = c .before .before .before .before in
     let c6 = c4 .before .before in
     let c7 = c6 .before in
     let c9 = c7 .before .before in
     let c10 = c9 .before in
-    (rw (← c10 .damaged .ensures, ← c9 .symbol-of .ensures, ← c7 .last-held .ensures, ← c6 .hear .ensures, c4 .enum-told6 .given .1, c .before .before .confirm .ensures .0), rw (← c10 .damaged .ensures, ← c9 .symbol-of .ensures, ← c7 .last-held .ensures, ← c6 .hear .ensures, c4 .enum-told6 .given .1) (c .before .before .confirm .ensures .1))
+    let said = c .before .before .act-on2 .ensures in
+    (rw (← c10 .damaged .ensures, ← c9 .symbol-of .ensures, ← c7 .last-held .ensures, ← c6 .hear .ensures) (said .0), rw (← c10 .damaged .ensures, ← c9 .symbol-of .ensures, ← c7 .last-held .ensures, ← c6 .hear .ensures) (said .1))
 
 returns-7 : tie.Need-returns-7
-unfolding taken heard holding
+unfolding taken holding
 returns-7 c =
     let c4 = c .before .before .before .before in
     let c6 = c4 .before .before in
     let c7 = c6 .before in
     let c9 = c7 .before .before in
     let c10 = c9 .before in
-    (rw (← c10 .damaged .ensures, ← c9 .symbol-of .ensures, ← c7 .last-held .ensures, ← c6 .hear .ensures, c4 .enum-told7 .given .1, c .before .before .act-on-frame .ensures .0), rw (← c10 .damaged .ensures, ← c9 .symbol-of .ensures, ← c7 .last-held .ensures, ← c6 .hear .ensures, c4 .enum-told7 .given .1) (c .before .before .act-on-frame .ensures .1))
+    let said = c .before .before .act-on3 .ensures in
+    (rw (← c10 .damaged .ensures, ← c9 .symbol-of .ensures, ← c7 .last-held .ensures, ← c6 .hear .ensures) (said .0), rw (← c10 .damaged .ensures, ← c9 .symbol-of .ensures, ← c7 .last-held .ensures, ← c6 .hear .ensures) (said .1))
 
 returns-8 : tie.Need-returns-8
-unfolding taken heard holding
+unfolding taken holding
 returns-8 c =
     let c4 = c .before .before .before .before in
     let c6 = c4 .before .before in
     let c7 = c6 .before in
     let c9 = c7 .before .before in
     let c10 = c9 .before in
-    (rw (← c10 .damaged .ensures, ← c9 .symbol-of .ensures, ← c7 .last-held .ensures, ← c6 .hear .ensures, c4 .enum-told8 .given .1, c .before .before .refuse .ensures .0), rw (← c10 .damaged .ensures, ← c9 .symbol-of .ensures, ← c7 .last-held .ensures, ← c6 .hear .ensures, c4 .enum-told8 .given .1) (c .before .before .refuse .ensures .1))
+    let said = c .before .before .act-on4 .ensures in
+    (rw (← c10 .damaged .ensures, ← c9 .symbol-of .ensures, ← c7 .last-held .ensures, ← c6 .hear .ensures) (said .0), rw (← c10 .damaged .ensures, ← c9 .symbol-of .ensures, ← c7 .last-held .ensures, ← c6 .hear .ensures) (said .1))
 
 pub take-spec : {M : Type 1} → statement M
-take-spec = tie.close (tie.spec (λ c κs. search needs) (λ c κs. search needs) (λ c κs. search needs) (λ c κs. search needs) (λ c. search needs) (λ c κs. search needs) (λ c. search needs) keep-requires (λ c κs. search needs) (λ c κs. search needs) (λ c. search needs) (λ c κs. search needs) (λ c κs. search needs) (λ c κs. search needs) (λ c. search needs) (λ c κs. search needs) (λ c κs. search needs) (λ c κs. search needs) (λ c. search needs) (λ c κs. search needs) (λ c. search needs) (λ c κs. search needs) (λ c. search needs) (λ c κs. search needs) (λ c. search needs) (λ c κs. search needs) returns returns-2 returns-3 returns-4 (λ c. search needs) returns-5 (λ c. search needs) returns-6 (λ c. search needs) returns-7 (λ c. search needs) returns-8)
+take-spec = tie.close (tie.spec (λ c κs. search needs) (λ c κs. search needs) (λ c κs. search needs) (λ c κs. search needs) (λ c. search needs) (λ c κs. search needs) (λ c. search needs) keep-requires (λ c κs. search needs) (λ c κs. search needs) (λ c. search needs) (λ c κs. search needs) (λ c κs. search needs) (λ c κs. search needs) (λ c. search needs) (λ c κs. search needs) (λ c κs. search needs) (λ c κs. search needs) (λ c. search needs) act-on-requires (λ c. search needs) act-on-requires-2 (λ c. search needs) act-on-requires-3 (λ c. search needs) act-on-requires-4 returns returns-2 returns-3 returns-4 (λ c. search needs) returns-5 (λ c. search needs) returns-6 (λ c. search needs) returns-7 (λ c. search needs) returns-8)

@@ -10,7 +10,7 @@ take-requires : tie.Need-take-requires
 take-requires c κs = let known = c .before .before .before .before .before .pre in (known .0, character-room _ _ _ _ (c .before .before .e .given .1) (known .1))
 
 silence-requires : tie.Need-silence-requires
-silence-requires c κs = silence-room _ _ _ (c .before .enum-told .given .1) (c .before .before .before .before .pre .1)
+silence-requires c κs = let known = c .before .before .before .before .pre in (known .0, silence-room _ _ _ (c .before .enum-told .given .1) (known .1))
 
 tick-requires : tie.Need-tick-requires
 tick-requires c κs = c .before .before .before .pre .0
