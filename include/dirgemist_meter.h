@@ -4,17 +4,18 @@
  * silence, a second gone by, a pulse of the measuring part, power coming back), and sends what the
  * meter replies. Every call takes the record where it lies and leaves the next state there.
  *
- * The record may lie anywhere and may be kept, copied or stored as it is. Every field is a number,
- * and any bytes at all may stand there: each call tells a record that is not well-formed by 14, or
- * 16, and leaves it as it was, so a record that comes back from flash needs no test of its own.
+ * The record may lie wherever its type may, and may be kept, copied or stored as it is. Every field
+ * is a number, and any bytes at all may stand there: each call tells a record that is not well-formed
+ * by 14, or 16, and leaves it as it was, so a record that comes back from flash needs no test of its
+ * own.
  * The functions keep nothing between calls: two meters may be served from two threads at once.
  * Each is proved, for all records, numbers and buffers, to do what its paragraph says. Pointers
  * must not be null, and what they point to must not overlap.
  *
- * Stack: an event takes some 15,900 bytes (64-bit processors), a whole frame 14,200, making 2,000, a
- * test or the total 350; DIRGEMIST_STACK is above each, and hosts/stack and hosts/chip/count.c measure
- * them. An event that has a reply hands the state on by value, and up to eight copies of its tables
- * and its archive are alive at once.
+ * Stack: an event takes some 2,000 bytes (64-bit processors; 2,300 on a Cortex-M0), making 4,200, a
+ * test or the total 230; DIRGEMIST_STACK is above each, and hosts/stack and hosts/chip/count.c measure
+ * them. The tables are never copied, and the archive only for the block that has its periods and
+ * where a period is closed.
  *
  * Link with libfirmware.a for events, and with libkeeping.a for making, testing and showing.
  */
@@ -28,7 +29,7 @@ extern "C" {
 #endif
 
 #define DIRGEMIST_REPLY_ROOM 4096 /* the least room of a reply buffer */
-#define DIRGEMIST_STACK 20480     /* the most stack that a call takes, in bytes */
+#define DIRGEMIST_STACK 5120      /* the most stack that a call of this header takes, in bytes */
 
 struct dirgemist_date {
     uint16_t year; /* 2000 to 2099 */

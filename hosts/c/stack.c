@@ -138,6 +138,6 @@ int main(void) {
     coming -= bare;
     printf("stack: meet %zu, frame %zu, make %zu, check %zu, total %zu bytes; the record has %zu\n", meeting, coming, making,
            checking, showing, sizeof meter);
-    return meeting > DIRGEMIST_STACK || coming > DIRGEMIST_STACK || making > DIRGEMIST_STACK || checking > DIRGEMIST_STACK
+    return meeting > DIRGEMIST_STACK || coming > DIRGEMIST_FRAME_STACK || making > DIRGEMIST_STACK || checking > DIRGEMIST_STACK
            || showing > DIRGEMIST_STACK;
 }
