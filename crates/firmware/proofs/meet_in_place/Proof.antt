@@ -78,14 +78,15 @@ use Rattle.settling.proofs.look as look-at
 use Rattle.settling.proofs.look.Symbol as look-def
 use Rattle.settling.proofs.look.Symbol.{name as #settling·look}
 use Rattle.settling.proofs.look.Met as look-thm
-use Rattle.firmware.specs.declared.Reply.{Reply}
-use Rattle.firmware.specs.Replies.{replyOf, settledReply}
+use Rattle.storing.specs.declared.Reply.{Reply}
+use Rattle.storing.specs.Replies.{replyOf}
+use Rattle.firmware.specs.Replies.{settledReply}
 use Rattle.lent.proofs.Behind.{behind}
 use Rattle.lent.proofs.Forks.{forks}
 use Rattle.lent.proofs.Known.{inField}
-use Rattle.firmware.proofs.Lending.{lends-run, run-back}
-use Rattle.firmware.proofs.Reply as P
-use Rattle.firmware.proofs.Reply.Laws as P′
+use Rattle.storing.proofs.Lending.{lends-run, run-back}
+use Rattle.storing.proofs.Reply as P
+use Rattle.storing.proofs.Reply.Laws as P′
 use Rattle.firmware.proofs.is_settled as settled
 use Rattle.firmware.proofs.is_settled.Symbol as settled-def
 use Rattle.firmware.proofs.is_settled.Symbol.{name as #firmware·is-settled}
@@ -94,10 +95,10 @@ use Rattle.firmware.proofs.settle as settle
 use Rattle.firmware.proofs.settle.Symbol as settle-def
 use Rattle.firmware.proofs.settle.Symbol.{name as #firmware·settle}
 use Rattle.firmware.proofs.settle.Met as settle-thm
-use Rattle.firmware.proofs.act_in_place as act
-use Rattle.firmware.proofs.act_in_place.Symbol as act-def
-use Rattle.firmware.proofs.act_in_place.Symbol.{name as #firmware·act-in-place}
-use Rattle.firmware.proofs.act_in_place.Met as act-thm
+use Rattle.storing.proofs.act_in_place as act
+use Rattle.storing.proofs.act_in_place.Symbol as act-def
+use Rattle.storing.proofs.act_in_place.Symbol.{name as #storing·act-in-place}
+use Rattle.storing.proofs.act_in_place.Met as act-thm
 use Rattle.firmware.proofs.meet_in_place.Key.{name as #firmware·meet-in-place}
 use Rattle.firmware.proofs.meet_in_place as f
 use Rattle.firmware.proofs.meet_in_place.Statement as stated
@@ -277,7 +278,7 @@ module _ {M : Type 1} (𝓤 : URA M) (H : Heap 𝓤) (A : Atoms 𝓤) (W : Given
       suffices ! _ (ends-at 𝓤 H A f.ended stayed (f.clauses 𝓤 H A at-mem run) W (((κ, (κ₁, tt)), (q, (q₁, tt)), tt, x, at), tt) v t (s, (tt, (tt, (zs, tt)))) (tt, (tt, (tt, (l, tt))))) $ says ! e $ move ! (1 ∷ 3 ∷ []) $ join ! $ frame ! $
       nothing ! $ move ! (3 ∷ 0 ∷ []) $ fjoin ! $ owned ! u32 (Is u32) (uint-makes 𝓤 H A W w32) n₁ _ (refl, fits₁) $ fjoin ! $ owned ! u8 (Is u8) (uint-makes 𝓤 H A W w8) n _ (refl, fits) $ fjoin ! $ move ! (2 ∷ 0 ∷ []) $ fjoin ! $ done !
 
-  module _ (C : Calls 𝓤 H) (Λ : Loops 𝓤 H) (fm : FmC 𝓤 H (W .laws) C) (known-look : Triple 𝓤 (C #settling·look) (Look 𝓤 H A at-mem run)) (known-settled : Triple 𝓤 (C #firmware·is-settled) (Settled 𝓤 H A at-mem run)) (known-settle : Triple 𝓤 (C #firmware·settle) (Settle 𝓤 H A at-mem run)) (known-act : Triple 𝓤 (C #firmware·act-in-place) (Act 𝓤 H A at-mem run)) where
+  module _ (C : Calls 𝓤 H) (Λ : Loops 𝓤 H) (fm : FmC 𝓤 H (W .laws) C) (known-look : Triple 𝓤 (C #settling·look) (Look 𝓤 H A at-mem run)) (known-settled : Triple 𝓤 (C #firmware·is-settled) (Settled 𝓤 H A at-mem run)) (known-settle : Triple 𝓤 (C #firmware·settle) (Settle 𝓤 H A at-mem run)) (known-act : Triple 𝓤 (C #storing·act-in-place) (Act 𝓤 H A at-mem run)) where
     walk : Room u8 (length ys) → ent 𝓤 (onEntry 𝓤 H A f.signature (κ, (κ₁, tt)) (q, (q₁, tt)) x at) (WpFn 𝓤 H C Λ code.function (vptr b o ∷ vint w8 n ∷ vint w32 n₁ ∷ s₁ ∷ []) Post)
     walk room =
         qed W ((‵ (flft κ q) ⊛ (‵ (flft κ₁ q₁) ⊛ ‵ ftrue)) ∷ ‵ (owns (MutRef (named 0) κ S.the-row ∷ u8 ∷ u32 ∷ MutSlice (named 1) κ₁ u8 ∷ []) x at) ∷ []) ∵ split ! $ move ! (2 ∷ []) $ fsplit ! $ fsplit3 ! $ drop ! $
@@ -366,7 +367,7 @@ module _ {M : Type 1} (𝓤 : URA M) (H : Heap 𝓤) (A : Atoms 𝓤) (W : Given
         move ! (1 ∷ []) $ split ! $ keep ! (2 ∷ 0 ∷ 7 ∷ 1 ∷ 3 ∷ []) $ by ! (exits t w₁ (zs .0) (zs .1 .1 .1 .0) (said _ _ ys (zs .1 .1 .1 .0) t (zs .0) (left .all ∙ left-done h (length ys) event unsettled) ea) l))))))))))))))))))))))))))))))))))
 
 module _ {M : Type 1} (𝓤 : URA M) (H : Heap 𝓤) (A : Atoms 𝓤) (W : Given 𝓤 H A) (at-mem : Memory → SProp 𝓤) (run : Routine → Fun 𝓤) where
-  walks : (C : Calls 𝓤 H) (Λ : Loops 𝓤 H) → FmC 𝓤 H (W .laws) C → Triple 𝓤 (C #settling·look) (Look 𝓤 H A at-mem run) → Triple 𝓤 (C #firmware·is-settled) (Settled 𝓤 H A at-mem run) → Triple 𝓤 (C #firmware·settle) (Settle 𝓤 H A at-mem run) → Triple 𝓤 (C #firmware·act-in-place) (Act 𝓤 H A at-mem run)
+  walks : (C : Calls 𝓤 H) (Λ : Loops 𝓤 H) → FmC 𝓤 H (W .laws) C → Triple 𝓤 (C #settling·look) (Look 𝓤 H A at-mem run) → Triple 𝓤 (C #firmware·is-settled) (Settled 𝓤 H A at-mem run) → Triple 𝓤 (C #firmware·settle) (Settle 𝓤 H A at-mem run) → Triple 𝓤 (C #storing·act-in-place) (Act 𝓤 H A at-mem run)
       → Walks 𝓤 H A f.ended stayed (WpFn 𝓤 H C Λ code.function) (f.clauses 𝓤 H A at-mem run)
   walks C Λ fm known-look known-settled known-settle known-act = walked 𝓤 H A f.ended stayed (f.clauses 𝓤 H A at-mem run) (WpFn 𝓤 H C Λ code.function)
       (λ κs. (ptr-vals, (uint-vals w8, (uint-vals w32, (slice-vals, tt))))) (λ κs. (mut-tells (named 0) (κs .0) S.the-row, (uint-tells w8, (uint-tells w32, (mut-slice-tells (named 1) (κs .1 .0) u8, tt)))))
@@ -377,7 +378,7 @@ module _ {M : Type 1} (𝓤 : URA M) (H : Heap 𝓤) (A : Atoms 𝓤) (W : Given
   goes = (goes-gave-ref 𝓤 H A W 2 0 tt (plain (λ _. S.the-row)), (goes-none 𝓤 H A W 2 (λ _. u8) yes (λ κs x f. refl), (goes-none 𝓤 H A W 2 (λ _. u32) yes (λ κs x f. refl), (goes-gave-slice 𝓤 H A W 2 1 tt (plain (λ _. u8)), tt))))
 
 meets : {M : Type 1} (𝓤 : URA M) (H : Heap 𝓤) (A : Atoms 𝓤) → Given 𝓤 H A → (at-mem : Memory → SProp 𝓤) (run : Routine → Fun 𝓤) (𝓣 : Tables 𝓤 H)
-    → Triple 𝓤 (𝓣 .C #settling·look) (Look 𝓤 H A at-mem run) → Triple 𝓤 (𝓣 .C #firmware·is-settled) (Settled 𝓤 H A at-mem run) → Triple 𝓤 (𝓣 .C #firmware·settle) (Settle 𝓤 H A at-mem run) → Triple 𝓤 (𝓣 .C #firmware·act-in-place) (Act 𝓤 H A at-mem run)
+    → Triple 𝓤 (𝓣 .C #settling·look) (Look 𝓤 H A at-mem run) → Triple 𝓤 (𝓣 .C #firmware·is-settled) (Settled 𝓤 H A at-mem run) → Triple 𝓤 (𝓣 .C #firmware·settle) (Settle 𝓤 H A at-mem run) → Triple 𝓤 (𝓣 .C #storing·act-in-place) (Act 𝓤 H A at-mem run)
     → Meets 𝓤 H A f.signature (WpFn 𝓤 H (𝓣 .C) (𝓣 .Λ) code.function) (f.spec 𝓤 H A at-mem run)
 meets 𝓤 H A W at-mem run 𝓣 known-look known-settled known-settle known-act = walk-meets 𝓤 H A f.ended stayed W (goes 𝓤 H A W at-mem run) (f.clauses 𝓤 H A at-mem run) (WpFn 𝓤 H (𝓣 .C) (𝓣 .Λ) code.function) (WpFn-mono 𝓤 H (W .laws) 𝓣 code.function)
     (walks 𝓤 H A W at-mem run (𝓣 .C) (𝓣 .Λ) (fmOf 𝓤 H (W .laws) 𝓣) known-look known-settled known-settle known-act)
@@ -391,4 +392,4 @@ meet-in-place-spec 𝓤 H 𝓜 𝓖 𝓡 =
     (cited 𝓤 H (Look 𝓤 H (𝓖 .A) (𝓜 .mem) (𝓡 .run)) 𝓜 𝓡 code.env #settling·look look-def.routine code.calls-settling·look (look-thm.met 𝓤 H 𝓜 𝓖 𝓡))
     (cited 𝓤 H (Settled 𝓤 H (𝓖 .A) (𝓜 .mem) (𝓡 .run)) 𝓜 𝓡 code.env #firmware·is-settled settled-def.routine code.calls-firmware·is-settled (settled-thm.met 𝓤 H 𝓜 𝓖 𝓡))
     (cited 𝓤 H (Settle 𝓤 H (𝓖 .A) (𝓜 .mem) (𝓡 .run)) 𝓜 𝓡 code.env #firmware·settle settle-def.routine code.calls-firmware·settle (settle-thm.met 𝓤 H 𝓜 𝓖 𝓡))
-    (cited 𝓤 H (Act 𝓤 H (𝓖 .A) (𝓜 .mem) (𝓡 .run)) 𝓜 𝓡 code.env #firmware·act-in-place act-def.routine code.calls-firmware·act-in-place (act-thm.met 𝓤 H 𝓜 𝓖 𝓡)))
+    (cited 𝓤 H (Act 𝓤 H (𝓖 .A) (𝓜 .mem) (𝓡 .run)) 𝓜 𝓡 code.env #storing·act-in-place act-def.routine code.calls-storing·act-in-place (act-thm.met 𝓤 H 𝓜 𝓖 𝓡)))
