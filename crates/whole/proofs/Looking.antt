@@ -65,12 +65,12 @@ module _ (m : Meter) (room : ℕ) (bytes : List ℕ) where
           record {
             refused = λ n. absurd (n refl);
             finished = λ n.
-            record {
-              outcome = is-taken ∙ frame-whole m room is-large w bytes a some;
-              formed = frame-formed m room is-large w bytes a some;
-              large = is-large;
-              ended = frame-ended m room is-large w bytes a some;
-            };
+                record {
+                  outcome = is-taken ∙ frame-whole m room is-large w bytes a some;
+                  formed = frame-formed m room is-large w bytes a some;
+                  large = is-large;
+                  ended = frame-ended m room is-large w bytes a some;
+                };
           }
 
       gathered-says : Says (gathered (m .speed) bytes)

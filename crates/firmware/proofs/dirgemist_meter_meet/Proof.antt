@@ -1,7 +1,7 @@
 -- `firmware::dirgemist_meter_meet` meets its contract: a walk of its MIR, by hand. The record and the reply's slice go to `meet_in_place` for good, and the three numbers to `tell`.
 -- No borrow is opened: each callee says the last values of what it was passed, and that is what is said at exit.
 -- Assumes nothing.
-use mathlib.Core.Path.{_≡_, refl, _∙_, ap}
+use mathlib.Core.Path.{_≡_, refl}
 use Prim.Native.Nat.{ℕ, _<_, _^_}
 use mathlib.Core.List.{[], _∷_, List}
 use lib.ListN.{length}
@@ -41,10 +41,8 @@ use Rattle.state.specs.declared.Meter.{Meter}
 use Rattle.state.proofs.Meter as S
 use Rattle.meter.specs.Outcomes.{Outcome}
 use Rattle.meter.specs.Life.{eventOf, met}
-use Rattle.frames.specs.Frames.{onWire}
-use Rattle.text.specs.Writing.{holding}
 use Rattle.storing.specs.declared.Reply.{Reply}
-use Rattle.storing.specs.Replies.{replyOf}
+use Rattle.storing.proofs.Answers.{Answered, Told, Said, said}
 use Rattle.storing.proofs.Reply as P
 use Rattle.storing.proofs.Reply.Laws as P′
 use Rattle.firmware.proofs.meet_in_place as meet
@@ -62,22 +60,6 @@ use Rattle.firmware.proofs.dirgemist_meter_meet.Code as code
 
 abbrev stayed : Stays (f.ended .signature .params) (f.ended .kept)
 stayed = (gave-ref (0 ∷ []) tt (plain (λ _. S.the-row)), (stay-none (λ _. u8) yes, (stay-none (λ _. u32) yes, (gave-slice (1 ∷ []) tt (plain (λ _. u8)), (gave-ref (2 ∷ []) tt (plain (λ _. usize)), (gave-ref (3 ∷ []) tt (plain (λ _. u8)), (gave-ref (4 ∷ []) tt (plain (λ _. u8)), tt)))))))
-
--- what the first callee says of its result, of the record and of the buffer; and what is to be said of those and of the three numbers
-abbrev Answered : Outcome → List ℕ → Reply → Meter → List ℕ → Type 0
-Answered o ys t s zs = (t ≡ replyOf o) × (s ≡ o .next) × (zs ≡ holding ys (onWire (o .reply)))
-
-abbrev Told : Reply → ℕ → ℕ → ℕ → ℕ → Type 0
-Told t k count speed place = (k ≡ t .number) × (count ≡ t .length) × (speed ≡ t .speed) × (place ≡ t .place)
-
-abbrev Said : Outcome → List ℕ → ℕ → Meter → List ℕ → ℕ → ℕ → ℕ → Type 0
-Said o ys k s zs count speed place =
-    (k ≡ o .number) × (s ≡ o .next) × (zs ≡ holding ys (onWire (o .reply))) × (count ≡ length (o .reply)) × (speed ≡ o .speed) × (place ≡ o .place)
-
-said : (o : Outcome) (ys : List ℕ) (t : Reply) (s : Meter) (zs : List ℕ) (k count speed place : ℕ) → Answered o ys t s zs → Told t k count speed place
-    → Said o ys k s zs count speed place
-said o ys t s zs k count speed place (e, es, ez) (ek, ec, ep, eg) =
-    (ek ∙ ap (λ (r : Reply). r .number) e, es, ez, ec ∙ ap (λ (r : Reply). r .length) e, ep ∙ ap (λ (r : Reply). r .speed) e, eg ∙ ap (λ (r : Reply). r .place) e)
 
 module _ {M : Type 1} (𝓤 : URA M) (H : Heap 𝓤) (A : Atoms 𝓤) (at-mem : Memory → SProp 𝓤) (run : Routine → Fun 𝓤) where
   -- the contracts that the proof cites

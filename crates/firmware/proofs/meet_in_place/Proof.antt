@@ -2,7 +2,7 @@
 -- Where the event is settled, what the receiver holds is lent as a `&mut` to `settle`, the rest that was heard is stored into the record, the borrow is closed there, and the reply's slice is given up as it is.
 -- Otherwise the borrow is closed as it was, and record and slice are given to `act_in_place` for good. All that is known of the callees is that each meets its contract. Assumes nothing.
 use mathlib.Core.Path.{_≡_, refl, sym, _∙_, ap, subst}
-use mathlib.Core.Bool.{Bool, true, false, not}
+use mathlib.Core.Bool.{Bool, true}
 use lib.Dec.{T}
 use Prim.Native.Nat.{ℕ, _+_, _<_, _^_}
 use mathlib.Core.List.{[], _∷_, List, map-id}
@@ -65,7 +65,6 @@ use Rattle.meter.specs.Outcomes.{Outcome}
 use Rattle.meter.specs.declared.Event.{Event}
 use Rattle.meter.specs.Life.{eventOf, met}
 use Rattle.meter.specs.Deeds.{done as all-done}
-use Rattle.frames.specs.Frames.{onWire}
 use Rattle.text.specs.Writing.{holding}
 use Rattle.settling.specs.declared.Heard.{Heard}
 use Rattle.receiving.specs.Receivers.{heldAfter}
@@ -79,7 +78,7 @@ use Rattle.settling.proofs.look.Symbol as look-def
 use Rattle.settling.proofs.look.Symbol.{name as #settling·look}
 use Rattle.settling.proofs.look.Met as look-thm
 use Rattle.storing.specs.declared.Reply.{Reply}
-use Rattle.storing.specs.Replies.{replyOf}
+use Rattle.storing.proofs.Answers.{Answered, answered-as, is-true, is-false}
 use Rattle.firmware.specs.Replies.{settledReply}
 use Rattle.lent.proofs.Behind.{behind}
 use Rattle.lent.proofs.Forks.{forks}
@@ -114,13 +113,6 @@ places = Array u8 64
 abbrev valOf : List ℕ → Val
 valOf ys = R′.the-laws .1 .0 .val (inField ys)
 
--- what the call asks of its result, of the record at exit and of the buffer at exit
-abbrev Said : Outcome → List ℕ → Reply → Meter → List ℕ → Type 0
-Said o ys t m′ zs = (t ≡ replyOf o) × (m′ ≡ o .next) × (zs ≡ holding ys (onWire (o .reply)))
-
-said : (o o′ : Outcome) (ys zs : List ℕ) (t : Reply) (m′ : Meter) → o ≡ o′ → Said o′ ys t m′ zs → Said o ys t m′ zs
-said o o′ ys zs t m′ all e = rw all e
-
 -- the state that a settled event leaves, where the receiver then holds these
 abbrev after : Meter → Heard → List ℕ → Meter
 after m h held =
@@ -128,20 +120,12 @@ after m h held =
     (withExported (withCounters (withClock (m .registers) (h .clock)) (h .counters)) (h .exported))
 
 said-settled : (m : Meter) (event : Event) (ys zs : List ℕ) (h : Heard) (t : Reply)
-    → h ≡ settles m (length ys) event → h .settled ≡ true → zs ≡ heldAfter (h .holding) (inField (m .receiver .held)) → t ≡ settledReply h → Said (met m (length ys) event) ys t (after m h zs) ys
+    → h ≡ settles m (length ys) event → h .settled ≡ true → zs ≡ heldAfter (h .holding) (inField (m .receiver .held)) → t ≡ settledReply h → Answered (met m (length ys) event) ys t (after m h zs) ys
 unfolding holding
 said-settled m event ys zs h t e es ez et =
     let whole = settled-is m (length ys) event (ap (λ (x : Heard). x .settled) (sym e) ∙ es) in
     let kept = ez ∙ ap (heldAfter (h .holding)) (map-id (m .receiver .held)) in
     rw (whole, ← e, kept) (et, refl, refl)
-
-is-true : (c : Bool) → T c → c ≡ true
-is-true true _ = refl
-is-true false z = absurd z
-
-is-false : (c : Bool) → T (not c) → c ≡ false
-is-false true z = absurd z
-is-false false _ = refl
 
 module _ {M : Type 1} (𝓤 : URA M) (H : Heap 𝓤) (A : Atoms 𝓤) (at-mem : Memory → SProp 𝓤) (run : Routine → Fun 𝓤) where
   -- the contracts that the proof cites
@@ -271,7 +255,7 @@ module _ {M : Type 1} (𝓤 : URA M) (H : Heap 𝓤) (A : Atoms 𝓤) (W : Given
       let m = LL.owed S.the-type S′.the-laws h (LL.vals S.the-type S′.the-laws h) was in
       LL.owed R.the-type R′.the-laws (h .receiver) (LL.vals R.the-type R′.the-laws (h .receiver)) (m .1 .1 .1 .0) .1 .0
 
-  exits : (t : Reply) (v : Val) (s : Meter) (zs : List ℕ) → Said (met h (length ys) event) ys t s zs → length zs ≡ length ys
+  exits : (t : Reply) (v : Val) (s : Meter) (zs : List ℕ) → Answered (met h (length ys) event) ys t s zs → length zs ≡ length ys
       → ent 𝓤 (sep 𝓤 (sem 𝓤 H A (P.the-row .own t (v ∷ []))) (sep 𝓤 (A .lft κ q) (sep 𝓤 (A .res γ (S.the-row .coded .code s)) (sep 𝓤 (sep 𝓤 (A .lft κ₁ q₁) (sem 𝓤 H A ftrue)) (sem 𝓤 H A (finally u8 γ₁ zs)))))) (Post v)
   exits t v s zs e l =
       qed W (‵ (P.the-row .own t (v ∷ [])) ∷ ‵ (flft κ q) ∷ ‵ (fres γ (S.the-row .coded .code s)) ∷ (‵ (flft κ₁ q₁) ⊛ ‵ ftrue) ∷ ‵ (finally u8 γ₁ zs) ∷ []) ∵
@@ -357,14 +341,14 @@ module _ {M : Type 1} (𝓤 : URA M) (H : Heap 𝓤) (A : Atoms 𝓤) (W : Given
         -- [what it asks; _13 1; _12 3; _11 5; _10 7; _9 9; _8 11; _7 13; _6 15; _5 17; _4 19; _3 21; _2 23; _1 25; room for _0 27; true]
         calls-at ! fm (Act 𝓤 H A at-mem run) known-act to-act (and-then ! (load ! (from ! (stop !)) (look ! 5 refl)) (and-then ! (load ! (from ! (stop !)) (look ! 23 refl)) (and-then ! (load ! (from ! (stop !)) (look ! 21 refl)) (and-then ! (load ! (from ! (stop !)) (look ! 1 refl)) (no-more !))))) (λ w₁.
         use1 W (later (some (λ (t : Reply). ((‵ (flft κ q) ⊛ (‵ (flft κ₁ q₁) ⊛ ‵ ftrue)) ⊛ ‵ (P.the-row .own t (w₁ ∷ []))) ⊛ raw (ensured 𝓤 H A act.ended (act.clauses 𝓤 H A at-mem run) (κ, (κ₁, tt)) x tt t)))) (id⊢ 𝓤 _) $ await ! tt $ pick ! (λ t.
-        split ! $ move ! (1 ∷ []) $ use1 W (some (λ (zs : Meter × (Unit {0} × (Unit {0} × (List ℕ × Unit {0})))). ‵ (lasts act.ended (κ, (κ₁, tt)) x zs) ⊛ raw (fact 𝓤 (Said (all-done h (deedOf h event)) ys t (zs .0) (zs .1 .1 .1 .0))))) (id⊢ 𝓤 _) $ pick ! (λ zs.
-        split ! $ move ! (1 ∷ []) $ heard ! (Said (all-done h (deedOf h event)) ys t (zs .0) (zs .1 .1 .1 .0)) (λ ea. fsplit ! $ move ! (1 ∷ []) $ fsplit ! $ move ! (1 ∷ []) $ fsplit ! $ move ! (1 ∷ []) $ fsplit ! $ fsplit ! $ move ! (1 ∷ []) $ feqL ! (λ l.
+        split ! $ move ! (1 ∷ []) $ use1 W (some (λ (zs : Meter × (Unit {0} × (Unit {0} × (List ℕ × Unit {0})))). ‵ (lasts act.ended (κ, (κ₁, tt)) x zs) ⊛ raw (fact 𝓤 (Answered (all-done h (deedOf h event)) ys t (zs .0) (zs .1 .1 .1 .0))))) (id⊢ 𝓤 _) $ pick ! (λ zs.
+        split ! $ move ! (1 ∷ []) $ heard ! (Answered (all-done h (deedOf h event)) ys t (zs .0) (zs .1 .1 .1 .0)) (λ ea. fsplit ! $ move ! (1 ∷ []) $ fsplit ! $ move ! (1 ∷ []) $ fsplit ! $ move ! (1 ∷ []) $ fsplit ! $ fsplit ! $ move ! (1 ∷ []) $ feqL ! (λ l.
         -- [the last list; three of nothing; the record's last value 4; the tokens and what the answer owns 5; _13 6; …]
         move ! (5 ∷ []) $ split ! $ move ! (1 ∷ []) $ peeks ! P.the-row (Is P.the-row) (shows 𝓤 H A P.the-row) t (w₁ ∷ []) (λ is-t. land ! (from ! (stop !)) (init ! 33 {τ = P′.mir} {v = w₁} refl (LL.lawful P.the-type P′.the-laws 𝓤 H A W .typed t _ is-t .0)) $
         returns ! (look ! 33 refl) $ forget ! 7 refl $ forget ! 9 refl $ forget ! 11 refl $ forget ! 15 refl $ forget ! 17 refl $ forget ! 19 refl $ forget ! 23 refl $ forget ! 25 refl $ forget ! 27 refl $ forget ! 29 refl $ forget ! 31 refl $ forget ! 33 refl $
         move ! (33 ∷ 34 ∷ []) $ free1 ! $ move ! (31 ∷ 32 ∷ []) $ free1 ! $ move ! (29 ∷ 30 ∷ []) $ free1 ! $ move ! (27 ∷ 28 ∷ []) $ free1 ! $ move ! (25 ∷ 26 ∷ []) $ free1 ! $ move ! (23 ∷ 24 ∷ []) $ free1 ! $ move ! (21 ∷ 22 ∷ []) $ free1 ! $ move ! (19 ∷ 20 ∷ []) $ free1 ! $ move ! (17 ∷ 18 ∷ []) $ free1 ! $ move ! (15 ∷ 16 ∷ []) $ free1 ! $ move ! (13 ∷ 14 ∷ []) $ free1 ! $ move ! (11 ∷ 12 ∷ []) $ free1 ! $ move ! (9 ∷ 10 ∷ []) $ free1 ! $ move ! (7 ∷ 8 ∷ []) $ free1 ! $ free0 ! $
         -- [what the answer owns; the tokens; the last list; three of nothing; the record's last value 6; true]
-        move ! (1 ∷ []) $ split ! $ keep ! (2 ∷ 0 ∷ 7 ∷ 1 ∷ 3 ∷ []) $ by ! (exits t w₁ (zs .0) (zs .1 .1 .1 .0) (said _ _ ys (zs .1 .1 .1 .0) t (zs .0) (left .all ∙ left-done h (length ys) event unsettled) ea) l))))))))))))))))))))))))))))))))))
+        move ! (1 ∷ []) $ split ! $ keep ! (2 ∷ 0 ∷ 7 ∷ 1 ∷ 3 ∷ []) $ by ! (exits t w₁ (zs .0) (zs .1 .1 .1 .0) (answered-as _ _ ys (zs .1 .1 .1 .0) t (zs .0) (left .all ∙ left-done h (length ys) event unsettled) ea) l))))))))))))))))))))))))))))))))))
 
 module _ {M : Type 1} (𝓤 : URA M) (H : Heap 𝓤) (A : Atoms 𝓤) (W : Given 𝓤 H A) (at-mem : Memory → SProp 𝓤) (run : Routine → Fun 𝓤) where
   walks : (C : Calls 𝓤 H) (Λ : Loops 𝓤 H) → FmC 𝓤 H (W .laws) C → Triple 𝓤 (C #settling·look) (Look 𝓤 H A at-mem run) → Triple 𝓤 (C #firmware·is-settled) (Settled 𝓤 H A at-mem run) → Triple 𝓤 (C #firmware·settle) (Settle 𝓤 H A at-mem run) → Triple 𝓤 (C #storing·act-in-place) (Act 𝓤 H A at-mem run)

@@ -61,7 +61,8 @@ use Rattle.settling.proofs.act.Symbol as act-def
 use Rattle.settling.proofs.act.Symbol.{name as #settling·act}
 use Rattle.settling.proofs.act.Met as act-thm
 use Rattle.storing.specs.declared.Reply.{Reply}
-use Rattle.storing.specs.Replies.{replyTo, replyOf}
+use Rattle.storing.specs.Replies.{replyTo}
+use Rattle.storing.proofs.Answers.{Answered}
 use Rattle.storing.proofs.Reply as P
 use Rattle.storing.proofs.Reply.Laws as P′
 use Rattle.storing.proofs.store as store
@@ -77,10 +78,10 @@ abbrev stayed : Stays (f.ended .signature .params) (f.ended .kept)
 stayed = (gave-ref (0 ∷ []) tt (plain (λ _. S.the-row)), (stay-none (λ _. u8) yes, (stay-none (λ _. u32) yes, (gave-slice (1 ∷ []) tt (plain (λ _. u8)), tt))))
 
 -- what is answered, left of the record and of the buffer
-abbrev Said : Meter → Event → List ℕ → Reply → Meter → List ℕ → Type 0
-Said m e ys t m′ zs = (t ≡ replyOf (all-done m (deedOf m e))) × (m′ ≡ all-done m (deedOf m e) .next) × (zs ≡ holding ys (onWire (all-done m (deedOf m e) .reply)))
+abbrev Done : Meter → Event → List ℕ → Reply → Meter → List ℕ → Type 0
+Done m e ys t m′ zs = Answered (all-done m (deedOf m e)) ys t m′ zs
 
-said : (m : Meter) (e : Event) (ys zs : List ℕ) (r : Acted) (t : Reply) (m′ : Meter) → r ≡ actedBy m e → zs ≡ holding ys (onWire (saidBy (m .registers) (deedOf m e))) → t ≡ replyTo r → m′ ≡ storedIn m r → Said m e ys t m′ zs
+said : (m : Meter) (e : Event) (ys zs : List ℕ) (r : Acted) (t : Reply) (m′ : Meter) → r ≡ actedBy m e → zs ≡ holding ys (onWire (saidBy (m .registers) (deedOf m e))) → t ≡ replyTo r → m′ ≡ storedIn m r → Done m e ys t m′ zs
 said m e ys zs r t m′ er ez et em = (et ∙ ap replyTo er, em ∙ ap (storedIn m) er, ez)
 
 writable : (m : Meter) (e : Event) (r : Acted) → r ≡ actedBy m e → Writable (r .writes)
@@ -142,7 +143,7 @@ module _ {M : Type 1} (𝓤 : URA M) (H : Heap 𝓤) (A : Atoms 𝓤) (W : Given
       qed W (‵ (fobs γ (S.the-row .coded .code h)) ∷ ‵ (fbor κ (Body (mem S.the-row) b o γ)) ∷ ‵ (flft κ q) ∷ []) ∵ says ! (good .0, writable h event r er) $ nothing ! $ owned ! N.the-row (Is N.the-row) (LL.makes N.the-type N′.the-plain 𝓤 H A) r _ is $ fjoin ! $
       move ! (1 ∷ 2 ∷ []) $ feqI ! (List Val) (vptr b o ∷ []) (vptr b o ∷ []) refl $ fjoin3 ! $ fjoin ! $ nothing ! $ move ! (2 ∷ 0 ∷ []) $ join ! $ join ! $ done !
 
-  exits : (t : Reply) (v : Val) (s : Meter) (zs : List ℕ) → Said h event ys t s zs → length zs ≡ length ys
+  exits : (t : Reply) (v : Val) (s : Meter) (zs : List ℕ) → Done h event ys t s zs → length zs ≡ length ys
       → ent 𝓤 (sep 𝓤 (sem 𝓤 H A (P.the-row .own t (v ∷ []))) (sep 𝓤 (sep 𝓤 (A .lft κ q) (sem 𝓤 H A ftrue)) (sep 𝓤 (A .res γ (S.the-row .coded .code s)) (sep 𝓤 (sep 𝓤 (A .lft κ₁ q₁) (sem 𝓤 H A ftrue)) (sem 𝓤 H A (finally u8 γ₁ zs)))))) (Post v)
   exits t v s zs e l =
       qed W (‵ (P.the-row .own t (v ∷ [])) ∷ (‵ (flft κ q) ⊛ ‵ ftrue) ∷ ‵ (fres γ (S.the-row .coded .code s)) ∷ (‵ (flft κ₁ q₁) ⊛ ‵ ftrue) ∷ ‵ (finally u8 γ₁ zs) ∷ []) ∵

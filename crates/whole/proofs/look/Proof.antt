@@ -33,8 +33,15 @@ returns-4 c =
     let room = formed .before in
     let known = room .before in
     let entry = known .before .before .before in
-    rw (← known .before .is-edition .ensures, not-false (known .before .is-edition .result) (known .if1 .left), le-ltb _ _ (room .if2 .left), not-false (entry .args .formed) (formed .if3 .left),
-    ← waits .awaits-frame .ensures, not-true (waits .awaits-frame .result) (c .before .if4 .taken), c .refuse4 .ensures)
+    rw (
+      ← known .before .is-edition .ensures,
+      not-false (known .before .is-edition .result) (known .if1 .left),
+      le-ltb _ _ (room .if2 .left),
+      not-false (entry .args .formed) (formed .if3 .left),
+      ← waits .awaits-frame .ensures,
+      not-true (waits .awaits-frame .result) (c .before .if4 .taken),
+      c .refuse4 .ensures,
+    )
 
 returns-5 : tie.Need-returns-5
 unfolding lookedBy
@@ -44,8 +51,15 @@ returns-5 c =
     let room = formed .before in
     let known = room .before in
     let entry = known .before .before .before in
-    rw (← known .before .is-edition .ensures, not-false (known .before .is-edition .result) (known .if1 .left), le-ltb _ _ (room .if2 .left), not-false (entry .args .formed) (formed .if3 .left),
-    ← waits .awaits-frame .ensures, not-false (waits .awaits-frame .result) (c .before .if4 .left), c .gather .ensures)
+    rw (
+      ← known .before .is-edition .ensures,
+      not-false (known .before .is-edition .result) (known .if1 .left),
+      le-ltb _ _ (room .if2 .left),
+      not-false (entry .args .formed) (formed .if3 .left),
+      ← waits .awaits-frame .ensures,
+      not-false (waits .awaits-frame .result) (c .before .if4 .left),
+      c .gather .ensures,
+    )
 
 pub look-spec : {M : Type 1} → statement M
 look-spec =
