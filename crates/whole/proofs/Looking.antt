@@ -1,5 +1,5 @@
 -- A look at a slice says what `frameAt` says: what it refuses is refused there, and what it finishes is the meter's step at the last byte, upon a receiver with which the state is well-formed. Assumes nothing.
-use mathlib.Core.Path.{_≡_, refl, sym, _∙_}
+use mathlib.Core.Path.{_≡_, refl, _∙_}
 use mathlib.Core.Bool.{Bool, true, false, cond}
 use mathlib.Core.List.{List}
 use Prim.Native.Nat.{ℕ, _≤_, _<_}
@@ -10,12 +10,12 @@ use Rattle.values.specs.Edition.{isEdition}
 use Rattle.state.specs.Sizes.{replyRoom}
 use Rattle.state.specs.declared.Meter.{Meter}
 use Rattle.state.specs.WellFormed.{editionOf, familyOf, wellFormed}
-use Rattle.meter.specs.Outcomes.{Outcome, unheard}
+use Rattle.meter.specs.Outcomes.{unheard}
 use Rattle.meter.specs.Character.{taken}
 use Rattle.meter.specs.Life.{eventOf, refusal}
 use Rattle.meter.specs.Deeds.{standingOf, leftDeed, done}
 use Rattle.whole.specs.declared.Looked.{Looked}
-use Rattle.whole.specs.Whole.{finishesAt, noFrame, awaits, frameTaken, frameAt}
+use Rattle.whole.specs.Whole.{finishesAt, awaits, frameTaken, frameAt}
 use Rattle.whole.specs.Gathering.{lastOf, heldIn, runOf, filled}
 use Rattle.whole.specs.Looking.{refuses, finishes, gathered, lookedBy, looked, refusedWith, filledWith}
 use Rattle.whole.proofs.Finishing.{taken-none, nothing-whole, frame-whole, frame-formed, frame-ended, told-fits, ended-done}

@@ -61,7 +61,6 @@ use Rattle.state.proofs.Counters as U
 use Rattle.state.proofs.Counters.Laws as U′
 use Rattle.clock.proofs.Clock as K
 use Rattle.clock.proofs.Clock.Laws as K′
-use Rattle.meter.specs.Outcomes.{Outcome}
 use Rattle.meter.specs.declared.Event.{Event}
 use Rattle.meter.specs.Life.{eventOf, met}
 use Rattle.meter.specs.Deeds.{done as all-done}

@@ -4,7 +4,7 @@
 use mathlib.Core.Path.{_≡_, refl, sym, _∙_, ap, subst}
 use mathlib.Core.Bool.{Bool, true, false, not}
 use lib.Dec.{T, eqb}
-use Prim.Native.Nat.{ℕ, _+_, _<_, _^_}
+use Prim.Native.Nat.{ℕ, _<_, _^_}
 use mathlib.Core.List.{[], _∷_, List}
 use lib.ListN.{length}
 use native.Mathlib.Omega.{arith}
@@ -59,7 +59,6 @@ use Rattle.state.proofs.Registers.Laws as G′
 use Rattle.state.proofs.Facts as F
 use Rattle.state.proofs.Facts.Laws as F′
 use Rattle.meter.specs.Outcomes.{Outcome}
-use Rattle.meter.specs.declared.Event.{Event}
 use Rattle.meter.specs.Life.{eventOf, refusal}
 use Rattle.meter.specs.Deeds.{done as all-done}
 use Rattle.settling.specs.Acting.{deedOf}

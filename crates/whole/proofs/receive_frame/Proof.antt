@@ -1,10 +1,9 @@
 -- `whole::receive_frame` meets its contract: what a look refuses is refused, and what it finishes is the meter's step at the last byte. Assumes nothing.
-use mathlib.Core.Path.{_≡_, refl, sym, ap, _∙_}
+use mathlib.Core.Path.{sym, ap, _∙_}
 use lib.ListN.{length}
 use borrow.Author.Needs.{needs}
 use Rattle.text.specs.Writing.{holding}
 use Rattle.whole.specs.declared.Looked.{Looked}
-use Rattle.whole.specs.Looking.{looked}
 use Rattle.whole.proofs.Looking.{refused-is, finished-is}
 use Rattle.whole.proofs.receive_frame.Statement.{statement}
 use Rattle.whole.proofs.receive_frame.Tie as tie
