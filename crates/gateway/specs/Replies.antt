@@ -1,12 +1,7 @@
--- What an answer says besides the next state.
-use lib.ListN.{length}
-use Rattle.meter.specs.Outcomes.{Outcome}
-use Rattle.meter.specs.declared.Answer.{Answer}
-use Rattle.gateway.specs.declared.Reply.{Reply}
+-- What a refused slice answers.
+use Rattle.storing.specs.declared.Reply.{Reply}
+use Rattle.whole.specs.declared.Looked.{Looked}
 
-abbrev pub replyTo : Answer → Reply
-replyTo a = record { number = a .number; length = a .length; speed = a .speed; place = a .place }
-
--- the number, the reply's length, its speed and the place
-abbrev pub replyOf : Outcome → Reply
-replyOf o = record { number = o .number; length = length (o .reply); speed = o .speed; place = o .place }
+-- a number and a speed, and no reply
+abbrev pub refusedReply : Looked → Reply
+refusedReply l = record { number = l .number; length = 0; speed = l .speed; place = 0 }

@@ -47,7 +47,7 @@ use Rattle.settling.specs.declared.Heard.{Heard}
 use Rattle.settling.specs.Settling.{heardAs, heardBy, tickedBy, heardOf, settlesBy}
 use Rattle.keeping.specs.declared.Shown.{Shown}
 use Rattle.keeping.specs.Shown.{checkedAs, shownAs}
-use Rattle.firmware.specs.declared.Reply.{Reply}
+use Rattle.storing.specs.declared.Reply.{Reply}
 use Rattle.mistakes.specs.Samples.{serial, account, password, twos, newMeter, newEqm, heldIn}
 use Rattle.mistakes.specs.Events.{told, toldAll, toldMet, shortPassword, shortTried, signedOn, slowConfirmed, oddConfirmed, slowEntered, fastLeft, restarted, hurt, hurtLast, hurtAnew, clockSent, clockSet, monthEnds, noEdition, Receiving, Passing, Happening, Settling, Lent, Kept}
 use Rattle.mistakes.proofs.Differing.{seen, number, flag, byte}

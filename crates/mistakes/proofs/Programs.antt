@@ -42,7 +42,7 @@ use Rattle.meter.specs.SignOn.{confirms, wantsBlock, wantsProgram, wantsPeriods
 use Rattle.meter.specs.Character.{symbol, confirmed, heard, taken, character}
 use Rattle.meter.specs.Events.{tick}
 use Rattle.meter.specs.Life.{refusal}
-use Rattle.firmware.specs.declared.Reply.{Reply}
+use Rattle.storing.specs.declared.Reply.{Reply}
 use Rattle.commands.specs.Building.{keptOr}
 use Rattle.reading.specs.declared.SetRead.{SetRead}
 use Rattle.reading.specs.Sets.{ofKind, leading, startsWith3, isSet, addressLength, valueLength, setHere, setRead}

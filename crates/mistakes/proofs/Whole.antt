@@ -35,16 +35,20 @@ use Rattle.meter.specs.Acting.{tried, acted}
 use Rattle.meter.specs.SignOn.{confirms, wantsBlock, wantsProgram}
 use Rattle.meter.specs.Character.{symbol, lineEnded, confirmed, heard, taken, character}
 use Rattle.whole.specs.Whole.{ends, finishesAt, atTheLast, awaits, frameTaken, frameAt}
+use Rattle.whole.specs.declared.Looked.{Looked}
+use Rattle.whole.specs.Gathering.{is, heldNext, heldAfter, heldAtLast, heldOver, heldIn as heldBefore}
+use Rattle.whole.specs.Looking.{gathered, lookedBy}
 use Rattle.mistakes.specs.Samples.{serial, account, password, newMeter, heldIn}
 use Rattle.mistakes.specs.Whole.{awaiting, slice, heldSlice, Whole}
 use Rattle.mistakes.proofs.Differing.{seen}
 
 pub frames : Whole
-unfolding ones damagedAt seven sent bccOf every stored holding between isDigit isLetter isPrintable matching sameText decimal valueFrom valueOf numberAt layoutText pattern agrees fits leap thirty daysIn realDate realTime realClock goodDigits isAccountCharacter goodAccount goodRow goodTable tableText tableRead closed bracketed signOn limit firstGood heldGood markGood hurtGood receiverGood tablesGood linkGood isFamily factsGood registersGood wellFormed hearing listening confirming framing startGood bareShape content framedShape enclosed inner tableTold toldBy entry bareVerdict framedVerdict shapeVerdict verdict isWired restSpeed refusedReply afterRefusal tried acted calls opticalCall wiredCall identified slowToo symbol lineEnded confirmed heard taken character serial account password newMeter heldIn below zonesBelow counterEnd exportEnd bothBelow sumOf total factoryGood confirms wantsBlock wantsProgram confirmation speedSaid speedGood ends finishesAt atTheLast awaits frameTaken frameAt awaiting slice heldSlice noTime unused periodGood everyPeriod archiveGood closes isEdition tablesOf newRows
+unfolding ones damagedAt seven sent bccOf every stored holding between isDigit isLetter isPrintable matching sameText decimal valueFrom valueOf numberAt layoutText pattern agrees fits leap thirty daysIn realDate realTime realClock goodDigits isAccountCharacter goodAccount goodRow goodTable tableText tableRead closed bracketed signOn limit firstGood heldGood markGood hurtGood receiverGood tablesGood linkGood isFamily factsGood registersGood wellFormed hearing listening confirming framing startGood bareShape content framedShape enclosed inner tableTold toldBy entry bareVerdict framedVerdict shapeVerdict verdict isWired restSpeed refusedReply afterRefusal tried acted calls opticalCall wiredCall identified slowToo symbol lineEnded confirmed heard taken character serial account password newMeter heldIn below zonesBelow counterEnd exportEnd bothBelow sumOf total factoryGood confirms wantsBlock wantsProgram confirmation speedSaid speedGood ends finishesAt atTheLast awaits frameTaken frameAt awaiting slice heldSlice noTime unused periodGood everyPeriod archiveGood closes isEdition tablesOf newRows is heldNext heldAfter heldAtLast heldOver heldBefore gathered lookedBy
 frames =
     record {
       «receive_frame» = (seen (λ (a : Answer). a .number) refl, seen (λ (a : Answer). a .number) refl);
       receive-frame-end = (seen (λ (a : Answer). a .number) refl, seen (λ (a : Answer). a .number) refl);
       takes-the-bcc-for-the-end = seen (λ (a : Answer). a .number) refl;
       receive-frame-held = (seen (λ (a : Answer). a .next .receiver .count) refl, seen (λ (a : Answer). a .number) refl);
+      look = (seen (λ (l : Looked). l .speed) refl, seen (λ (l : Looked). l .receiver .count) refl);
     }

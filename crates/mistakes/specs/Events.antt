@@ -24,7 +24,7 @@ use Rattle.meter.specs.Life.{eventOf, met, refusal, happened}
 use Rattle.receiving.specs.declared.Holding.the-variants.{Anew}
 use Rattle.settling.specs.Settling.{seenIn, standing, goesOn, refuses, movesOn, settles}
 use Rattle.keeping.specs.Shown.{checkedAs, shownAs}
-use Rattle.firmware.specs.Replies.{replyOf}
+use Rattle.storing.specs.Replies.{replyOf}
 use Rattle.mistakes.specs.RuledOut.{RuledOut}
 use Rattle.mistakes.specs.Samples.{clockAt, serial, account, password, twos, newMeter, newEqm, heldIn}
 

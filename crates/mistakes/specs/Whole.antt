@@ -1,11 +1,13 @@
--- Two wrong answers for the call of `whole`, and those that request [8] warns of.
+-- Two wrong answers for each call of `whole`, and those that request [8] warns of.
 use mathlib.Core.List.{List, [], _∷_}
 use Prim.Native.Nat.{ℕ}
 use Rattle.state.specs.Sizes.{replyRoom}
 use Rattle.state.specs.declared.Meter.{Meter}
+use Rattle.state.specs.Making.{emptyReceiver}
 use Rattle.state.specs.Setting.{inMode, withSpeed}
 use Rattle.meter.specs.Outcomes.{Outcome, answerOf, silent, ack}
 use Rattle.whole.specs.Whole.{noFrame, frameAt}
+use Rattle.whole.specs.Looking.{refuses, finishes, looked}
 use Rattle.mistakes.specs.RuledOut.{RuledOut}
 use Rattle.mistakes.specs.Samples.{newMeter, heldIn}
 
@@ -38,3 +40,5 @@ pub record Whole : Type 0 where
   -- 17 with the receiver emptied; the frame taken behind what is held
   pub receive-frame-held : RuledOut (answerOf heldSlice) (answerOf (silent 17 (inMode newMeter 4)))
       × RuledOut (answerOf heldSlice) (answerOf (ack 0 (inMode newMeter 0)))
+  -- 17 at speed 0; the last byte to be taken upon an empty receiver
+  pub look : RuledOut (looked awaiting replyRoom []) (refuses 17 0) × RuledOut (looked awaiting replyRoom goodBye) (finishes emptyReceiver 113)

@@ -17,12 +17,14 @@ use Rattle.state.specs.declared.Meter.{Meter}
 use Rattle.state.specs.WellFormed.{wellFormed, marked}
 use Rattle.state.specs.Setting.{withReceiver}
 use Rattle.receiving.specs.declared.Hearing.{Hearing}
-use Rattle.receiving.specs.declared.Hearing.the-variants.{Drop, Hold, Restart, Frame, TooLong}
+use Rattle.receiving.specs.declared.Hearing.the-variants.{Drop, Hold, Restart, Empty, Line, Confirm, Frame, TooLong}
 use Rattle.receiving.specs.Hearing.{framing, hearing}
 use Rattle.receiving.specs.Receivers.{lastHeld}
 use Rattle.meter.specs.Outcomes.{Outcome}
 use Rattle.meter.specs.Character.{symbol, heard, taken, character}
 use Rattle.meter.specs.Life.{eventOf, refusal, happened}
+use Rattle.meter.specs.Deeds.{standingOf, acts, characterDeed, leftDeed, done}
+use Rattle.meter.proofs.Done.{heard-done}
 use Rattle.promises.proofs.Answering.{answered-all}
 use Rattle.state.proofs.Parts.{edition-good}
 use Rattle.promises.proofs.Formed.{character-stays}
@@ -67,16 +69,22 @@ module _ (m : Meter) (room : ℕ) (session : 2 ≤ m .mode) (large : replyRoom �
   abbrev pub comesTo : ℕ → List ℕ → Outcome
   comesTo n bytes = cond (eqb n 0) (noFrame m) (taken (holds (runOf n bytes)) (lastOf bytes))
 
-  -- an outcome is that one, and the meter that holds the run is well-formed
+  -- an outcome is that one, the meter that holds the run is well-formed, and the last byte finishes a frame there
   pub record Comes (o : Outcome) (n : ℕ) (bytes : List ℕ) : Type 0 where
     pub outcome : o ≡ comesTo n bytes
     pub formed : (n ≡ 0 → ⊥) → wellFormed (holds (runOf n bytes)) ≡ true
+    pub ended : (n ≡ 0 → ⊥) → finishesAt (holds (runOf n bytes)) (lastOf bytes) ≡ true
 
   comes-none : (n : ℕ) (bytes : List ℕ) → n ≡ 0 → Comes (noFrame m) n bytes
-  comes-none n bytes e = record { outcome = ap (λ (k : ℕ). comesTo k bytes) (sym e); formed = λ some. absurd (some e) }
+  comes-none n bytes e = record { outcome = ap (λ (k : ℕ). comesTo k bytes) (sym e); formed = λ some. absurd (some e); ended = λ some. absurd (some e) }
 
   comes-as : (o : Outcome) (n n′ : ℕ) (bytes bytes′ : List ℕ) → n ≡ n′ → bytes ≡ bytes′ → Comes o n bytes → Comes o n′ bytes′
-  comes-as o n n′ bytes bytes′ e f c = record { outcome = c .outcome ∙ ap₂ comesTo e f; formed = λ some. rw (← e, ← f) (c .formed (λ z. some (sym e ∙ z))) }
+  comes-as o n n′ bytes bytes′ e f c =
+      record {
+        outcome = c .outcome ∙ ap₂ comesTo e f;
+        formed = λ some. rw (← e, ← f) (c .formed (λ z. some (sym e ∙ z)));
+        ended = λ some. rw (← e, ← f) (c .ended (λ z. some (sym e ∙ z)));
+      }
 
   comes-behind : (o : Outcome) (n : ℕ) (a b : List ℕ) → n + 1 ≤ length b → Comes o n b → Comes o n (a ++ b)
   comes-behind o n a b h c =
@@ -84,6 +92,7 @@ module _ (m : Meter) (room : ℕ) (session : 2 ≤ m .mode) (large : replyRoom �
         outcome = c .outcome
             ∙ ap₂ (λ (run : List ℕ) (z : ℕ). cond (eqb n 0) (noFrame m) (taken (holds run) z)) (sym (run-behind n a b h)) (sym (last-behind a b (omega (arith, h))));
         formed = λ some. rw (run-behind n a b h) (c .formed some);
+        ended = λ some. rw (run-behind n a b h, last-behind a b (omega (arith, h))) (c .ended some);
       }
 
   comes-whole : (run : List ℕ) (z : ℕ) → 1 ≤ length run → comesTo (length run) (run ++ (z ∷ [])) ≡ taken (holds run) z
@@ -120,19 +129,29 @@ module _ (m : Meter) (room : ℕ) (session : 2 ≤ m .mode) (large : replyRoom �
     does-is = taken-is (holds run) b (h .formed) ∙ ap (heard (holds run) (symbol b) (damagedAt b)) meant-is
 
     -- the last byte
-    finished : Comes (character (holds run) room b) (length run) (run ++ (b ∷ []))
-    finished = record { outcome = taken-is (holds run) b (h .formed) ∙ sym (comes-whole run b (h .some)); formed = λ some. rw (run-whole run b) (h .formed) }
+    finished : finishesAt (holds run) b ≡ true → Comes (character (holds run) room b) (length run) (run ++ (b ∷ []))
+    finished e =
+        record {
+          outcome = taken-is (holds run) b (h .formed) ∙ sym (comes-whole run b (h .some));
+          formed = λ some. rw (run-whole run b) (h .formed);
+          ended = λ some. rw (run-whole run b, last-snoc run b) e;
+        }
 
-    last-by : (p q f : Bool) → Comes (cond (ends (meant p q f)) (character (holds run) room b) (noFrame m)) (cond p (length run) (cond q 0 (cond f (length run) 0))) (run ++ (b ∷ []))
+    last-by : (p q f : Bool) → finishesAt (holds run) b ≡ ends (meant p q f)
+        → Comes (cond (ends (meant p q f)) (character (holds run) room b) (noFrame m)) (cond p (length run) (cond q 0 (cond f (length run) 0))) (run ++ (b ∷ []))
     unfolding ends
-    last-by true q f = finished
-    last-by false true f = comes-none 0 (run ++ (b ∷ [])) refl
-    last-by false false true = finished
-    last-by false false false = comes-none 0 (run ++ (b ∷ [])) refl
+    last-by true q f e = finished e
+    last-by false true f e = comes-none 0 (run ++ (b ∷ [])) refl
+    last-by false false true e = finished e
+    last-by false false false e = comes-none 0 (run ++ (b ∷ [])) refl
+
+    ends-is : finishesAt (holds run) b ≡ ends (meant (is 3 before) (is 1 b) (leb 63 (length run)))
+    unfolding finishesAt
+    ends-is = ap ends meant-is
 
     at-last : Comes (atTheLast m (holds run) room (b ∷ [])) (heldAtLast (length run) before b) (run ++ (b ∷ []))
-    unfolding atTheLast finishesAt heldAtLast
-    at-last = rw meant-is (last-by (is 3 before) (is 1 b) (leb 63 (length run)))
+    unfolding atTheLast heldAtLast
+    at-last = rw ends-is (last-by (is 3 before) (is 1 b) (leb 63 (length run)) ends-is)
 
     -- a whole frame is answered
     speaks : (q f : Bool) → eqb (does true q f .number) 0 ≡ false
@@ -310,6 +329,9 @@ module _ (m : Meter) (room : ℕ) (large : replyRoom ≤ room) (formed : wellFor
     pub frame-formed : (heldIn bytes ≡ 0 → ⊥) → wellFormed (withReceiver m (filled (runOf (heldIn bytes) bytes))) ≡ true
     frame-formed some = comes .formed some
 
+    pub frame-ended : (heldIn bytes ≡ 0 → ⊥) → finishesAt (withReceiver m (filled (runOf (heldIn bytes) bytes))) (lastOf bytes) ≡ true
+    frame-ended some = comes .ended some
+
 -- the last byte, as the meter is told it
 pub told-fits : (family room b : ℕ) → replyRoom ≤ room → b < 256 → refusal family room (eventOf 0 b) ≡ 0
 unfolding eventOf refusal
@@ -318,3 +340,21 @@ told-fits family room b h small = rw (le-leb b 255 (omega arith), le-ltb room re
 pub told-is : (m : Meter) (b : ℕ) → b < 256 → happened m (eventOf 0 b) ≡ taken m b
 unfolding eventOf happened
 told-is m b small = rw (le-leb b 255 (omega arith))
+
+-- what finishes a frame is acted on, and comes of its deed
+ends-acts : (h : Hearing) → ends h ≡ true → acts h ≡ true
+unfolding ends acts
+ends-acts Drop e = e
+ends-acts Hold e = e
+ends-acts Restart e = e
+ends-acts Empty e = e
+ends-acts Line e = refl
+ends-acts Confirm e = refl
+ends-acts Frame e = e
+ends-acts TooLong e = e
+
+pub ended-done : (m : Meter) (b : ℕ) → b < 256 → finishesAt m b ≡ true → taken m b ≡ done m (leftDeed (standingOf m) (m .receiver .held) (m .registers .clock) (eventOf 0 b))
+unfolding finishesAt taken eventOf leftDeed characterDeed
+ended-done m b small e =
+    let h = hearing (m .mode) (m .receiver .count) (lastHeld (m .receiver)) (symbol b) in
+    rw (le-leb b 255 (omega arith)) (heard-done m (symbol b) (damagedAt b) h (ends-acts h e))

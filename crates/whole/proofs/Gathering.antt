@@ -142,7 +142,3 @@ some-few bytes some = go (ltb (length bytes) 2) refl
     go : (p : Bool) → ltb (length bytes) 2 ≡ p → (heldIn bytes + 1 ≤ length bytes) × (heldIn bytes ≤ 63)
     go true e = absurd (some (short-none bytes (ltb-true (length bytes) 2 e)))
     go false e = in-few bytes (ltb-false (length bytes) 2 e)
-
-pub not-false : (b : Bool) → not b ≡ false → b ≡ true
-not-false true e = refl
-not-false false e = sym e

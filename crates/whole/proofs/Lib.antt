@@ -1,4 +1,5 @@
 pub mod Gathering
 pub mod Filled
 pub mod Finishing
+pub mod Looking
 pub mod Promised

@@ -1,3 +1,4 @@
 pub mod Whole
 pub mod Gathering
+pub mod Looking
 pub mod Promised

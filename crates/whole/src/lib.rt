@@ -11,10 +11,11 @@ ghost use Rattle.frames.specs.Frames.{onWire};
 ghost use Rattle.state.specs.Sizes.{mostHeld, replyRoom};
 ghost use Rattle.state.specs.WellFormed.{wellFormed};
 ghost use Rattle.state.specs.Setting.{withReceiver};
-ghost use Rattle.meter.specs.Outcomes.{answerOf, silent, unheard};
+ghost use Rattle.meter.specs.Outcomes.{answerOf};
 ghost use Rattle.meter.specs.Character.{symbol, taken};
-ghost use Rattle.whole.specs.Whole.{noFrame, awaits, frameTaken, frameAt};
+ghost use Rattle.whole.specs.Whole.{frameAt};
 ghost use Rattle.whole.specs.Gathering.{is, isNot, heldNext, heldAtLast, heldOver, heldIn, filled};
+ghost use Rattle.whole.specs.Looking.{refuses, finishes, gathered, awaitsIn, lookedBy, looked, refusedWith};
 use meter::Answer;
 use state::MOST_HELD;
 use state::Meter;
@@ -152,88 +153,131 @@ fn fill(run: &[u8]) -> Receiver
     with_mark(next, 1, damage::first_damaged(run) as u8)
 }
 
-// Nothing changed, and no reply, at the state's speed.
-fn no_frame(m: Meter) -> Answer
-    ensures { λ r. ⌜ r ≡ answerOf (noFrame m) ⌝ }
-{
-    Answer {
-        number: 17,
-        length: 0,
-        speed: m.speed,
-        place: 0,
-        next: m,
-    }
+// What a look at a slice comes to: a refusal's number and its speed; or number 0, the last byte, and the receiver that holds what comes before it.
+pub struct Looked {
+    pub number: u8,
+    pub speed: u8,
+    pub last: u8,
+    pub receiver: Receiver,
 }
 
-fn unheard_with(number: u8, m: Meter) -> Answer
-    ensures { λ r. ⌜ r ≡ answerOf (unheard number m) ⌝ }
+fn refuse(number: u8, speed: u8) -> Looked
+    ensures { λ r. ⌜ r ≡ refuses number speed ⌝ }
 {
-    Answer {
+    Looked {
         number,
-        length: 0,
+        speed,
+        last: 0,
+        receiver: empty_receiver(),
+    }
+}
+
+fn finish(receiver: Receiver, last: u8) -> Looked
+    ensures { λ r. ⌜ r ≡ finishes receiver last ⌝ }
+{
+    Looked {
+        number: 0,
         speed: 0,
-        place: 0,
-        next: m,
+        last,
+        receiver,
     }
 }
 
-// Modes 2 to 4 with an empty receiver.
-fn awaits_frame(m: Meter) -> bool
-    ensures { λ r. ⌜ r ≡ awaits m ⌝ }
+// A slice that may be a frame: what its last byte finishes, if it does.
+fn gather(speed: u8, frame: &[u8]) -> Looked
+    ensures { λ r. ⌜ r ≡ gathered speed (now (frame .entry)) ⌝ }
 {
-    let r = m.receiver;
-    (2 <= m.mode) & (r.count == 0)
-}
-
-// The last byte, upon the receiver that holds the run before it: the meter's own step.
-fn finish(m: Meter, run: &[u8], last: u8, reply: &mut [u8]) -> Answer
-    requires { ⌜ (length (now run) ≤ mostHeld) × ((wellFormed (withReceiver m (filled (now run))) ≡ true) × (replyRoom ≤ length (now reply))) ⌝ }
-    ensures result { λ r. ⌜ r ≡ answerOf (taken (withReceiver m (filled (now (run .entry)))) last) ⌝ }
-    ensures held { λ _. ⌜ now (reply .exit) ≡ holding (now (reply .entry)) (onWire (taken (withReceiver m (filled (now (run .entry)))) last .reply)) ⌝ }
-{
-    meter::events::act(with_receiver(m, fill(run)), 0, last as u32, reply)
-}
-
-// A slice, taken by a well-formed meter with room for any reply.
-fn take_frame(m: Meter, frame: &[u8], reply: &mut [u8]) -> Answer
-    requires { ⌜ (wellFormed m ≡ true) × (replyRoom ≤ length (now reply)) ⌝ }
-    ensures result { λ r. ⌜ r ≡ answerOf (frameTaken m (length (now (reply .entry))) (now (frame .entry))) ⌝ }
-    ensures held { λ _. ⌜ now (reply .exit) ≡ holding (now (reply .entry)) (onWire (frameTaken m (length (now (reply .entry))) (now (frame .entry)) .reply)) ⌝ }
-{
-    if !awaits_frame(m) {
-        return no_frame(m);
-    }
     let held = held_in(frame);
     if held == 0 {
-        return no_frame(m);
+        return refuse(17, speed);
     }
     let last = frame.len() - 1;
     let run = text::first(text::rest(frame, last - held), held);
-    finish(m, run, frame[last], reply)
+    finish(fill(run), frame[last])
 }
 
-// A frame that comes whole, to any meter with any buffer; whether the state is well-formed is the caller's to say, who may have looked where it lies.
-pub fn receive_frame_of(m: Meter, formed: bool, frame: &[u8], reply: &mut [u8]) -> Answer
-    requires { ⌜ formed ≡ wellFormed m ⌝ }
-    ensures result { λ r. ⌜ r ≡ answerOf (frameAt m (length (now (reply .entry))) (now (frame .entry))) ⌝ }
-    ensures held { λ _. ⌜ now (reply .exit) ≡ holding (now (reply .entry)) (onWire (frameAt m (length (now (reply .entry))) (now (frame .entry)) .reply)) ⌝ }
+// Modes 2 to 4 with an empty receiver.
+fn awaits_frame(mode: u8, count: u8) -> bool
+    ensures { λ r. ⌜ r ≡ awaitsIn mode count ⌝ }
 {
-    if !state::has_edition(m) {
-        return unheard_with(16, m);
-    }
-    if reply.len() < REPLY_ROOM {
-        return unheard_with(12, m);
-    }
-    if formed {
-        return take_frame(m, frame, reply);
-    }
-    unheard_with(14, m)
+    (2 <= mode) & (count == 0)
 }
 
-// The same, with the test of the state by value.
+// A frame that comes whole, by what it asks of a state: a state is too long to be handed on.
+pub fn look(
+    mode: u8,
+    speed: u8,
+    count: u8,
+    edition: u8,
+    formed: bool,
+    frame: &[u8],
+    room: usize,
+) -> Looked
+    ensures { λ r. ⌜ r ≡ lookedBy mode speed count edition formed (now (frame .entry)) room ⌝ }
+{
+    if !values::is_edition(edition) {
+        return refuse(16, 0);
+    }
+    if room < REPLY_ROOM {
+        return refuse(12, 0);
+    }
+    if !formed {
+        return refuse(14, 0);
+    }
+    if !awaits_frame(mode, count) {
+        return refuse(17, speed);
+    }
+    gather(speed, frame)
+}
+
+// The same of a state by value.
+fn look_at(m: Meter, frame: &[u8], room: usize) -> Looked
+    ensures { λ r. ⌜ r ≡ looked m room (now (frame .entry)) ⌝ }
+{
+    let v = m.receiver;
+    let g = m.registers;
+    let f = g.facts;
+    look(
+        m.mode,
+        m.speed,
+        v.count,
+        f.edition,
+        state::is_well_formed(m),
+        frame,
+        room,
+    )
+}
+
+// Nothing changed, and no reply.
+fn refused(m: Meter, l: Looked) -> Answer
+    ensures { λ r. ⌜ r ≡ answerOf (refusedWith m l) ⌝ }
+{
+    Answer {
+        number: l.number,
+        length: 0,
+        speed: l.speed,
+        place: 0,
+        next: m,
+    }
+}
+
+// The last byte, upon the receiver that holds the run before it: the meter's own step.
+fn take_last(m: Meter, receiver: Receiver, last: u8, reply: &mut [u8]) -> Answer
+    requires { ⌜ (wellFormed (withReceiver m receiver) ≡ true) × (replyRoom ≤ length (now reply)) ⌝ }
+    ensures result { λ r. ⌜ r ≡ answerOf (taken (withReceiver m receiver) last) ⌝ }
+    ensures held { λ _. ⌜ now (reply .exit) ≡ holding (now (reply .entry)) (onWire (taken (withReceiver m receiver) last .reply)) ⌝ }
+{
+    meter::events::act(with_receiver(m, receiver), 0, last as u32, reply)
+}
+
+// A frame that comes whole, to any meter with any buffer.
 pub fn receive_frame(m: Meter, frame: &[u8], reply: &mut [u8]) -> Answer
     ensures result { λ r. ⌜ r ≡ answerOf (frameAt m (length (now (reply .entry))) (now (frame .entry))) ⌝ }
     ensures held { λ _. ⌜ now (reply .exit) ≡ holding (now (reply .entry)) (onWire (frameAt m (length (now (reply .entry))) (now (frame .entry)) .reply)) ⌝ }
 {
-    receive_frame_of(m, state::is_well_formed(m), frame, reply)
+    let l = look_at(m, frame, reply.len());
+    if l.number != 0 {
+        return refused(m, l);
+    }
+    take_last(m, l.receiver, l.last, reply)
 }

@@ -1,7 +1,7 @@
 -- `firmware::dirgemist_meter_meet` meets its contract: a walk of its MIR, by hand. The record and the reply's slice go to `meet_in_place` for good, and the three numbers to `tell`.
 -- No borrow is opened: each callee says the last values of what it was passed, and that is what is said at exit.
 -- Assumes nothing.
-use mathlib.Core.Path.{_≡_, refl, _∙_, ap}
+use mathlib.Core.Path.{_≡_, refl}
 use Prim.Native.Nat.{ℕ, _<_, _^_}
 use mathlib.Core.List.{[], _∷_, List}
 use lib.ListN.{length}
@@ -41,20 +41,18 @@ use Rattle.state.specs.declared.Meter.{Meter}
 use Rattle.state.proofs.Meter as S
 use Rattle.meter.specs.Outcomes.{Outcome}
 use Rattle.meter.specs.Life.{eventOf, met}
-use Rattle.frames.specs.Frames.{onWire}
-use Rattle.text.specs.Writing.{holding}
-use Rattle.firmware.specs.declared.Reply.{Reply}
-use Rattle.firmware.specs.Replies.{replyOf}
-use Rattle.firmware.proofs.Reply as P
-use Rattle.firmware.proofs.Reply.Laws as P′
+use Rattle.storing.specs.declared.Reply.{Reply}
+use Rattle.storing.proofs.Answers.{Answered, Told, Said, said}
+use Rattle.storing.proofs.Reply as P
+use Rattle.storing.proofs.Reply.Laws as P′
 use Rattle.firmware.proofs.meet_in_place as meet
 use Rattle.firmware.proofs.meet_in_place.Symbol as meet-def
 use Rattle.firmware.proofs.meet_in_place.Symbol.{name as #firmware·meet-in-place}
 use Rattle.firmware.proofs.meet_in_place.Met as meet-thm
-use Rattle.firmware.proofs.tell as tell
-use Rattle.firmware.proofs.tell.Symbol as tell-def
-use Rattle.firmware.proofs.tell.Symbol.{name as #firmware·tell}
-use Rattle.firmware.proofs.tell.Met as tell-thm
+use Rattle.storing.proofs.tell as tell
+use Rattle.storing.proofs.tell.Symbol as tell-def
+use Rattle.storing.proofs.tell.Symbol.{name as #storing·tell}
+use Rattle.storing.proofs.tell.Met as tell-thm
 use Rattle.firmware.proofs.dirgemist_meter_meet.Key.{name as #firmware·dirgemist-meter-meet}
 use Rattle.firmware.proofs.dirgemist_meter_meet as f
 use Rattle.firmware.proofs.dirgemist_meter_meet.Statement as stated
@@ -62,22 +60,6 @@ use Rattle.firmware.proofs.dirgemist_meter_meet.Code as code
 
 abbrev stayed : Stays (f.ended .signature .params) (f.ended .kept)
 stayed = (gave-ref (0 ∷ []) tt (plain (λ _. S.the-row)), (stay-none (λ _. u8) yes, (stay-none (λ _. u32) yes, (gave-slice (1 ∷ []) tt (plain (λ _. u8)), (gave-ref (2 ∷ []) tt (plain (λ _. usize)), (gave-ref (3 ∷ []) tt (plain (λ _. u8)), (gave-ref (4 ∷ []) tt (plain (λ _. u8)), tt)))))))
-
--- what the first callee says of its result, of the record and of the buffer; and what is to be said of those and of the three numbers
-abbrev Answered : Outcome → List ℕ → Reply → Meter → List ℕ → Type 0
-Answered o ys t s zs = (t ≡ replyOf o) × (s ≡ o .next) × (zs ≡ holding ys (onWire (o .reply)))
-
-abbrev Told : Reply → ℕ → ℕ → ℕ → ℕ → Type 0
-Told t k count speed place = (k ≡ t .number) × (count ≡ t .length) × (speed ≡ t .speed) × (place ≡ t .place)
-
-abbrev Said : Outcome → List ℕ → ℕ → Meter → List ℕ → ℕ → ℕ → ℕ → Type 0
-Said o ys k s zs count speed place =
-    (k ≡ o .number) × (s ≡ o .next) × (zs ≡ holding ys (onWire (o .reply))) × (count ≡ length (o .reply)) × (speed ≡ o .speed) × (place ≡ o .place)
-
-said : (o : Outcome) (ys : List ℕ) (t : Reply) (s : Meter) (zs : List ℕ) (k count speed place : ℕ) → Answered o ys t s zs → Told t k count speed place
-    → Said o ys k s zs count speed place
-said o ys t s zs k count speed place (e, es, ez) (ek, ec, ep, eg) =
-    (ek ∙ ap (λ (r : Reply). r .number) e, es, ez, ec ∙ ap (λ (r : Reply). r .length) e, ep ∙ ap (λ (r : Reply). r .speed) e, eg ∙ ap (λ (r : Reply). r .place) e)
 
 module _ {M : Type 1} (𝓤 : URA M) (H : Heap 𝓤) (A : Atoms 𝓤) (at-mem : Memory → SProp 𝓤) (run : Routine → Fun 𝓤) where
   -- the contracts that the proof cites
@@ -136,7 +118,7 @@ module _ {M : Type 1} (𝓤 : URA M) (H : Heap 𝓤) (A : Atoms 𝓤) (W : Given
       move ! (2 ∷ []) $ split ! $ move ! (1 ∷ []) $ split ! $ move ! (1 ∷ []) $ drop ! $ move ! (0 ∷ 3 ∷ []) $ join ! $ move ! (1 ∷ 0 ∷ []) $ join ! $ frame ! $
       nothing ! $ move ! (6 ∷ 0 ∷ []) $ fjoin ! $ move ! (5 ∷ 0 ∷ []) $ fjoin ! $ move ! (4 ∷ 0 ∷ []) $ fjoin ! $ move ! (3 ∷ 0 ∷ []) $ fjoin ! $ owned ! u32 (Is u32) (uint-makes 𝓤 H A W w32) n₁ _ (refl, fits₁) $ fjoin ! $ owned ! u8 (Is u8) (uint-makes 𝓤 H A W w8) n _ (refl, fits) $ fjoin ! $ move ! (2 ∷ 0 ∷ []) $ fjoin ! $ done !
 
-  module _ (C : Calls 𝓤 H) (Λ : Loops 𝓤 H) (fm : FmC 𝓤 H (W .laws) C) (known-meet : Triple 𝓤 (C #firmware·meet-in-place) (Meet 𝓤 H A at-mem run)) (known-tell : Triple 𝓤 (C #firmware·tell) (Tell 𝓤 H A at-mem run)) where
+  module _ (C : Calls 𝓤 H) (Λ : Loops 𝓤 H) (fm : FmC 𝓤 H (W .laws) C) (known-meet : Triple 𝓤 (C #firmware·meet-in-place) (Meet 𝓤 H A at-mem run)) (known-tell : Triple 𝓤 (C #storing·tell) (Tell 𝓤 H A at-mem run)) where
     walk : Room u8 (length (y .now)) → ent 𝓤 (onEntry 𝓤 H A f.signature (κ, (κ₁, (κ₂, (κ₃, (κ₄, tt))))) (q, (q₁, (q₂, (q₃, (q₄, tt))))) x at) (WpFn 𝓤 H C Λ code.function (to m ∷ vint w8 n ∷ vint w32 n₁ ∷ s₁ ∷ out c ∷ out p ∷ out g ∷ []) Post)
     walk room =
         qed W ((‵ (flft κ q) ⊛ (‵ (flft κ₁ q₁) ⊛ (‵ (flft κ₂ q₂) ⊛ (‵ (flft κ₃ q₃) ⊛ (‵ (flft κ₄ q₄) ⊛ ‵ ftrue))))) ∷ ‵ (owns (MutRef (named 0) κ S.the-row ∷ u8 ∷ u32 ∷ MutSlice (named 1) κ₁ u8 ∷ MutRef (named 2) κ₂ usize ∷ MutRef (named 3) κ₃ u8 ∷ MutRef (named 4) κ₄ u8 ∷ []) x at) ∷ []) ∵
@@ -177,7 +159,7 @@ module _ {M : Type 1} (𝓤 : URA M) (H : Heap 𝓤) (A : Atoms 𝓤) (W : Given
         keep ! (0 ∷ 1 ∷ 7 ∷ 12 ∷ 8 ∷ 5 ∷ 4 ∷ 2 ∷ []) $ by ! (exits k v (zs .0) (zs .1 .1 .1 .0) (ws .1 .0) (ws .1 .1 .0) (ws .1 .1 .1 .0) (said o (y .now) t (zs .0) (zs .1 .1 .1 .0) k (ws .1 .0) (ws .1 .1 .0) (ws .1 .1 .1 .0) e e₁) l)))))))))))))))))))))))))))
 
 module _ {M : Type 1} (𝓤 : URA M) (H : Heap 𝓤) (A : Atoms 𝓤) (W : Given 𝓤 H A) (at-mem : Memory → SProp 𝓤) (run : Routine → Fun 𝓤) where
-  walks : (C : Calls 𝓤 H) (Λ : Loops 𝓤 H) → FmC 𝓤 H (W .laws) C → Triple 𝓤 (C #firmware·meet-in-place) (Meet 𝓤 H A at-mem run) → Triple 𝓤 (C #firmware·tell) (Tell 𝓤 H A at-mem run)
+  walks : (C : Calls 𝓤 H) (Λ : Loops 𝓤 H) → FmC 𝓤 H (W .laws) C → Triple 𝓤 (C #firmware·meet-in-place) (Meet 𝓤 H A at-mem run) → Triple 𝓤 (C #storing·tell) (Tell 𝓤 H A at-mem run)
       → Walks 𝓤 H A f.ended stayed (WpFn 𝓤 H C Λ code.function) (f.clauses 𝓤 H A at-mem run)
   walks C Λ fm known-meet known-tell = walked 𝓤 H A f.ended stayed (f.clauses 𝓤 H A at-mem run) (WpFn 𝓤 H C Λ code.function)
       (λ κs. (ptr-vals, (uint-vals w8, (uint-vals w32, (slice-vals, (ptr-vals, (ptr-vals, (ptr-vals, tt)))))))) (λ κs. (mut-tells (named 0) (κs .0) S.the-row, (uint-tells w8, (uint-tells w32, (mut-slice-tells (named 1) (κs .1 .0) u8, (mut-tells (named 2) (κs .1 .1 .0) usize, (mut-tells (named 3) (κs .1 .1 .1 .0) u8, (mut-tells (named 4) (κs .1 .1 .1 .1 .0) u8, tt))))))))
@@ -188,7 +170,7 @@ module _ {M : Type 1} (𝓤 : URA M) (H : Heap 𝓤) (A : Atoms 𝓤) (W : Given
   goes = (goes-gave-ref 𝓤 H A W 5 0 tt (plain (λ _. S.the-row)), (goes-none 𝓤 H A W 5 (λ _. u8) yes (λ κs x f. refl), (goes-none 𝓤 H A W 5 (λ _. u32) yes (λ κs x f. refl), (goes-gave-slice 𝓤 H A W 5 1 tt (plain (λ _. u8)), (goes-gave-ref 𝓤 H A W 5 2 tt (plain (λ _. usize)), (goes-gave-ref 𝓤 H A W 5 3 tt (plain (λ _. u8)), (goes-gave-ref 𝓤 H A W 5 4 tt (plain (λ _. u8)), tt)))))))
 
 meets : {M : Type 1} (𝓤 : URA M) (H : Heap 𝓤) (A : Atoms 𝓤) → Given 𝓤 H A → (at-mem : Memory → SProp 𝓤) (run : Routine → Fun 𝓤) (𝓣 : Tables 𝓤 H)
-    → Triple 𝓤 (𝓣 .C #firmware·meet-in-place) (Meet 𝓤 H A at-mem run) → Triple 𝓤 (𝓣 .C #firmware·tell) (Tell 𝓤 H A at-mem run)
+    → Triple 𝓤 (𝓣 .C #firmware·meet-in-place) (Meet 𝓤 H A at-mem run) → Triple 𝓤 (𝓣 .C #storing·tell) (Tell 𝓤 H A at-mem run)
     → Meets 𝓤 H A f.signature (WpFn 𝓤 H (𝓣 .C) (𝓣 .Λ) code.function) (f.spec 𝓤 H A at-mem run)
 meets 𝓤 H A W at-mem run 𝓣 known-meet known-tell = walk-meets 𝓤 H A f.ended stayed W (goes 𝓤 H A W at-mem run) (f.clauses 𝓤 H A at-mem run) (WpFn 𝓤 H (𝓣 .C) (𝓣 .Λ) code.function) (WpFn-mono 𝓤 H (W .laws) 𝓣 code.function)
     (walks 𝓤 H A W at-mem run (𝓣 .C) (𝓣 .Λ) (fmOf 𝓤 H (W .laws) 𝓣) known-meet known-tell)
@@ -200,4 +182,4 @@ dirgemist-meter-meet-spec 𝓤 H 𝓜 𝓖 𝓡 =
     (tables 𝓤 H 𝓜 𝓡 code.env .C) (tables 𝓤 H 𝓜 𝓡 code.env .Λ) #firmware·dirgemist-meter-meet code.function (code.unfolded 𝓤 H 𝓜 𝓡)
     (meets 𝓤 H (𝓖 .A) (givenOf 𝓤 H 𝓜 𝓖) (𝓜 .mem) (𝓡 .run) (tablesOf 𝓤 H 𝓜 (tables 𝓤 H 𝓜 𝓡 code.env))
     (cited 𝓤 H (Meet 𝓤 H (𝓖 .A) (𝓜 .mem) (𝓡 .run)) 𝓜 𝓡 code.env #firmware·meet-in-place meet-def.routine code.calls-firmware·meet-in-place (meet-thm.met 𝓤 H 𝓜 𝓖 𝓡))
-    (cited 𝓤 H (Tell 𝓤 H (𝓖 .A) (𝓜 .mem) (𝓡 .run)) 𝓜 𝓡 code.env #firmware·tell tell-def.routine code.calls-firmware·tell (tell-thm.met 𝓤 H 𝓜 𝓖 𝓡)))
+    (cited 𝓤 H (Tell 𝓤 H (𝓖 .A) (𝓜 .mem) (𝓡 .run)) 𝓜 𝓡 code.env #storing·tell tell-def.routine code.calls-storing·tell (tell-thm.met 𝓤 H 𝓜 𝓖 𝓡)))

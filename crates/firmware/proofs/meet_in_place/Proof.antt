@@ -2,7 +2,7 @@
 -- Where the event is settled, what the receiver holds is lent as a `&mut` to `settle`, the rest that was heard is stored into the record, the borrow is closed there, and the reply's slice is given up as it is.
 -- Otherwise the borrow is closed as it was, and record and slice are given to `act_in_place` for good. All that is known of the callees is that each meets its contract. Assumes nothing.
 use mathlib.Core.Path.{_≡_, refl, sym, _∙_, ap, subst}
-use mathlib.Core.Bool.{Bool, true, false, not}
+use mathlib.Core.Bool.{Bool, true}
 use lib.Dec.{T}
 use Prim.Native.Nat.{ℕ, _+_, _<_, _^_}
 use mathlib.Core.List.{[], _∷_, List, map-id}
@@ -61,11 +61,9 @@ use Rattle.state.proofs.Counters as U
 use Rattle.state.proofs.Counters.Laws as U′
 use Rattle.clock.proofs.Clock as K
 use Rattle.clock.proofs.Clock.Laws as K′
-use Rattle.meter.specs.Outcomes.{Outcome}
 use Rattle.meter.specs.declared.Event.{Event}
 use Rattle.meter.specs.Life.{eventOf, met}
 use Rattle.meter.specs.Deeds.{done as all-done}
-use Rattle.frames.specs.Frames.{onWire}
 use Rattle.text.specs.Writing.{holding}
 use Rattle.settling.specs.declared.Heard.{Heard}
 use Rattle.receiving.specs.Receivers.{heldAfter}
@@ -78,14 +76,15 @@ use Rattle.settling.proofs.look as look-at
 use Rattle.settling.proofs.look.Symbol as look-def
 use Rattle.settling.proofs.look.Symbol.{name as #settling·look}
 use Rattle.settling.proofs.look.Met as look-thm
-use Rattle.firmware.specs.declared.Reply.{Reply}
-use Rattle.firmware.specs.Replies.{replyOf, settledReply}
+use Rattle.storing.specs.declared.Reply.{Reply}
+use Rattle.storing.proofs.Answers.{Answered, answered-as, is-true, is-false}
+use Rattle.firmware.specs.Replies.{settledReply}
 use Rattle.lent.proofs.Behind.{behind}
 use Rattle.lent.proofs.Forks.{forks}
 use Rattle.lent.proofs.Known.{inField}
-use Rattle.firmware.proofs.Lending.{lends-run, run-back}
-use Rattle.firmware.proofs.Reply as P
-use Rattle.firmware.proofs.Reply.Laws as P′
+use Rattle.storing.proofs.Lending.{lends-run, run-back}
+use Rattle.storing.proofs.Reply as P
+use Rattle.storing.proofs.Reply.Laws as P′
 use Rattle.firmware.proofs.is_settled as settled
 use Rattle.firmware.proofs.is_settled.Symbol as settled-def
 use Rattle.firmware.proofs.is_settled.Symbol.{name as #firmware·is-settled}
@@ -94,10 +93,10 @@ use Rattle.firmware.proofs.settle as settle
 use Rattle.firmware.proofs.settle.Symbol as settle-def
 use Rattle.firmware.proofs.settle.Symbol.{name as #firmware·settle}
 use Rattle.firmware.proofs.settle.Met as settle-thm
-use Rattle.firmware.proofs.act_in_place as act
-use Rattle.firmware.proofs.act_in_place.Symbol as act-def
-use Rattle.firmware.proofs.act_in_place.Symbol.{name as #firmware·act-in-place}
-use Rattle.firmware.proofs.act_in_place.Met as act-thm
+use Rattle.storing.proofs.act_in_place as act
+use Rattle.storing.proofs.act_in_place.Symbol as act-def
+use Rattle.storing.proofs.act_in_place.Symbol.{name as #storing·act-in-place}
+use Rattle.storing.proofs.act_in_place.Met as act-thm
 use Rattle.firmware.proofs.meet_in_place.Key.{name as #firmware·meet-in-place}
 use Rattle.firmware.proofs.meet_in_place as f
 use Rattle.firmware.proofs.meet_in_place.Statement as stated
@@ -113,13 +112,6 @@ places = Array u8 64
 abbrev valOf : List ℕ → Val
 valOf ys = R′.the-laws .1 .0 .val (inField ys)
 
--- what the call asks of its result, of the record at exit and of the buffer at exit
-abbrev Said : Outcome → List ℕ → Reply → Meter → List ℕ → Type 0
-Said o ys t m′ zs = (t ≡ replyOf o) × (m′ ≡ o .next) × (zs ≡ holding ys (onWire (o .reply)))
-
-said : (o o′ : Outcome) (ys zs : List ℕ) (t : Reply) (m′ : Meter) → o ≡ o′ → Said o′ ys t m′ zs → Said o ys t m′ zs
-said o o′ ys zs t m′ all e = rw all e
-
 -- the state that a settled event leaves, where the receiver then holds these
 abbrev after : Meter → Heard → List ℕ → Meter
 after m h held =
@@ -127,20 +119,12 @@ after m h held =
     (withExported (withCounters (withClock (m .registers) (h .clock)) (h .counters)) (h .exported))
 
 said-settled : (m : Meter) (event : Event) (ys zs : List ℕ) (h : Heard) (t : Reply)
-    → h ≡ settles m (length ys) event → h .settled ≡ true → zs ≡ heldAfter (h .holding) (inField (m .receiver .held)) → t ≡ settledReply h → Said (met m (length ys) event) ys t (after m h zs) ys
+    → h ≡ settles m (length ys) event → h .settled ≡ true → zs ≡ heldAfter (h .holding) (inField (m .receiver .held)) → t ≡ settledReply h → Answered (met m (length ys) event) ys t (after m h zs) ys
 unfolding holding
 said-settled m event ys zs h t e es ez et =
     let whole = settled-is m (length ys) event (ap (λ (x : Heard). x .settled) (sym e) ∙ es) in
     let kept = ez ∙ ap (heldAfter (h .holding)) (map-id (m .receiver .held)) in
     rw (whole, ← e, kept) (et, refl, refl)
-
-is-true : (c : Bool) → T c → c ≡ true
-is-true true _ = refl
-is-true false z = absurd z
-
-is-false : (c : Bool) → T (not c) → c ≡ false
-is-false true z = absurd z
-is-false false _ = refl
 
 module _ {M : Type 1} (𝓤 : URA M) (H : Heap 𝓤) (A : Atoms 𝓤) (at-mem : Memory → SProp 𝓤) (run : Routine → Fun 𝓤) where
   -- the contracts that the proof cites
@@ -270,14 +254,14 @@ module _ {M : Type 1} (𝓤 : URA M) (H : Heap 𝓤) (A : Atoms 𝓤) (W : Given
       let m = LL.owed S.the-type S′.the-laws h (LL.vals S.the-type S′.the-laws h) was in
       LL.owed R.the-type R′.the-laws (h .receiver) (LL.vals R.the-type R′.the-laws (h .receiver)) (m .1 .1 .1 .0) .1 .0
 
-  exits : (t : Reply) (v : Val) (s : Meter) (zs : List ℕ) → Said (met h (length ys) event) ys t s zs → length zs ≡ length ys
+  exits : (t : Reply) (v : Val) (s : Meter) (zs : List ℕ) → Answered (met h (length ys) event) ys t s zs → length zs ≡ length ys
       → ent 𝓤 (sep 𝓤 (sem 𝓤 H A (P.the-row .own t (v ∷ []))) (sep 𝓤 (A .lft κ q) (sep 𝓤 (A .res γ (S.the-row .coded .code s)) (sep 𝓤 (sep 𝓤 (A .lft κ₁ q₁) (sem 𝓤 H A ftrue)) (sem 𝓤 H A (finally u8 γ₁ zs)))))) (Post v)
   exits t v s zs e l =
       qed W (‵ (P.the-row .own t (v ∷ [])) ∷ ‵ (flft κ q) ∷ ‵ (fres γ (S.the-row .coded .code s)) ∷ (‵ (flft κ₁ q₁) ⊛ ‵ ftrue) ∷ ‵ (finally u8 γ₁ zs) ∷ []) ∵
       suffices ! _ (ends-at 𝓤 H A f.ended stayed (f.clauses 𝓤 H A at-mem run) W (((κ, (κ₁, tt)), (q, (q₁, tt)), tt, x, at), tt) v t (s, (tt, (tt, (zs, tt)))) (tt, (tt, (tt, (l, tt))))) $ says ! e $ move ! (1 ∷ 3 ∷ []) $ join ! $ frame ! $
       nothing ! $ move ! (3 ∷ 0 ∷ []) $ fjoin ! $ owned ! u32 (Is u32) (uint-makes 𝓤 H A W w32) n₁ _ (refl, fits₁) $ fjoin ! $ owned ! u8 (Is u8) (uint-makes 𝓤 H A W w8) n _ (refl, fits) $ fjoin ! $ move ! (2 ∷ 0 ∷ []) $ fjoin ! $ done !
 
-  module _ (C : Calls 𝓤 H) (Λ : Loops 𝓤 H) (fm : FmC 𝓤 H (W .laws) C) (known-look : Triple 𝓤 (C #settling·look) (Look 𝓤 H A at-mem run)) (known-settled : Triple 𝓤 (C #firmware·is-settled) (Settled 𝓤 H A at-mem run)) (known-settle : Triple 𝓤 (C #firmware·settle) (Settle 𝓤 H A at-mem run)) (known-act : Triple 𝓤 (C #firmware·act-in-place) (Act 𝓤 H A at-mem run)) where
+  module _ (C : Calls 𝓤 H) (Λ : Loops 𝓤 H) (fm : FmC 𝓤 H (W .laws) C) (known-look : Triple 𝓤 (C #settling·look) (Look 𝓤 H A at-mem run)) (known-settled : Triple 𝓤 (C #firmware·is-settled) (Settled 𝓤 H A at-mem run)) (known-settle : Triple 𝓤 (C #firmware·settle) (Settle 𝓤 H A at-mem run)) (known-act : Triple 𝓤 (C #storing·act-in-place) (Act 𝓤 H A at-mem run)) where
     walk : Room u8 (length ys) → ent 𝓤 (onEntry 𝓤 H A f.signature (κ, (κ₁, tt)) (q, (q₁, tt)) x at) (WpFn 𝓤 H C Λ code.function (vptr b o ∷ vint w8 n ∷ vint w32 n₁ ∷ s₁ ∷ []) Post)
     walk room =
         qed W ((‵ (flft κ q) ⊛ (‵ (flft κ₁ q₁) ⊛ ‵ ftrue)) ∷ ‵ (owns (MutRef (named 0) κ S.the-row ∷ u8 ∷ u32 ∷ MutSlice (named 1) κ₁ u8 ∷ []) x at) ∷ []) ∵ split ! $ move ! (2 ∷ []) $ fsplit ! $ fsplit3 ! $ drop ! $
@@ -356,17 +340,17 @@ module _ {M : Type 1} (𝓤 : URA M) (H : Heap 𝓤) (A : Atoms 𝓤) (W : Given
         -- [what it asks; _13 1; _12 3; _11 5; _10 7; _9 9; _8 11; _7 13; _6 15; _5 17; _4 19; _3 21; _2 23; _1 25; room for _0 27; true]
         calls-at ! fm (Act 𝓤 H A at-mem run) known-act to-act (and-then ! (load ! (from ! (stop !)) (look ! 5 refl)) (and-then ! (load ! (from ! (stop !)) (look ! 23 refl)) (and-then ! (load ! (from ! (stop !)) (look ! 21 refl)) (and-then ! (load ! (from ! (stop !)) (look ! 1 refl)) (no-more !))))) (λ w₁.
         use1 W (later (some (λ (t : Reply). ((‵ (flft κ q) ⊛ (‵ (flft κ₁ q₁) ⊛ ‵ ftrue)) ⊛ ‵ (P.the-row .own t (w₁ ∷ []))) ⊛ raw (ensured 𝓤 H A act.ended (act.clauses 𝓤 H A at-mem run) (κ, (κ₁, tt)) x tt t)))) (id⊢ 𝓤 _) $ await ! tt $ pick ! (λ t.
-        split ! $ move ! (1 ∷ []) $ use1 W (some (λ (zs : Meter × (Unit {0} × (Unit {0} × (List ℕ × Unit {0})))). ‵ (lasts act.ended (κ, (κ₁, tt)) x zs) ⊛ raw (fact 𝓤 (Said (all-done h (deedOf h event)) ys t (zs .0) (zs .1 .1 .1 .0))))) (id⊢ 𝓤 _) $ pick ! (λ zs.
-        split ! $ move ! (1 ∷ []) $ heard ! (Said (all-done h (deedOf h event)) ys t (zs .0) (zs .1 .1 .1 .0)) (λ ea. fsplit ! $ move ! (1 ∷ []) $ fsplit ! $ move ! (1 ∷ []) $ fsplit ! $ move ! (1 ∷ []) $ fsplit ! $ fsplit ! $ move ! (1 ∷ []) $ feqL ! (λ l.
+        split ! $ move ! (1 ∷ []) $ use1 W (some (λ (zs : Meter × (Unit {0} × (Unit {0} × (List ℕ × Unit {0})))). ‵ (lasts act.ended (κ, (κ₁, tt)) x zs) ⊛ raw (fact 𝓤 (Answered (all-done h (deedOf h event)) ys t (zs .0) (zs .1 .1 .1 .0))))) (id⊢ 𝓤 _) $ pick ! (λ zs.
+        split ! $ move ! (1 ∷ []) $ heard ! (Answered (all-done h (deedOf h event)) ys t (zs .0) (zs .1 .1 .1 .0)) (λ ea. fsplit ! $ move ! (1 ∷ []) $ fsplit ! $ move ! (1 ∷ []) $ fsplit ! $ move ! (1 ∷ []) $ fsplit ! $ fsplit ! $ move ! (1 ∷ []) $ feqL ! (λ l.
         -- [the last list; three of nothing; the record's last value 4; the tokens and what the answer owns 5; _13 6; …]
         move ! (5 ∷ []) $ split ! $ move ! (1 ∷ []) $ peeks ! P.the-row (Is P.the-row) (shows 𝓤 H A P.the-row) t (w₁ ∷ []) (λ is-t. land ! (from ! (stop !)) (init ! 33 {τ = P′.mir} {v = w₁} refl (LL.lawful P.the-type P′.the-laws 𝓤 H A W .typed t _ is-t .0)) $
         returns ! (look ! 33 refl) $ forget ! 7 refl $ forget ! 9 refl $ forget ! 11 refl $ forget ! 15 refl $ forget ! 17 refl $ forget ! 19 refl $ forget ! 23 refl $ forget ! 25 refl $ forget ! 27 refl $ forget ! 29 refl $ forget ! 31 refl $ forget ! 33 refl $
         move ! (33 ∷ 34 ∷ []) $ free1 ! $ move ! (31 ∷ 32 ∷ []) $ free1 ! $ move ! (29 ∷ 30 ∷ []) $ free1 ! $ move ! (27 ∷ 28 ∷ []) $ free1 ! $ move ! (25 ∷ 26 ∷ []) $ free1 ! $ move ! (23 ∷ 24 ∷ []) $ free1 ! $ move ! (21 ∷ 22 ∷ []) $ free1 ! $ move ! (19 ∷ 20 ∷ []) $ free1 ! $ move ! (17 ∷ 18 ∷ []) $ free1 ! $ move ! (15 ∷ 16 ∷ []) $ free1 ! $ move ! (13 ∷ 14 ∷ []) $ free1 ! $ move ! (11 ∷ 12 ∷ []) $ free1 ! $ move ! (9 ∷ 10 ∷ []) $ free1 ! $ move ! (7 ∷ 8 ∷ []) $ free1 ! $ free0 ! $
         -- [what the answer owns; the tokens; the last list; three of nothing; the record's last value 6; true]
-        move ! (1 ∷ []) $ split ! $ keep ! (2 ∷ 0 ∷ 7 ∷ 1 ∷ 3 ∷ []) $ by ! (exits t w₁ (zs .0) (zs .1 .1 .1 .0) (said _ _ ys (zs .1 .1 .1 .0) t (zs .0) (left .all ∙ left-done h (length ys) event unsettled) ea) l))))))))))))))))))))))))))))))))))
+        move ! (1 ∷ []) $ split ! $ keep ! (2 ∷ 0 ∷ 7 ∷ 1 ∷ 3 ∷ []) $ by ! (exits t w₁ (zs .0) (zs .1 .1 .1 .0) (answered-as _ _ ys (zs .1 .1 .1 .0) t (zs .0) (left .all ∙ left-done h (length ys) event unsettled) ea) l))))))))))))))))))))))))))))))))))
 
 module _ {M : Type 1} (𝓤 : URA M) (H : Heap 𝓤) (A : Atoms 𝓤) (W : Given 𝓤 H A) (at-mem : Memory → SProp 𝓤) (run : Routine → Fun 𝓤) where
-  walks : (C : Calls 𝓤 H) (Λ : Loops 𝓤 H) → FmC 𝓤 H (W .laws) C → Triple 𝓤 (C #settling·look) (Look 𝓤 H A at-mem run) → Triple 𝓤 (C #firmware·is-settled) (Settled 𝓤 H A at-mem run) → Triple 𝓤 (C #firmware·settle) (Settle 𝓤 H A at-mem run) → Triple 𝓤 (C #firmware·act-in-place) (Act 𝓤 H A at-mem run)
+  walks : (C : Calls 𝓤 H) (Λ : Loops 𝓤 H) → FmC 𝓤 H (W .laws) C → Triple 𝓤 (C #settling·look) (Look 𝓤 H A at-mem run) → Triple 𝓤 (C #firmware·is-settled) (Settled 𝓤 H A at-mem run) → Triple 𝓤 (C #firmware·settle) (Settle 𝓤 H A at-mem run) → Triple 𝓤 (C #storing·act-in-place) (Act 𝓤 H A at-mem run)
       → Walks 𝓤 H A f.ended stayed (WpFn 𝓤 H C Λ code.function) (f.clauses 𝓤 H A at-mem run)
   walks C Λ fm known-look known-settled known-settle known-act = walked 𝓤 H A f.ended stayed (f.clauses 𝓤 H A at-mem run) (WpFn 𝓤 H C Λ code.function)
       (λ κs. (ptr-vals, (uint-vals w8, (uint-vals w32, (slice-vals, tt))))) (λ κs. (mut-tells (named 0) (κs .0) S.the-row, (uint-tells w8, (uint-tells w32, (mut-slice-tells (named 1) (κs .1 .0) u8, tt)))))
@@ -377,7 +361,7 @@ module _ {M : Type 1} (𝓤 : URA M) (H : Heap 𝓤) (A : Atoms 𝓤) (W : Given
   goes = (goes-gave-ref 𝓤 H A W 2 0 tt (plain (λ _. S.the-row)), (goes-none 𝓤 H A W 2 (λ _. u8) yes (λ κs x f. refl), (goes-none 𝓤 H A W 2 (λ _. u32) yes (λ κs x f. refl), (goes-gave-slice 𝓤 H A W 2 1 tt (plain (λ _. u8)), tt))))
 
 meets : {M : Type 1} (𝓤 : URA M) (H : Heap 𝓤) (A : Atoms 𝓤) → Given 𝓤 H A → (at-mem : Memory → SProp 𝓤) (run : Routine → Fun 𝓤) (𝓣 : Tables 𝓤 H)
-    → Triple 𝓤 (𝓣 .C #settling·look) (Look 𝓤 H A at-mem run) → Triple 𝓤 (𝓣 .C #firmware·is-settled) (Settled 𝓤 H A at-mem run) → Triple 𝓤 (𝓣 .C #firmware·settle) (Settle 𝓤 H A at-mem run) → Triple 𝓤 (𝓣 .C #firmware·act-in-place) (Act 𝓤 H A at-mem run)
+    → Triple 𝓤 (𝓣 .C #settling·look) (Look 𝓤 H A at-mem run) → Triple 𝓤 (𝓣 .C #firmware·is-settled) (Settled 𝓤 H A at-mem run) → Triple 𝓤 (𝓣 .C #firmware·settle) (Settle 𝓤 H A at-mem run) → Triple 𝓤 (𝓣 .C #storing·act-in-place) (Act 𝓤 H A at-mem run)
     → Meets 𝓤 H A f.signature (WpFn 𝓤 H (𝓣 .C) (𝓣 .Λ) code.function) (f.spec 𝓤 H A at-mem run)
 meets 𝓤 H A W at-mem run 𝓣 known-look known-settled known-settle known-act = walk-meets 𝓤 H A f.ended stayed W (goes 𝓤 H A W at-mem run) (f.clauses 𝓤 H A at-mem run) (WpFn 𝓤 H (𝓣 .C) (𝓣 .Λ) code.function) (WpFn-mono 𝓤 H (W .laws) 𝓣 code.function)
     (walks 𝓤 H A W at-mem run (𝓣 .C) (𝓣 .Λ) (fmOf 𝓤 H (W .laws) 𝓣) known-look known-settled known-settle known-act)
@@ -391,4 +375,4 @@ meet-in-place-spec 𝓤 H 𝓜 𝓖 𝓡 =
     (cited 𝓤 H (Look 𝓤 H (𝓖 .A) (𝓜 .mem) (𝓡 .run)) 𝓜 𝓡 code.env #settling·look look-def.routine code.calls-settling·look (look-thm.met 𝓤 H 𝓜 𝓖 𝓡))
     (cited 𝓤 H (Settled 𝓤 H (𝓖 .A) (𝓜 .mem) (𝓡 .run)) 𝓜 𝓡 code.env #firmware·is-settled settled-def.routine code.calls-firmware·is-settled (settled-thm.met 𝓤 H 𝓜 𝓖 𝓡))
     (cited 𝓤 H (Settle 𝓤 H (𝓖 .A) (𝓜 .mem) (𝓡 .run)) 𝓜 𝓡 code.env #firmware·settle settle-def.routine code.calls-firmware·settle (settle-thm.met 𝓤 H 𝓜 𝓖 𝓡))
-    (cited 𝓤 H (Act 𝓤 H (𝓖 .A) (𝓜 .mem) (𝓡 .run)) 𝓜 𝓡 code.env #firmware·act-in-place act-def.routine code.calls-firmware·act-in-place (act-thm.met 𝓤 H 𝓜 𝓖 𝓡)))
+    (cited 𝓤 H (Act 𝓤 H (𝓖 .A) (𝓜 .mem) (𝓡 .run)) 𝓜 𝓡 code.env #storing·act-in-place act-def.routine code.calls-storing·act-in-place (act-thm.met 𝓤 H 𝓜 𝓖 𝓡)))

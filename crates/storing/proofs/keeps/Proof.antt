@@ -1,9 +1,9 @@
--- `firmware::keeps` meets its contract: what its callee says, turned round. Assumes nothing.
+-- `storing::keeps` meets its contract: what its callee says, turned round. Assumes nothing.
 use mathlib.Core.Path.{ap}
 use mathlib.Core.Bool.{not}
 use borrow.Author.Needs.{needs}
-use Rattle.firmware.proofs.keeps.Statement.{statement}
-use Rattle.firmware.proofs.keeps.Tie as tie
+use Rattle.storing.proofs.keeps.Statement.{statement}
+use Rattle.storing.proofs.keeps.Tie as tie
 
 returns : tie.Need-returns
 returns c = ap not (c .closes .ensures)

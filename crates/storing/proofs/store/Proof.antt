@@ -1,4 +1,4 @@
--- `firmware::store` meets its contract: a walk of its MIR, by hand. The borrow is opened, the tables are lent as a `&mut` to `put_row`, what the deed says of the rest is stored into the record;
+-- `storing::store` meets its contract: a walk of its MIR, by hand. The borrow is opened, the tables are lent as a `&mut` to `put_row`, what the deed says of the rest is stored into the record;
 -- where a period is closed, the archive is handed to `close` and stored anew; the borrow is closed at the record that follows. Assumes nothing.
 use mathlib.Core.Path.{_≡_, refl, sym, _∙_, ap, subst}
 use mathlib.Core.Bool.{Bool, true, false, not, cond}
@@ -73,27 +73,27 @@ use Rattle.meter.proofs.Acted.Laws as N′
 use Rattle.lent.proofs.Behind.{behind}
 use Rattle.lent.proofs.Forks.{forks}
 use Rattle.lent.proofs.Known.{inField}
-use Rattle.firmware.proofs.Lending.{lends-run, run-back}
-use Rattle.firmware.specs.declared.Reply.{Reply}
-use Rattle.firmware.specs.Replies.{replyTo}
-use Rattle.firmware.proofs.Reply as P
-use Rattle.firmware.proofs.Reply.Laws as P′
-use Rattle.firmware.proofs.put_row as put
-use Rattle.firmware.proofs.put_row.Symbol as put-def
-use Rattle.firmware.proofs.put_row.Symbol.{name as #firmware·put-row}
-use Rattle.firmware.proofs.put_row.Met as put-thm
-use Rattle.firmware.proofs.keeps as keeps
-use Rattle.firmware.proofs.keeps.Symbol as keeps-def
-use Rattle.firmware.proofs.keeps.Symbol.{name as #firmware·keeps}
-use Rattle.firmware.proofs.keeps.Met as keeps-thm
-use Rattle.firmware.proofs.close as shut
-use Rattle.firmware.proofs.close.Symbol as shut-def
-use Rattle.firmware.proofs.close.Symbol.{name as #firmware·close}
-use Rattle.firmware.proofs.close.Met as shut-thm
-use Rattle.firmware.proofs.store.Key.{name as #firmware·store}
-use Rattle.firmware.proofs.store as f
-use Rattle.firmware.proofs.store.Statement as stated
-use Rattle.firmware.proofs.store.Code as code
+use Rattle.storing.proofs.Lending.{lends-run, run-back}
+use Rattle.storing.specs.declared.Reply.{Reply}
+use Rattle.storing.specs.Replies.{replyTo}
+use Rattle.storing.proofs.Reply as P
+use Rattle.storing.proofs.Reply.Laws as P′
+use Rattle.storing.proofs.put_row as put
+use Rattle.storing.proofs.put_row.Symbol as put-def
+use Rattle.storing.proofs.put_row.Symbol.{name as #storing·put-row}
+use Rattle.storing.proofs.put_row.Met as put-thm
+use Rattle.storing.proofs.keeps as keeps
+use Rattle.storing.proofs.keeps.Symbol as keeps-def
+use Rattle.storing.proofs.keeps.Symbol.{name as #storing·keeps}
+use Rattle.storing.proofs.keeps.Met as keeps-thm
+use Rattle.storing.proofs.close as shut
+use Rattle.storing.proofs.close.Symbol as shut-def
+use Rattle.storing.proofs.close.Symbol.{name as #storing·close}
+use Rattle.storing.proofs.close.Met as shut-thm
+use Rattle.storing.proofs.store.Key.{name as #storing·store}
+use Rattle.storing.proofs.store as f
+use Rattle.storing.proofs.store.Statement as stated
+use Rattle.storing.proofs.store.Code as code
 
 abbrev stayed : Stays (f.ended .signature .params) (f.ended .kept)
 stayed = (stay-ref (0 ∷ []) tt (plain (λ _. S.the-row)), (stay-none (λ _. N.the-row) yes, tt))
@@ -283,7 +283,7 @@ module _ {M : Type 1} (𝓤 : URA M) (H : Heap 𝓤) (A : Atoms 𝓤) (W : Given
       suffices ! _ (ends-at 𝓤 H A f.ended stayed (f.clauses 𝓤 H A at-mem run) W (((κ, tt), (q, tt), tt, x, at), tt) v t (m, (tt, tt)) (tt, (tt, tt))) $ says ! e $ nothing ! $ move ! (4 ∷ 0 ∷ []) $ join ! $ frame ! $
       nothing ! $ owned ! N.the-row (Is N.the-row) (LL.makes N.the-type N′.the-plain 𝓤 H A) a lain is-a $ fjoin ! $ move ! (2 ∷ 3 ∷ []) $ feqI ! (List Val) (vptr b o ∷ []) (vptr b o ∷ []) refl $ fjoin3 ! $ fjoin ! $ done !
 
-  module _ (C : Calls 𝓤 H) (Λ : Loops 𝓤 H) (fm : FmC 𝓤 H (W .laws) C) (known-put : Triple 𝓤 (C #firmware·put-row) (Put 𝓤 H A at-mem run)) (known-keeps : Triple 𝓤 (C #firmware·keeps) (Keeps 𝓤 H A at-mem run)) (known-shut : Triple 𝓤 (C #firmware·close) (Shut 𝓤 H A at-mem run)) where
+  module _ (C : Calls 𝓤 H) (Λ : Loops 𝓤 H) (fm : FmC 𝓤 H (W .laws) C) (known-put : Triple 𝓤 (C #storing·put-row) (Put 𝓤 H A at-mem run)) (known-keeps : Triple 𝓤 (C #storing·keeps) (Keeps 𝓤 H A at-mem run)) (known-shut : Triple 𝓤 (C #storing·close) (Shut 𝓤 H A at-mem run)) where
     walk : ent 𝓤 (onEntry 𝓤 H A f.signature (κ, tt) (q, tt) x at) (WpFn 𝓤 H C Λ code.function (vptr b o ∷ only lain ∷ []) Post)
     walk =
         let told = LL.owed N.the-type N′.the-laws a lain is-a .1 .1 .1 .1 in
@@ -356,14 +356,14 @@ module _ {M : Type 1} (𝓤 : URA M) (H : Heap 𝓤) (A : Atoms 𝓤) (W : Given
         keep ! (3 ∷ 0 ∷ 1 ∷ 2 ∷ []) $ by ! (exits t u (after h a (zs .0) r) (eh .0, shuts-one h a (zs .0) r (eh .1) (is-one (closesAfter (a .writes)) z ez off) er))))))))))))))))))))))))))))))))
 
 module _ {M : Type 1} (𝓤 : URA M) (H : Heap 𝓤) (A : Atoms 𝓤) (W : Given 𝓤 H A) (at-mem : Memory → SProp 𝓤) (run : Routine → Fun 𝓤) where
-  walks : (C : Calls 𝓤 H) (Λ : Loops 𝓤 H) → FmC 𝓤 H (W .laws) C → Triple 𝓤 (C #firmware·put-row) (Put 𝓤 H A at-mem run) → Triple 𝓤 (C #firmware·keeps) (Keeps 𝓤 H A at-mem run) → Triple 𝓤 (C #firmware·close) (Shut 𝓤 H A at-mem run) → Walks 𝓤 H A f.ended stayed (WpFn 𝓤 H C Λ code.function) (f.clauses 𝓤 H A at-mem run)
+  walks : (C : Calls 𝓤 H) (Λ : Loops 𝓤 H) → FmC 𝓤 H (W .laws) C → Triple 𝓤 (C #storing·put-row) (Put 𝓤 H A at-mem run) → Triple 𝓤 (C #storing·keeps) (Keeps 𝓤 H A at-mem run) → Triple 𝓤 (C #storing·close) (Shut 𝓤 H A at-mem run) → Walks 𝓤 H A f.ended stayed (WpFn 𝓤 H C Λ code.function) (f.clauses 𝓤 H A at-mem run)
   walks C Λ fm known-put known-keeps known-shut = walked 𝓤 H A f.ended stayed (f.clauses 𝓤 H A at-mem run) (WpFn 𝓤 H C Λ code.function) (λ κs. (ptr-vals, (LL.vals N.the-type N′.the-laws, tt))) (λ κs. (mut-tells (named 0) (κs .0) S.the-row, (LL.tells N.the-type N′.the-laws, tt)))
       (λ κs qs bounds a g are. needs 𝓤 _ _ (λ good. walk 𝓤 H A W at-mem run (κs .0) (qs .0) (a .0 .ptr .0) (a .0 .ptr .1) (a .0 .name) (a .0 .now) (a .1 .0) (are .1 .0) good C Λ fm known-put known-keeps known-shut))
 
   goes : AllGo 𝓤 H A W 1 (f.signature .params) (f.ended .kept) stayed
   goes = (goes-ref 𝓤 H A W 1 0 tt (plain (λ _. S.the-row)), (goes-none 𝓤 H A W 1 (λ _. N.the-row) yes (λ κs x f. refl), tt))
 
-meets : {M : Type 1} (𝓤 : URA M) (H : Heap 𝓤) (A : Atoms 𝓤) → Given 𝓤 H A → (at-mem : Memory → SProp 𝓤) (run : Routine → Fun 𝓤) (𝓣 : Tables 𝓤 H) → Triple 𝓤 (𝓣 .C #firmware·put-row) (Put 𝓤 H A at-mem run) → Triple 𝓤 (𝓣 .C #firmware·keeps) (Keeps 𝓤 H A at-mem run) → Triple 𝓤 (𝓣 .C #firmware·close) (Shut 𝓤 H A at-mem run)
+meets : {M : Type 1} (𝓤 : URA M) (H : Heap 𝓤) (A : Atoms 𝓤) → Given 𝓤 H A → (at-mem : Memory → SProp 𝓤) (run : Routine → Fun 𝓤) (𝓣 : Tables 𝓤 H) → Triple 𝓤 (𝓣 .C #storing·put-row) (Put 𝓤 H A at-mem run) → Triple 𝓤 (𝓣 .C #storing·keeps) (Keeps 𝓤 H A at-mem run) → Triple 𝓤 (𝓣 .C #storing·close) (Shut 𝓤 H A at-mem run)
     → Meets 𝓤 H A f.signature (WpFn 𝓤 H (𝓣 .C) (𝓣 .Λ) code.function) (f.spec 𝓤 H A at-mem run)
 meets 𝓤 H A W at-mem run 𝓣 known-put known-keeps known-shut = walk-meets 𝓤 H A f.ended stayed W (goes 𝓤 H A W at-mem run) (f.clauses 𝓤 H A at-mem run) (WpFn 𝓤 H (𝓣 .C) (𝓣 .Λ) code.function) (WpFn-mono 𝓤 H (W .laws) 𝓣 code.function)
     (walks 𝓤 H A W at-mem run (𝓣 .C) (𝓣 .Λ) (fmOf 𝓤 H (W .laws) 𝓣) known-put known-keeps known-shut)
@@ -372,8 +372,8 @@ pub store-spec : {M : Type 1} → stated.statement M
 unfolding code.routine tablesOf
 store-spec 𝓤 H 𝓜 𝓖 𝓡 =
     entered 𝓤 H (tripleOf 𝓤 H (𝓖 .A) f.signature (f.spec 𝓤 H (𝓖 .A) (𝓜 .mem) (𝓡 .run)))
-    (tables 𝓤 H 𝓜 𝓡 code.env .C) (tables 𝓤 H 𝓜 𝓡 code.env .Λ) #firmware·store code.function (code.unfolded 𝓤 H 𝓜 𝓡)
+    (tables 𝓤 H 𝓜 𝓡 code.env .C) (tables 𝓤 H 𝓜 𝓡 code.env .Λ) #storing·store code.function (code.unfolded 𝓤 H 𝓜 𝓡)
     (meets 𝓤 H (𝓖 .A) (givenOf 𝓤 H 𝓜 𝓖) (𝓜 .mem) (𝓡 .run) (tablesOf 𝓤 H 𝓜 (tables 𝓤 H 𝓜 𝓡 code.env))
-    (cited 𝓤 H (Put 𝓤 H (𝓖 .A) (𝓜 .mem) (𝓡 .run)) 𝓜 𝓡 code.env #firmware·put-row put-def.routine code.calls-firmware·put-row (put-thm.met 𝓤 H 𝓜 𝓖 𝓡))
-    (cited 𝓤 H (Keeps 𝓤 H (𝓖 .A) (𝓜 .mem) (𝓡 .run)) 𝓜 𝓡 code.env #firmware·keeps keeps-def.routine code.calls-firmware·keeps (keeps-thm.met 𝓤 H 𝓜 𝓖 𝓡))
-    (cited 𝓤 H (Shut 𝓤 H (𝓖 .A) (𝓜 .mem) (𝓡 .run)) 𝓜 𝓡 code.env #firmware·close shut-def.routine code.calls-firmware·close (shut-thm.met 𝓤 H 𝓜 𝓖 𝓡)))
+    (cited 𝓤 H (Put 𝓤 H (𝓖 .A) (𝓜 .mem) (𝓡 .run)) 𝓜 𝓡 code.env #storing·put-row put-def.routine code.calls-storing·put-row (put-thm.met 𝓤 H 𝓜 𝓖 𝓡))
+    (cited 𝓤 H (Keeps 𝓤 H (𝓖 .A) (𝓜 .mem) (𝓡 .run)) 𝓜 𝓡 code.env #storing·keeps keeps-def.routine code.calls-storing·keeps (keeps-thm.met 𝓤 H 𝓜 𝓖 𝓡))
+    (cited 𝓤 H (Shut 𝓤 H (𝓖 .A) (𝓜 .mem) (𝓡 .run)) 𝓜 𝓡 code.env #storing·close shut-def.routine code.calls-storing·close (shut-thm.met 𝓤 H 𝓜 𝓖 𝓡)))

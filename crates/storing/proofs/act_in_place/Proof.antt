@@ -1,4 +1,4 @@
--- `firmware::act_in_place` meets its contract: a walk of its MIR, by hand. The record is lent as a `&` for the time of `settling::act`, which is given the reply's slice for good; then its reference is
+-- `storing::act_in_place` meets its contract: a walk of its MIR, by hand. The record is lent as a `&` for the time of `settling::act`, which is given the reply's slice for good; then its reference is
 -- given to `store` for good. All that is known of the callees is that each meets its contract. Assumes nothing.
 use mathlib.Core.Path.{_≡_, refl, sym, _∙_, ap, subst}
 use mathlib.Core.Bool.{Bool, true}
@@ -60,27 +60,28 @@ use Rattle.settling.proofs.act as act
 use Rattle.settling.proofs.act.Symbol as act-def
 use Rattle.settling.proofs.act.Symbol.{name as #settling·act}
 use Rattle.settling.proofs.act.Met as act-thm
-use Rattle.firmware.specs.declared.Reply.{Reply}
-use Rattle.firmware.specs.Replies.{replyTo, replyOf}
-use Rattle.firmware.proofs.Reply as P
-use Rattle.firmware.proofs.Reply.Laws as P′
-use Rattle.firmware.proofs.store as store
-use Rattle.firmware.proofs.store.Symbol as store-def
-use Rattle.firmware.proofs.store.Symbol.{name as #firmware·store}
-use Rattle.firmware.proofs.store.Met as store-thm
-use Rattle.firmware.proofs.act_in_place.Key.{name as #firmware·act-in-place}
-use Rattle.firmware.proofs.act_in_place as f
-use Rattle.firmware.proofs.act_in_place.Statement as stated
-use Rattle.firmware.proofs.act_in_place.Code as code
+use Rattle.storing.specs.declared.Reply.{Reply}
+use Rattle.storing.specs.Replies.{replyTo}
+use Rattle.storing.proofs.Answers.{Answered}
+use Rattle.storing.proofs.Reply as P
+use Rattle.storing.proofs.Reply.Laws as P′
+use Rattle.storing.proofs.store as store
+use Rattle.storing.proofs.store.Symbol as store-def
+use Rattle.storing.proofs.store.Symbol.{name as #storing·store}
+use Rattle.storing.proofs.store.Met as store-thm
+use Rattle.storing.proofs.act_in_place.Key.{name as #storing·act-in-place}
+use Rattle.storing.proofs.act_in_place as f
+use Rattle.storing.proofs.act_in_place.Statement as stated
+use Rattle.storing.proofs.act_in_place.Code as code
 
 abbrev stayed : Stays (f.ended .signature .params) (f.ended .kept)
 stayed = (gave-ref (0 ∷ []) tt (plain (λ _. S.the-row)), (stay-none (λ _. u8) yes, (stay-none (λ _. u32) yes, (gave-slice (1 ∷ []) tt (plain (λ _. u8)), tt))))
 
 -- what is answered, left of the record and of the buffer
-abbrev Said : Meter → Event → List ℕ → Reply → Meter → List ℕ → Type 0
-Said m e ys t m′ zs = (t ≡ replyOf (all-done m (deedOf m e))) × (m′ ≡ all-done m (deedOf m e) .next) × (zs ≡ holding ys (onWire (all-done m (deedOf m e) .reply)))
+abbrev Done : Meter → Event → List ℕ → Reply → Meter → List ℕ → Type 0
+Done m e ys t m′ zs = Answered (all-done m (deedOf m e)) ys t m′ zs
 
-said : (m : Meter) (e : Event) (ys zs : List ℕ) (r : Acted) (t : Reply) (m′ : Meter) → r ≡ actedBy m e → zs ≡ holding ys (onWire (saidBy (m .registers) (deedOf m e))) → t ≡ replyTo r → m′ ≡ storedIn m r → Said m e ys t m′ zs
+said : (m : Meter) (e : Event) (ys zs : List ℕ) (r : Acted) (t : Reply) (m′ : Meter) → r ≡ actedBy m e → zs ≡ holding ys (onWire (saidBy (m .registers) (deedOf m e))) → t ≡ replyTo r → m′ ≡ storedIn m r → Done m e ys t m′ zs
 said m e ys zs r t m′ er ez et em = (et ∙ ap replyTo er, em ∙ ap (storedIn m) er, ez)
 
 writable : (m : Meter) (e : Event) (r : Acted) → r ≡ actedBy m e → Writable (r .writes)
@@ -142,14 +143,14 @@ module _ {M : Type 1} (𝓤 : URA M) (H : Heap 𝓤) (A : Atoms 𝓤) (W : Given
       qed W (‵ (fobs γ (S.the-row .coded .code h)) ∷ ‵ (fbor κ (Body (mem S.the-row) b o γ)) ∷ ‵ (flft κ q) ∷ []) ∵ says ! (good .0, writable h event r er) $ nothing ! $ owned ! N.the-row (Is N.the-row) (LL.makes N.the-type N′.the-plain 𝓤 H A) r _ is $ fjoin ! $
       move ! (1 ∷ 2 ∷ []) $ feqI ! (List Val) (vptr b o ∷ []) (vptr b o ∷ []) refl $ fjoin3 ! $ fjoin ! $ nothing ! $ move ! (2 ∷ 0 ∷ []) $ join ! $ join ! $ done !
 
-  exits : (t : Reply) (v : Val) (s : Meter) (zs : List ℕ) → Said h event ys t s zs → length zs ≡ length ys
+  exits : (t : Reply) (v : Val) (s : Meter) (zs : List ℕ) → Done h event ys t s zs → length zs ≡ length ys
       → ent 𝓤 (sep 𝓤 (sem 𝓤 H A (P.the-row .own t (v ∷ []))) (sep 𝓤 (sep 𝓤 (A .lft κ q) (sem 𝓤 H A ftrue)) (sep 𝓤 (A .res γ (S.the-row .coded .code s)) (sep 𝓤 (sep 𝓤 (A .lft κ₁ q₁) (sem 𝓤 H A ftrue)) (sem 𝓤 H A (finally u8 γ₁ zs)))))) (Post v)
   exits t v s zs e l =
       qed W (‵ (P.the-row .own t (v ∷ [])) ∷ (‵ (flft κ q) ⊛ ‵ ftrue) ∷ ‵ (fres γ (S.the-row .coded .code s)) ∷ (‵ (flft κ₁ q₁) ⊛ ‵ ftrue) ∷ ‵ (finally u8 γ₁ zs) ∷ []) ∵
       suffices ! _ (ends-at 𝓤 H A f.ended stayed (f.clauses 𝓤 H A at-mem run) W (((κ, (κ₁, tt)), (q, (q₁, tt)), tt, x, at), tt) v t (s, (tt, (tt, (zs, tt)))) (tt, (tt, (tt, (l, tt))))) $ says ! e $
       move ! (1 ∷ []) $ split ! $ move ! (0 ∷ 4 ∷ []) $ join ! $ frame ! $ move ! (3 ∷ 0 ∷ []) $ fjoin ! $ owned ! u32 (Is u32) (uint-makes 𝓤 H A W w32) n₁ _ (refl, fits₁) $ fjoin ! $ owned ! u8 (Is u8) (uint-makes 𝓤 H A W w8) n _ (refl, fits) $ fjoin ! $ move ! (2 ∷ 0 ∷ []) $ fjoin ! $ done !
 
-  module _ (C : Calls 𝓤 H) (Λ : Loops 𝓤 H) (fm : FmC 𝓤 H (W .laws) C) (known-act : Triple 𝓤 (C #settling·act) (Act 𝓤 H A at-mem run)) (known-store : Triple 𝓤 (C #firmware·store) (Store 𝓤 H A at-mem run)) where
+  module _ (C : Calls 𝓤 H) (Λ : Loops 𝓤 H) (fm : FmC 𝓤 H (W .laws) C) (known-act : Triple 𝓤 (C #settling·act) (Act 𝓤 H A at-mem run)) (known-store : Triple 𝓤 (C #storing·store) (Store 𝓤 H A at-mem run)) where
     walk : Room u8 (length ys) → ent 𝓤 (onEntry 𝓤 H A f.signature (κ, (κ₁, tt)) (q, (q₁, tt)) x at) (WpFn 𝓤 H C Λ code.function (vptr b o ∷ vint w8 n ∷ vint w32 n₁ ∷ s₁ ∷ []) Post)
     walk room =
         qed W ((‵ (flft κ q) ⊛ (‵ (flft κ₁ q₁) ⊛ ‵ ftrue)) ∷ ‵ (owns (MutRef (named 0) κ S.the-row ∷ u8 ∷ u32 ∷ MutSlice (named 1) κ₁ u8 ∷ []) x at) ∷ []) ∵ split ! $ move ! (1 ∷ []) $ split ! $ move ! (3 ∷ []) $ fsplit ! $ fsplit3 ! $ drop ! $
@@ -194,7 +195,7 @@ module _ {M : Type 1} (𝓤 : URA M) (H : Heap 𝓤) (A : Atoms 𝓤) (W : Given
         keep ! (0 ∷ 1 ∷ 2 ∷ 3 ∷ 4 ∷ []) $ by ! (exits t v (ws .0) (zs .1 .1 .1 .0) (said h event ys (zs .1 .1 .1 .0) r t (ws .0) (er .0) (er .1) (et .0) (et .1)) l))))))))))))))))))))))))
 
 module _ {M : Type 1} (𝓤 : URA M) (H : Heap 𝓤) (A : Atoms 𝓤) (W : Given 𝓤 H A) (at-mem : Memory → SProp 𝓤) (run : Routine → Fun 𝓤) where
-  walks : (C : Calls 𝓤 H) (Λ : Loops 𝓤 H) → FmC 𝓤 H (W .laws) C → Triple 𝓤 (C #settling·act) (Act 𝓤 H A at-mem run) → Triple 𝓤 (C #firmware·store) (Store 𝓤 H A at-mem run) → Walks 𝓤 H A f.ended stayed (WpFn 𝓤 H C Λ code.function) (f.clauses 𝓤 H A at-mem run)
+  walks : (C : Calls 𝓤 H) (Λ : Loops 𝓤 H) → FmC 𝓤 H (W .laws) C → Triple 𝓤 (C #settling·act) (Act 𝓤 H A at-mem run) → Triple 𝓤 (C #storing·store) (Store 𝓤 H A at-mem run) → Walks 𝓤 H A f.ended stayed (WpFn 𝓤 H C Λ code.function) (f.clauses 𝓤 H A at-mem run)
   walks C Λ fm known-act known-store = walked 𝓤 H A f.ended stayed (f.clauses 𝓤 H A at-mem run) (WpFn 𝓤 H C Λ code.function)
       (λ κs. (ptr-vals, (uint-vals w8, (uint-vals w32, (slice-vals, tt))))) (λ κs. (mut-tells (named 0) (κs .0) S.the-row, (uint-tells w8, (uint-tells w32, (mut-slice-tells (named 1) (κs .1 .0) u8, tt)))))
       (λ κs qs bounds a g are. needs 𝓤 _ _ (λ good. walk 𝓤 H A W at-mem run (κs .0) (κs .1 .0) (qs .0) (qs .1 .0) (a .0 .ptr .0) (a .0 .ptr .1) (a .0 .name) (a .0 .now) (a .1 .0) (a .1 .1 .0) (a .1 .1 .1 .0 .ptr .0) (a .1 .1 .1 .0 .ptr .1) (a .1 .1 .1 .0 .name) (a .1 .1 .1 .0 .now) (are .1 .0 .1) (are .1 .1 .0 .1) good
@@ -203,7 +204,7 @@ module _ {M : Type 1} (𝓤 : URA M) (H : Heap 𝓤) (A : Atoms 𝓤) (W : Given
   goes : AllGo 𝓤 H A W 2 (f.signature .params) (f.ended .kept) stayed
   goes = (goes-gave-ref 𝓤 H A W 2 0 tt (plain (λ _. S.the-row)), (goes-none 𝓤 H A W 2 (λ _. u8) yes (λ κs x f. refl), (goes-none 𝓤 H A W 2 (λ _. u32) yes (λ κs x f. refl), (goes-gave-slice 𝓤 H A W 2 1 tt (plain (λ _. u8)), tt))))
 
-meets : {M : Type 1} (𝓤 : URA M) (H : Heap 𝓤) (A : Atoms 𝓤) → Given 𝓤 H A → (at-mem : Memory → SProp 𝓤) (run : Routine → Fun 𝓤) (𝓣 : Tables 𝓤 H) → Triple 𝓤 (𝓣 .C #settling·act) (Act 𝓤 H A at-mem run) → Triple 𝓤 (𝓣 .C #firmware·store) (Store 𝓤 H A at-mem run)
+meets : {M : Type 1} (𝓤 : URA M) (H : Heap 𝓤) (A : Atoms 𝓤) → Given 𝓤 H A → (at-mem : Memory → SProp 𝓤) (run : Routine → Fun 𝓤) (𝓣 : Tables 𝓤 H) → Triple 𝓤 (𝓣 .C #settling·act) (Act 𝓤 H A at-mem run) → Triple 𝓤 (𝓣 .C #storing·store) (Store 𝓤 H A at-mem run)
     → Meets 𝓤 H A f.signature (WpFn 𝓤 H (𝓣 .C) (𝓣 .Λ) code.function) (f.spec 𝓤 H A at-mem run)
 meets 𝓤 H A W at-mem run 𝓣 known-act known-store = walk-meets 𝓤 H A f.ended stayed W (goes 𝓤 H A W at-mem run) (f.clauses 𝓤 H A at-mem run) (WpFn 𝓤 H (𝓣 .C) (𝓣 .Λ) code.function) (WpFn-mono 𝓤 H (W .laws) 𝓣 code.function)
     (walks 𝓤 H A W at-mem run (𝓣 .C) (𝓣 .Λ) (fmOf 𝓤 H (W .laws) 𝓣) known-act known-store)
@@ -212,7 +213,7 @@ pub act-in-place-spec : {M : Type 1} → stated.statement M
 unfolding code.routine tablesOf
 act-in-place-spec 𝓤 H 𝓜 𝓖 𝓡 =
     entered 𝓤 H (tripleOf 𝓤 H (𝓖 .A) f.signature (f.spec 𝓤 H (𝓖 .A) (𝓜 .mem) (𝓡 .run)))
-    (tables 𝓤 H 𝓜 𝓡 code.env .C) (tables 𝓤 H 𝓜 𝓡 code.env .Λ) #firmware·act-in-place code.function (code.unfolded 𝓤 H 𝓜 𝓡)
+    (tables 𝓤 H 𝓜 𝓡 code.env .C) (tables 𝓤 H 𝓜 𝓡 code.env .Λ) #storing·act-in-place code.function (code.unfolded 𝓤 H 𝓜 𝓡)
     (meets 𝓤 H (𝓖 .A) (givenOf 𝓤 H 𝓜 𝓖) (𝓜 .mem) (𝓡 .run) (tablesOf 𝓤 H 𝓜 (tables 𝓤 H 𝓜 𝓡 code.env))
     (cited 𝓤 H (Act 𝓤 H (𝓖 .A) (𝓜 .mem) (𝓡 .run)) 𝓜 𝓡 code.env #settling·act act-def.routine code.calls-settling·act (act-thm.met 𝓤 H 𝓜 𝓖 𝓡))
-    (cited 𝓤 H (Store 𝓤 H (𝓖 .A) (𝓜 .mem) (𝓡 .run)) 𝓜 𝓡 code.env #firmware·store store-def.routine code.calls-firmware·store (store-thm.met 𝓤 H 𝓜 𝓖 𝓡)))
+    (cited 𝓤 H (Store 𝓤 H (𝓖 .A) (𝓜 .mem) (𝓡 .run)) 𝓜 𝓡 code.env #storing·store store-def.routine code.calls-storing·store (store-thm.met 𝓤 H 𝓜 𝓖 𝓡)))
