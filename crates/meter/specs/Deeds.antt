@@ -35,7 +35,7 @@ use Rattle.replies.specs.declared.Ask.{Ask}
 use Rattle.replies.specs.declared.Plain.{Plain}
 use Rattle.replies.specs.Answers.{askedData}
 use Rattle.replies.specs.Block.{blockData}
-use Rattle.replies.specs.Periods.{longData}
+use Rattle.replies.specs.Periods.{longStart, longData}
 use Rattle.replies.specs.Fixed.{accepted, passwordAsk}
 use Rattle.meter.specs.declared.Event.{Event}
 use Rattle.meter.specs.declared.Event.the-variants.{Character, Silence, Tick, Pulse, PowerUp, PulseOut, Unknown}
@@ -97,6 +97,10 @@ shortSaid g (Asked a) = blockOf (askedData g a)
 -- with the closed periods, where the deed says so
 abbrev pub longSaid : Registers → List ℕ
 longSaid g = blockOf (longData (tablesIn g) g)
+
+-- of that, what stands before the periods
+abbrev pub longBegun : Registers → List ℕ
+longBegun g = longStart (tablesIn g) g
 
 unfoldable pub saidBy : Registers → Deed → List ℕ
 saidBy g d = cond (d .long) (longSaid g) (shortSaid g (d .says))

@@ -1,16 +1,18 @@
 // A deed done: what it says put into the reply, what is stored of the meter, and last its tables and its archive.
 ghost use mathlib.Core.Path.{_≡_};
 ghost use mathlib.Core.Bool.{true, false, cond};
-ghost use Prim.Native.Nat.{_≤_};
-ghost use lib.ListN.{length};
-ghost use Rattle.text.specs.Writing.{holding};
-ghost use Rattle.frames.specs.Frames.{onWire};
+ghost use mathlib.Core.List.{_++_};
+ghost use Prim.Native.Nat.{_+_, _≤_};
+ghost use lib.ListN.{length, take};
+ghost use Rattle.line.specs.Quoted.{chars};
+ghost use Rattle.text.specs.Writing.{stored, holding};
+ghost use Rattle.frames.specs.Frames.{sealed, onWire};
 ghost use Rattle.state.specs.Sizes.{heldPlaces, periodPlaces, replyRoom};
 ghost use Rattle.state.specs.Making.{emptyReceiver};
 ghost use Rattle.state.specs.WellFormed.{wellFormed, archiveGood};
 ghost use Rattle.replies.specs.Plain.{registersOf, withoutArchive};
 ghost use Rattle.meter.specs.Outcomes.{answerOf};
-ghost use Rattle.meter.specs.Deeds.{RoomFor, Writable, plainOf, smallOf, shortSaid, longSaid, saidBy, accountAfter, clockAfter, tablesAfter, closesAfter, answered, actedWith, archiveAfter, storedIn, done};
+ghost use Rattle.meter.specs.Deeds.{RoomFor, Writable, plainOf, smallOf, shortSaid, longSaid, longBegun, saidBy, accountAfter, clockAfter, tablesAfter, closesAfter, answered, actedWith, archiveAfter, storedIn, done};
 use crate::Acted;
 use crate::Answer;
 use crate::Deed;
@@ -156,8 +158,8 @@ pub fn act_short(s: Small, rows: &[u8; ALL_ROWS], d: Deed, reply: &mut [u8]) -> 
     answer_with(s, length, d)
 }
 
-// A deed that says the block with them.
-pub fn act_long(s: Small, rows: &[u8; ALL_ROWS], a: Archive, d: Deed, reply: &mut [u8]) -> Acted
+// A deed that says the block with them, by value.
+fn act_long(s: Small, rows: &[u8; ALL_ROWS], a: Archive, d: Deed, reply: &mut [u8]) -> Acted
     requires { ⌜ (a .count ≤ periodPlaces) × (replyRoom ≤ length (now reply)) ⌝ }
     ensures result { λ r. ⌜ r ≡ actedWith s (longSaid (registersOf (s .plain) (now (rows .entry)) a)) d ⌝ }
     ensures held { λ _. ⌜ now (reply .exit) ≡ holding (now (reply .entry)) (onWire (longSaid (registersOf (s .plain) (now (rows .entry)) a))) ⌝ }
@@ -165,6 +167,27 @@ pub fn act_long(s: Small, rows: &[u8; ALL_ROWS], a: Archive, d: Deed, reply: &mu
     let p = s.plain;
     let f = p.facts;
     let length = replies::long_block(reply, p, rows, a, values::tables_of(f.edition));
+    answer_with(s, length, d)
+}
+
+// The start of that block, where the periods are then put in from an archive that is lent.
+pub fn start_long(s: Small, rows: &[u8; ALL_ROWS], reply: &mut [u8]) -> usize
+    requires { ⌜ replyRoom ≤ length (now reply) ⌝ }
+    ensures next { λ r. ⌜ r ≡ length (longBegun (withoutArchive (s .plain) (now (rows .entry)))) ⌝ }
+    ensures held { λ _. ⌜ now (reply .exit) ≡ stored (now (reply .entry)) 0 (longBegun (withoutArchive (s .plain) (now (rows .entry)))) ⌝ }
+{
+    let p = s.plain;
+    let f = p.facts;
+    replies::long_start(reply, p, rows, values::tables_of(f.edition))
+}
+
+// Its end behind the periods, and what is answered and stored.
+pub fn end_long(s: Small, at: usize, d: Deed, reply: &mut [u8]) -> Acted
+    requires { ⌜ (1 ≤ at) × (at + 5 ≤ length (now reply)) ⌝ }
+    ensures result { λ r. ⌜ r ≡ answered s (at + 5) d ⌝ }
+    ensures held { λ _. ⌜ now (reply .exit) ≡ holding (now (reply .entry)) (onWire (sealed (take at (now (reply .entry)) ++ chars "!\r\n"))) ⌝ }
+{
+    let length = replies::long_end(reply, at);
     answer_with(s, length, d)
 }
 

@@ -304,7 +304,7 @@ fn is_long(d: Deed) -> bool
     d.long
 }
 
-// An event that is not settled, by a record that is lent: its reply, and what is to be stored. The tables are lent on, and the archive is copied for the long block alone.
+// An event that is not settled, by a record that is lent: its reply, and what is to be stored. Tables and archive are lent on.
 pub fn act(m: &Meter, kind: u8, value: u32, reply: &mut [u8]) -> Acted
     requires { ⌜ (wellFormed (now m) ≡ true) × (refusal (familyOf (now m)) (length (now reply)) (eventOf kind value) ≡ 0) ⌝ }
     ensures { λ r. ⌜ (r ≡ actedBy (now (m .entry)) (eventOf kind value))
@@ -325,7 +325,10 @@ pub fn act(m: &Meter, kind: u8, value: u32, reply: &mut [u8]) -> Acted
     };
     let d = deed_of(s, kind, value);
     if is_long(d) {
-        return acting::act_long(s, &m.registers.tables, m.registers.archive, d, reply);
+        let family = m.registers.facts.decimals;
+        let at = acting::start_long(s, &m.registers.tables, reply);
+        let end = replies::lent_periods(reply, at, &m.registers.archive, family);
+        return acting::end_long(s, end, d, reply);
     }
     acting::act_short(s, &m.registers.tables, d, reply)
 }
