@@ -1,6 +1,7 @@
 pub mod Sizes
 pub mod Link
 pub mod Fours
+pub mod Highest
 pub mod WellFormed
 pub mod Making
 pub mod Setting

@@ -6,7 +6,7 @@ ghost use Prim.Native.Nat.{_≤_};
 ghost use lib.ListN.{length, take, drop};
 ghost use Rattle.clock.specs.Seconds.{realStamp};
 ghost use Rattle.state.specs.Sizes.{periodPlaces};
-ghost use Rattle.state.specs.WellFormed.{zonesBelow, bothBelow, noTime, unused, placeGood, everyPeriod, archiveGood};
+ghost use Rattle.state.specs.WellFormed.{bothBelow, noTime, unused, placeGood, everyPeriod, archiveGood};
 ghost use Rattle.state.specs.Closing.{oneMore, closedWith, periodOf, closing};
 ghost use Rattle.state.specs.Making.{noPeriod, emptyArchive};
 use crate::Archive;
@@ -14,6 +14,7 @@ use crate::Counters;
 use crate::PERIODS;
 use crate::Period;
 use crate::Registers;
+use crate::bounds;
 use crate::setting::with_archive;
 use clock::Clock;
 use clock::Date;
@@ -48,20 +49,14 @@ pub fn empty_archive() -> Archive
     }
 }
 
-// Whether four counters are below an end. They are named one by one, so that no copy of them is made to be counted through.
-fn four_below(zones: [u32; 4], end: u32) -> bool
-    ensures { λ r. ⌜ r ≡ zonesBelow end zones ⌝ }
-{
-    (zones[0] < end) & ((zones[1] < end) & ((zones[2] < end) & (zones[3] < end)))
-}
-
 // Whether its counters are below their ends, those of what went out below their own.
 fn both_below(p: Period, end: u32, out: u32) -> bool
+    requires { ⌜ ((1 ≤ end) × (end ≤ 1000000000)) × ((1 ≤ out) × (out ≤ 1000000000)) ⌝ }
     ensures { λ r. ⌜ r ≡ bothBelow end out p ⌝ }
 {
     let zones = p.zones;
     let exported = p.exported;
-    four_below(zones, end) & four_below(exported, out)
+    bounds::is_inside(bounds::four_beyond(zones, end) | bounds::four_beyond(exported, out))
 }
 
 fn has_no_time(s: Stamp) -> bool
@@ -83,7 +78,9 @@ fn time_good(s: Stamp, used: bool) -> bool
 
 // Where a place's counters end: unused ones are 0.
 fn end_at(used: bool, end: u32) -> u32
+    requires { ⌜ (1 ≤ end) × (end ≤ 1000000000) ⌝ }
     ensures { λ r. ⌜ r ≡ cond used end 1 ⌝ }
+    ensures some { λ r. ⌜ (1 ≤ r) × (r ≤ 1000000000) ⌝ }
 {
     if used {
         return end;

@@ -29,7 +29,7 @@ unfolding placeGood
 returns c =
     let at-time = c .before .before .before .before .before .before in
     let a = at-time .before .args in
-    rw (c .both-below .ensures, c .before .end-at2 .ensures, c .before .before .export-end .ensures .0, c .before .before .before .end-at .ensures, c .before .before .before .before .counter-end .ensures .0)
+    rw (c .both-below .ensures, c .before .end-at2 .ensures .0, c .before .before .export-end .ensures .0, c .before .before .before .end-at .ensures .0, c .before .before .before .before .counter-end .ensures .0)
     (rw (c .before .before .before .before .before .if1 .taken) at (timed (ltb (a .i) (a .count)) (at-time .time-good .result) (a .family) (a .p) (at-time .time-good .ensures)))
 
 returns-2 : tie.Need-returns-2
