@@ -14,6 +14,6 @@ returns c =
     four-inside (entry .args .end) _ _ _ _ (entry .args .t1) (entry .pre .0) long (c .before .before .before .beyond .ensures) (c .before .before .beyond2 .ensures) (c .before .beyond3 .ensures) (c .beyond4 .ensures)
 
 pub four-beyond-spec : {M : Type 1} → statement M
-four-beyond-spec = 
+four-beyond-spec =
     tie.close
     (tie.spec (λ c. c .pre .0) (λ c. search needs) (λ c κs. omega (arith, c .pre .1)) (λ c. search needs) (λ c κs. omega (arith, c .before .pre .1)) (λ c. search needs) (λ c κs. omega (arith, c .before .before .pre .1)) (λ c. search needs) (λ c κs. omega (arith, c .before .before .before .pre .1)) returns)
