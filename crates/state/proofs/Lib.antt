@@ -6,4 +6,3 @@ pub mod Archives
 pub mod Places
 pub mod Elements
 pub mod Fours
-pub mod Highest

@@ -1,7 +1,6 @@
 pub mod Sizes
 pub mod Link
 pub mod Fours
-pub mod Highest
 pub mod WellFormed
 pub mod Making
 pub mod Setting

@@ -14,12 +14,14 @@ use crate::Counters;
 use crate::PERIODS;
 use crate::Period;
 use crate::Registers;
-use crate::bounds;
 use crate::setting::with_archive;
 use clock::Clock;
 use clock::Date;
 use clock::Stamp;
 use values::family;
+
+// The archive's places, counted in 32 bits: on a small processor a longer number is two.
+const PLACES: u32 = PERIODS as u32;
 
 fn no_period() -> Period
     ensures { λ r. ⌜ r ≡ noPeriod ⌝ }
@@ -51,12 +53,14 @@ pub fn empty_archive() -> Archive
 
 // Whether its counters are below their ends, those of what went out below their own.
 fn both_below(p: Period, end: u32, out: u32) -> bool
-    requires { ⌜ ((1 ≤ end) × (end ≤ 1000000000)) × ((1 ≤ out) × (out ≤ 1000000000)) ⌝ }
     ensures { λ r. ⌜ r ≡ bothBelow end out p ⌝ }
 {
     let zones = p.zones;
     let exported = p.exported;
-    bounds::is_inside(bounds::four_beyond(zones, end) | bounds::four_beyond(exported, out))
+    if crate::four_below(zones, end) {
+        return crate::four_below(exported, out);
+    }
+    false
 }
 
 fn has_no_time(s: Stamp) -> bool
@@ -78,9 +82,7 @@ fn time_good(s: Stamp, used: bool) -> bool
 
 // Where a place's counters end: unused ones are 0.
 fn end_at(used: bool, end: u32) -> u32
-    requires { ⌜ (1 ≤ end) × (end ≤ 1000000000) ⌝ }
     ensures { λ r. ⌜ r ≡ cond used end 1 ⌝ }
-    ensures some { λ r. ⌜ (1 ≤ r) × (r ≤ 1000000000) ⌝ }
 {
     if used {
         return end;
@@ -95,20 +97,21 @@ fn count_good(count: u8) -> bool
     count <= PERIODS as u8
 }
 
-// Whether a place is as it has to be, where so many periods are kept.
-fn place_good(p: Period, i: usize, count: u8, family: u8) -> bool
+// Whether a place is as it has to be, where so many periods are kept. Its counters come first: a small processor has no room to keep them until its time is tested.
+fn place_good(p: Period, i: u32, count: u8, family: u8) -> bool
     ensures { λ r. ⌜ r ≡ placeGood family count i p ⌝ }
 {
-    let used = i < count as usize;
-    if time_good(p.closed, used) {
-        let end = end_at(used, family::counter_end(family));
-        return both_below(p, end, end_at(used, family::export_end(family)));
+    let used = i < count as u32;
+    let end = end_at(used, family::counter_end(family));
+    let out = end_at(used, family::export_end(family));
+    if both_below(p, end, out) {
+        return time_good(p.closed, used);
     }
     false
 }
 
 // Whether all was good so far, and this place too.
-fn still_good(ok: bool, p: Period, i: usize, count: u8, family: u8) -> bool
+fn still_good(ok: bool, p: Period, i: u32, count: u8, family: u8) -> bool
     ensures { λ r. ⌜ r ≡ (ok && placeGood family count i p) ⌝ }
 {
     ok & place_good(p, i, count, family)
@@ -120,9 +123,9 @@ pub fn archive_good(a: Archive, family: u8) -> bool
 {
     let count = a.count;
     let mut ok = count_good(count);
-    let mut i = 0;
-    while i < PERIODS {
-        let p = a.periods[i];
+    let mut i: u32 = 0;
+    while i < PLACES {
+        let p = a.periods[i as usize];
         ok = still_good(ok, p, i, count, family);
         i += 1;
     }
@@ -135,9 +138,9 @@ pub fn lent_good(a: &Archive, family: u8) -> bool
 {
     let count = a.count;
     let mut ok = count_good(count);
-    let mut i = 0;
-    while i < PERIODS {
-        ok = still_good(ok, a.periods[i], i, count, family);
+    let mut i: u32 = 0;
+    while i < PLACES {
+        ok = still_good(ok, a.periods[i as usize], i, count, family);
         i += 1;
     }
     ok

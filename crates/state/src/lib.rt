@@ -18,7 +18,6 @@ use values::ROW_LENGTH;
 use values::TABLE_PLACES;
 use values::family;
 
-mod bounds;
 pub mod closing;
 pub mod link;
 pub mod pieces;
@@ -182,6 +181,22 @@ fn held_good(held: &[u8], count: u8) -> bool
     words_held(held, count) & part_unused(held, count)
 }
 
+// Whether four counters are below an end, and no further than the first that is not.
+fn four_below(zones: [u32; 4], end: u32) -> bool
+    ensures { λ r. ⌜ r ≡ zonesBelow end zones ⌝ }
+{
+    if end <= zones[0] {
+        return false;
+    }
+    if end <= zones[1] {
+        return false;
+    }
+    if end <= zones[2] {
+        return false;
+    }
+    zones[3] < end
+}
+
 // A number below twice an end, rolled over there: small processors have no division.
 fn rolled(n: u32, end: u32) -> u32
     requires { ⌜ n < 2 * end ⌝ }
@@ -208,7 +223,7 @@ fn counters_good(c: Counters, end: u32) -> bool
     ensures { λ r. ⌜ r ≡ countersGood end c ⌝ }
 {
     let zones = c.zones;
-    if bounds::is_inside(bounds::four_beyond(zones, end)) {
+    if four_below(zones, end) {
         return c.total == total_of(c, end);
     }
     false

@@ -1,10 +1,10 @@
 -- `values::is_account` meets its contract: what is left decides, up to the first that is no character of an account. Assumes nothing.
 use mathlib.Core.Path.{_≡_, refl, sym, ap, _∙_}
-use mathlib.Core.Bool.{Bool, true, false, not, _&&_}
+use mathlib.Core.Bool.{Bool, true, false, _&&_}
 use mathlib.Core.List.{List}
 use Prim.Native.Nat.{ℕ, _+_, _-_, _<_, _≤_}
 use native.Mathlib.Omega.{arith}
-use borrow.Author.Tests.{ne-eqb, eq-eqb, not-true}
+use borrow.Author.Tests.{ne-eqb, eq-eqb, not-true, not-false}
 use lib.ListN.{length, getD, drop, drop-of-length-le}
 use lib.Dec.{eqb}
 use Rattle.line.specs.Runs.{every}
@@ -18,10 +18,6 @@ Inv-loop s i₀ i = ((i ≤ 10) × (length s ≡ 10)) × (every isAccountCharact
 
 abbrev μ-loop : tie.MeasureT-loop
 μ-loop s i₀ i = 10 - i
-
-not-false : (b : Bool) → not b ≡ false → b ≡ true
-not-false true e = refl
-not-false false e = sym e
 
 -- the next of what is left, and the others
 next-left : (s : List ℕ) (i : ℕ) (whole : Bool) → i < length s → every isAccountCharacter (drop i s) ≡ whole → (isAccountCharacter (getD s i 0) && every isAccountCharacter (drop (i + 1) s)) ≡ whole
