@@ -3,7 +3,7 @@ use mathlib.Core.Path.{_≡_, refl, sym, ap, _∙_}
 use mathlib.Core.Bool.{Bool, true, false, cond, _&&_, _||_}
 use Prim.Native.Nat.{ℕ, _+_, _-_, _%_, _≤_, _<_}
 use native.Mathlib.Omega.{arith}
-use borrow.Author.Tests.{leb-true, le-leb, ltb-true, ltb-false, lt-ltb, le-ltb, eqb-true, eq-eqb, eqb-false}
+use borrow.Author.Tests.{leb-true, leb-false, le-leb, ltb-true, ltb-false, lt-ltb, le-ltb, eqb-true, eq-eqb, eqb-false}
 use lib.Dec.{leb, ltb, eqb}
 use Rattle.line.proofs.Runs.{and-left, and-right, and-both, below-all}
 use Rattle.clock.specs.Dates.{leap, thirty, daysOf, daysIn, realDate, realTime}
@@ -65,6 +65,34 @@ date-tested y m d = pick (leb 2000 y && leb y 2099) refl
     pick : (b : Bool) → (leb 2000 y && leb y 2099) ≡ b → ((b && (leb 1 m && leb m 12)) && (leb 1 d && leb d (daysOf (eqb (y % 4) 0) m))) ≡ ((b && (leb 1 m && leb m 12)) && (leb 1 d && leb d (daysOf (leap y) m)))
     pick true e = ap (λ (n : ℕ). (leb 1 m && leb m 12) && (leb 1 d && leb d (cond (eqb m 2) n (cond (thirty m) 30 31)))) (fourth-leap y e)
     pick false e = refl
+
+-- a month and its year
+abbrev monthTested : ℕ → ℕ → Bool
+monthTested y m = (leb 2000 y && leb y 2099) && (leb 1 m && leb m 12)
+
+least-days : (second long short : Bool) → 28 ≤ cond second (cond long 29 28) (cond short 30 31)
+least-days true true short = omega arith
+least-days true false short = omega arith
+least-days false long true = omega arith
+least-days false long false = omega arith
+
+-- by the month, by the first 28 days, or by the days behind them
+pub no-month : (y m d : ℕ) → monthTested y m ≡ false → false ≡ realDate y m d
+no-month y m d e = rw e at (date-tested y m d)
+
+pub early-day : (y m d : ℕ) → monthTested y m ≡ true → (leb 1 d && leb d 28) ≡ true → true ≡ realDate y m d
+early-day y m d e f =
+    let last : 28 ≤ daysOf (eqb (y % 4) 0) m = least-days (eqb m 2) (eqb (y % 4) 0) (thirty m) in
+    let low = and-left (leb 1 d) (leb d 28) f in
+    rw (e, low, le-leb d (daysOf (eqb (y % 4) 0) m) (omega (arith, last, leb-true d 28 (and-right (leb 1 d) (leb d 28) f)))) at (date-tested y m d)
+
+pub late-day : (y m d days : ℕ) → days ≡ daysOf (eqb (y % 4) 0) m → monthTested y m ≡ true → (leb 1 d && leb d 28) ≡ false → (leb 29 d && leb d days) ≡ realDate y m d
+late-day y m d days is e f = pick (leb 29 d) refl (leb 1 d) refl
+  where
+    pick : (a : Bool) → leb 29 d ≡ a → (b : Bool) → leb 1 d ≡ b → (a && leb d days) ≡ realDate y m d
+    pick true late b first = rw is (rw (e, le-leb 1 d (omega (arith, leb-true 29 d late))) at (date-tested y m d))
+    pick false late false first = rw (e, first) at (date-tested y m d)
+    pick false late true first = absurd (let z : _≡_ {A = ℕ} 1 0 = ap (λ (t : Bool). cond t 1 0) (sym (and-both (leb 1 d) (leb d 28) first (le-leb d 28 (omega (arith, leb-false 29 d late)))) ∙ f) in omega (arith, z))
 
 pub date-real : (y m d : ℕ) → RealDate y m d → realDate y m d ≡ true
 unfolding realDate

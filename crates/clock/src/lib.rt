@@ -62,12 +62,17 @@ pub fn days_in(y: u16, m: u8) -> u8
     days_of(is_leap(y), m)
 }
 
-// Of the years that a date may have every fourth is a leap year, 2000 too.
+// Of the years that a date may have every fourth is a leap year, 2000 too. Every month has its first 28 days.
 pub fn is_date(y: u16, m: u8, d: u8) -> bool
     ensures { λ r. ⌜ r ≡ realDate y m d ⌝ }
 {
-    (((2000 <= y) & (y <= 2099)) & ((1 <= m) & (m <= 12)))
-        & ((1 <= d) & (d <= days_of(y % 4 == 0, m)))
+    if !(((2000 <= y) & (y <= 2099)) & ((1 <= m) & (m <= 12))) {
+        return false;
+    }
+    if (1 <= d) & (d <= 28) {
+        return true;
+    }
+    (29 <= d) & (d <= days_of(y % 4 == 0, m))
 }
 
 pub fn is_time(h: u8, n: u8, s: u8) -> bool
@@ -90,7 +95,10 @@ pub fn is_stamp(s: Stamp) -> bool
     ensures { λ r. ⌜ r ≡ realStamp s ⌝ }
 {
     let d = s.date;
-    is_date(d.year, d.month, d.day) & is_time(s.hour, s.minute, 0)
+    if is_date(d.year, d.month, d.day) {
+        return is_time(s.hour, s.minute, 0);
+    }
+    false
 }
 
 // A clock without its second.

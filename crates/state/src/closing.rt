@@ -6,7 +6,7 @@ ghost use Prim.Native.Nat.{_≤_};
 ghost use lib.ListN.{length, take, drop};
 ghost use Rattle.clock.specs.Seconds.{realStamp};
 ghost use Rattle.state.specs.Sizes.{periodPlaces};
-ghost use Rattle.state.specs.WellFormed.{zonesBelow, bothBelow, noTime, unused, placeGood, everyPeriod, archiveGood};
+ghost use Rattle.state.specs.WellFormed.{bothBelow, noTime, unused, placeGood, everyPeriod, archiveGood};
 ghost use Rattle.state.specs.Closing.{oneMore, closedWith, periodOf, closing};
 ghost use Rattle.state.specs.Making.{noPeriod, emptyArchive};
 use crate::Archive;
@@ -19,6 +19,9 @@ use clock::Clock;
 use clock::Date;
 use clock::Stamp;
 use values::family;
+
+// The archive's places, counted in 32 bits: on a small processor a longer number is two.
+const PLACES: u32 = PERIODS as u32;
 
 fn no_period() -> Period
     ensures { λ r. ⌜ r ≡ noPeriod ⌝ }
@@ -48,20 +51,16 @@ pub fn empty_archive() -> Archive
     }
 }
 
-// Whether four counters are below an end. They are named one by one, so that no copy of them is made to be counted through.
-fn four_below(zones: [u32; 4], end: u32) -> bool
-    ensures { λ r. ⌜ r ≡ zonesBelow end zones ⌝ }
-{
-    (zones[0] < end) & ((zones[1] < end) & ((zones[2] < end) & (zones[3] < end)))
-}
-
 // Whether its counters are below their ends, those of what went out below their own.
 fn both_below(p: Period, end: u32, out: u32) -> bool
     ensures { λ r. ⌜ r ≡ bothBelow end out p ⌝ }
 {
     let zones = p.zones;
     let exported = p.exported;
-    four_below(zones, end) & four_below(exported, out)
+    if crate::four_below(zones, end) {
+        return crate::four_below(exported, out);
+    }
+    false
 }
 
 fn has_no_time(s: Stamp) -> bool
@@ -98,20 +97,21 @@ fn count_good(count: u8) -> bool
     count <= PERIODS as u8
 }
 
-// Whether a place is as it has to be, where so many periods are kept.
-fn place_good(p: Period, i: usize, count: u8, family: u8) -> bool
+// Whether a place is as it has to be, where so many periods are kept. Its counters come first: a small processor has no room to keep them until its time is tested.
+fn place_good(p: Period, i: u32, count: u8, family: u8) -> bool
     ensures { λ r. ⌜ r ≡ placeGood family count i p ⌝ }
 {
-    let used = i < count as usize;
-    if time_good(p.closed, used) {
-        let end = end_at(used, family::counter_end(family));
-        return both_below(p, end, end_at(used, family::export_end(family)));
+    let used = i < count as u32;
+    let end = end_at(used, family::counter_end(family));
+    let out = end_at(used, family::export_end(family));
+    if both_below(p, end, out) {
+        return time_good(p.closed, used);
     }
     false
 }
 
 // Whether all was good so far, and this place too.
-fn still_good(ok: bool, p: Period, i: usize, count: u8, family: u8) -> bool
+fn still_good(ok: bool, p: Period, i: u32, count: u8, family: u8) -> bool
     ensures { λ r. ⌜ r ≡ (ok && placeGood family count i p) ⌝ }
 {
     ok & place_good(p, i, count, family)
@@ -123,9 +123,9 @@ pub fn archive_good(a: Archive, family: u8) -> bool
 {
     let count = a.count;
     let mut ok = count_good(count);
-    let mut i = 0;
-    while i < PERIODS {
-        let p = a.periods[i];
+    let mut i: u32 = 0;
+    while i < PLACES {
+        let p = a.periods[i as usize];
         ok = still_good(ok, p, i, count, family);
         i += 1;
     }
@@ -138,9 +138,9 @@ pub fn lent_good(a: &Archive, family: u8) -> bool
 {
     let count = a.count;
     let mut ok = count_good(count);
-    let mut i = 0;
-    while i < PERIODS {
-        ok = still_good(ok, a.periods[i], i, count, family);
+    let mut i: u32 = 0;
+    while i < PLACES {
+        ok = still_good(ok, a.periods[i as usize], i, count, family);
         i += 1;
     }
     ok

@@ -1,14 +1,14 @@
 // The meter's state: what it is made of, what is well-formed, and how a new one is made.
 ghost use mathlib.Core.Path.{_≡_};
 ghost use mathlib.Core.Bool.{true, _&&_};
-ghost use Prim.Native.Nat.{_+_, _-_, _%_, _≤_};
+ghost use Prim.Native.Nat.{_+_, _-_, _*_, _%_, _≤_, _<_};
 ghost use lib.ListN.{length, take, drop};
 ghost use Rattle.line.specs.Runs.{every};
 ghost use Rattle.text.specs.Classes.{between};
 ghost use Rattle.values.specs.Edition.{isEdition};
 ghost use Rattle.state.specs.Sizes.{mostHeld, heldPlaces, firstRows, allRows};
 ghost use Rattle.state.specs.Fours.{inRow, lastGood};
-ghost use Rattle.state.specs.WellFormed.{limit, firstGood, heldGood, below, zonesBelow, total, countersGood, directionsGood, tablesGood, linkGood, factsGood, factoryGood, editionOf, wellFormed, speedGood, hurtGood};
+ghost use Rattle.state.specs.WellFormed.{limit, firstGood, heldGood, zonesBelow, total, countersGood, directionsGood, tablesGood, linkGood, factsGood, factoryGood, editionOf, wellFormed, speedGood, hurtGood};
 ghost use Rattle.state.specs.Making.{noCounters, newRows, meterOf, blankMeter, factsRefused, notMade, madeOf};
 use clock::Clock;
 use clock::Date;
@@ -181,33 +181,41 @@ fn held_good(held: &[u8], count: u8) -> bool
     words_held(held, count) & part_unused(held, count)
 }
 
-// Whether every number is below an end.
-fn all_below(s: &[u32], end: u32) -> bool
-    ensures { λ r. ⌜ r ≡ every (below end) (now (s .entry)) ⌝ }
+// Whether four counters are below an end, and no further than the first that is not.
+fn four_below(zones: [u32; 4], end: u32) -> bool
+    ensures { λ r. ⌜ r ≡ zonesBelow end zones ⌝ }
 {
-    let mut ok = true;
-    let mut i = 0;
-    while i < s.len() {
-        ok = ok & (s[i] < end);
-        i += 1;
+    if end <= zones[0] {
+        return false;
     }
-    ok
+    if end <= zones[1] {
+        return false;
+    }
+    if end <= zones[2] {
+        return false;
+    }
+    zones[3] < end
 }
 
-// Whether there are four numbers, each below an end.
-fn zones_below(s: &[u32], end: u32) -> bool
-    ensures { λ r. ⌜ r ≡ zonesBelow end (now (s .entry)) ⌝ }
+// A number below twice an end, rolled over there: small processors have no division.
+fn rolled(n: u32, end: u32) -> u32
+    requires { ⌜ n < 2 * end ⌝ }
+    ensures { λ r. ⌜ r ≡ n % end ⌝ }
 {
-    (s.len() == 4) & all_below(s, end)
+    if n < end {
+        return n;
+    }
+    n - end
 }
 
-// The sum of the zones, which rolls over where they do; the one place where they are added up.
+// The sum of the zones, which rolls over where they do; the one place where they are added up. Four that are below an end roll over twice at twice that end, or at it.
 fn total_of(c: Counters, end: u32) -> u32
     requires { ⌜ ((1 ≤ end) × (end ≤ 1000000000)) × (zonesBelow end (c .zones) ≡ true) ⌝ }
     ensures { λ r. ⌜ r ≡ total end c ⌝ }
 {
     let z = c.zones;
-    (z[0] + z[1] + z[2] + z[3]) % end
+    let sum = z[0] + z[1] + z[2] + z[3];
+    rolled(rolled(sum, 2 * end), end)
 }
 
 fn counters_good(c: Counters, end: u32) -> bool
@@ -215,7 +223,7 @@ fn counters_good(c: Counters, end: u32) -> bool
     ensures { λ r. ⌜ r ≡ countersGood end c ⌝ }
 {
     let zones = c.zones;
-    if zones_below(&zones, end) {
+    if four_below(zones, end) {
         return c.total == total_of(c, end);
     }
     false

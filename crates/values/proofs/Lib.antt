@@ -5,3 +5,4 @@ pub mod Families
 pub mod Rules
 pub mod Serials
 pub mod Eights
+pub mod Digits

@@ -58,11 +58,34 @@ pub fn energy_no(e: Energy) -> u8
     }
 }
 
+// What eight digits have in their lanes: the least characters, the bits that those of a lane share, and what a digit has to spare.
+const DIGITS: u64 = 0x3030_3030_3030_3030;
+
+const DIGIT_BITS: u64 = 0xF0F0_F0F0_F0F0_F0F0;
+
+const DIGIT_SPARE: u64 = 0x0606_0606_0606_0606;
+
+// Whether a text of eight to sixteen characters is digits: the first eight of them, and the last eight.
+fn is_all_digits(s: &[u8]) -> bool
+    requires { ⌜ (8 ≤ length (now s)) × (length (now s) ≤ 16) ⌝ }
+    ensures { λ r. ⌜ r ≡ goodDigits (length (now (s .entry))) (now (s .entry)) ⌝ }
+{
+    let first = eights::keeps_form(eights::eight(s, 0), DIGITS, DIGIT_BITS, DIGIT_SPARE);
+    let last = eights::eight(s, s.len() - 8);
+    first & eights::keeps_form(last, DIGITS, DIGIT_BITS, DIGIT_SPARE)
+}
+
 // Whether a text is so many digits.
 pub fn is_digits(s: &[u8], n: usize) -> bool
     ensures { λ r. ⌜ r ≡ goodDigits n (now (s .entry)) ⌝ }
 {
-    (s.len() == n) & text::all_between(s, b'0', b'9')
+    if s.len() != n {
+        return false;
+    }
+    if (8 <= n) & (n <= 16) {
+        return is_all_digits(s);
+    }
+    text::all_between(s, b'0', b'9')
 }
 
 pub fn is_account_character(c: u8) -> bool
@@ -72,16 +95,21 @@ pub fn is_account_character(c: u8) -> bool
     (letter | ((b'0' <= c) & (c <= b'9'))) | ((c == b' ') | (c == b'_'))
 }
 
+// One character after the other, and no further than the first that is none: small processors have no room for ten flags.
 pub fn is_account(s: &[u8]) -> bool
     ensures { λ r. ⌜ r ≡ goodAccount (now (s .entry)) ⌝ }
 {
-    let mut ok = true;
-    let mut i = 0;
-    while i < s.len() {
-        ok = ok & is_account_character(s[i]);
+    if s.len() != 10 {
+        return false;
+    }
+    let mut i: u32 = 0;
+    while i < 10 {
+        if !is_account_character(s[i as usize]) {
+            return false;
+        }
         i += 1;
     }
-    (s.len() == 10) & ok
+    true
 }
 
 pub fn is_row(s: &[u8]) -> bool

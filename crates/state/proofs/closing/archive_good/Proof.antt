@@ -42,4 +42,4 @@ returns c =
 
 pub archive-good-spec : {M : Type 1} → statement M
 archive-good-spec =
-    tie.close (tie.spec Inv-loop μ-loop (λ c κs. search needs) loop-holds (λ c. omega (arith, c .loop-test .taken)) (λ c. c .loop-test .taken) (λ c κs. search needs) (λ c. omega (arith, c .before .before .loop-test .taken)) (λ c. omega (arith, c .before .before .loop-test .taken)) loop-again returns)
+    tie.close (tie.spec Inv-loop μ-loop (λ c κs. search needs) loop-holds (λ c. omega (arith, c .loop-test .taken)) (λ c. omega (arith, c .loop-test .taken)) (λ c. c .loop-test .taken) (λ c κs. search needs) (λ c. omega (arith, c .before .before .loop-test .taken)) (λ c. omega (arith, c .before .before .loop-test .taken)) loop-again returns)
