@@ -5,6 +5,7 @@
  * Prints a line for each row: what it is; instructions of the proved call; of the one by hand, or -; bytes of stack of both. Exits
  * with 1 where the two differ, or where a call takes more stack than its header says. */
 #include "board.h"
+#include "dirgemist_gateway.h"
 #include "dirgemist_head.h"
 #include "exactly.h"
 #include "hand.h"
@@ -126,29 +127,48 @@ static bool same(void) {
 /* An event met by both sides, each twice from one state: once for its instructions, once for its stack. */
 static uint32_t counted[2], deep[2];
 
+static void met_by(int which) {
+    side = &sides[which];
+    struct dirgemist_meter before = side->meter;
+    uint32_t depth = depth_of(meet) - depth_of(nothing);
+    deep[which] = depth > deep[which] ? depth : deep[which];
+    side->meter = before;
+    counted[which] += ticks_of(meet) - ticks_of(nothing);
+}
+
 static void event(uint8_t what, uint32_t with) {
     kind = what;
     value = with;
-    for (int which = 0; which < 2; which++) {
-        side = &sides[which];
-        struct dirgemist_meter before = side->meter;
-        uint32_t depth = depth_of(meet) - depth_of(nothing);
-        deep[which] = depth > deep[which] ? depth : deep[which];
-        side->meter = before;
-        counted[which] += ticks_of(meet) - ticks_of(nothing);
-    }
+    met_by(0);
+    met_by(1);
     expect(sides[0].number <= 1 && same(), "the two sides");
+}
+
+/* A character that the step by hand does not know. */
+static void alone(uint8_t character) {
+    kind = DIRGEMIST_CHARACTER;
+    value = character;
+    met_by(0);
+    expect(sides[0].number <= 1, "an answer");
+}
+
+/* A number, or - of a side that was not asked. */
+static void say_cost(uint32_t number) {
+    say(" ");
+    if (number == 0) {
+        say("-");
+    } else {
+        say_number(number);
+    }
 }
 
 static void row(const char *what, uint32_t times) {
     say(what);
     for (int which = 0; which < 2; which++) {
-        say(" ");
-        say_number(instructions(counted[which], times));
+        say_cost(instructions(counted[which], times));
     }
     for (int which = 0; which < 2; which++) {
-        say(" ");
-        say_number(deep[which]);
+        say_cost(deep[which]);
         expect(deep[which] <= DIRGEMIST_STACK, "the stack");
         counted[which] = deep[which] = 0;
     }
@@ -242,6 +262,25 @@ static void spoil_some(void) {
     spoil(meter);
 }
 
+/* ---- A frame that comes whole. */
+
+static uint8_t frame[36];
+
+static void take_frame(void) {
+    dirgemist_size length;
+    uint8_t speed, place;
+    expect(dirgemist_meter_frame(&sides[0].meter, frame, sizeof frame, sides[0].reply, ROOM, &length, &speed, &place) == 1,
+           "a whole frame");
+}
+
+/* The write of a table, with the parity that the line has. */
+static void build_frame(void) {
+    static const char write[] = "\001W1\002Z(07;111111222111111133333441)\003\001";
+    for (uint32_t at = 0; at < sizeof frame; at++) {
+        frame[at] = wire((uint8_t)write[at]);
+    }
+}
+
 /* ---- The head's calls. */
 
 static uint8_t out[ROOM], stripped[ROOM];
@@ -279,7 +318,7 @@ static void read_eqm(void) {
            "an EQM counter");
 }
 
-/* A call of the head, the cost of one call divided by so many. */
+/* A call that has no other side, the cost of one call divided by so many. */
 static void head(const char *what, void (*call)(void), uint32_t times) {
     uint32_t ticks = ticks_of(call) - ticks_of(nothing), depth = depth_of(call) - depth_of(nothing);
     say(what);
@@ -306,6 +345,13 @@ int main(void) {
     counted[0] = counted[1] = 0;
     said("\n", 1);
     row("eqm-block", 1);
+    both(full(1, 3));
+    said("\006056\r", 5);
+    counted[0] = counted[1] = deep[0] = deep[1] = 0;
+    alone('\n');
+    expect(sides[0].length > 2000, "the closed periods");
+    row("eqm-block-with-periods", 1);
+    both(full(4, 3));
     for (int at = 0; at < 40; at++) {
         event(DIRGEMIST_PULSE_OUT, 1000);
     }
@@ -333,6 +379,10 @@ int main(void) {
     row("closing", 1);
     spoil_some();
 
+    both(full(4, 0));
+    build_frame();
+    head("frame", take_frame, 1);
+    expect(depth_of(take_frame) <= DIRGEMIST_FRAME_STACK, "the stack");
     head("sign-on", build_sign_on, 1);
     head("write", build_write, 1);
     head("strip", strip, 1);
