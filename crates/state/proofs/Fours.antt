@@ -15,7 +15,7 @@ use lib.ListN.{length, getD, take, drop, drop-of-length-le}
 use lib.Seq.{getD-take, length-take-le, take-all, drop-drop}
 use Rattle.line.specs.Runs.{every}
 use Rattle.line.proofs.Runs.{and-left, and-right, and-both, and-assoc, left-next}
-use Rattle.text.specs.Classes.{between}
+use Rattle.text.specs.Classes.{between, isDigit}
 use Rattle.text.proofs.Beginnings.{le-or-lt}
 use Rattle.state.specs.Sizes.{heldPlaces, firstRows, allRows}
 use Rattle.state.specs.Fours.{fourOf, ones, inRow, inSeven, lastGood}
@@ -187,32 +187,49 @@ fours-same x y z t a b c d hx hy hz ha hb hc e =
     let one = lane z c t d hz hc (omega (arith, two)) in
     record { first = omega (arith, e, three); second = omega (arith, three, two); third = omega (arith, two, one); fourth = one }
 
+four-lt : (x y z t : ℕ) → x < 256 → y < 256 → z < 256 → t < 256 → fourOf x y z t < 4294967296
+unfolding fourOf
+four-lt x y z t hx hy hz ht = omega (arith, hx, hy, hz, ht)
+
+-- four raised by the same, where none of them carries, and four lowered, where none borrows
+four-plus : (k x y z t : ℕ) → fourOf x y z t + k * 16843009 ≡ fourOf (x + k) (y + k) (z + k) (t + k)
+unfolding fourOf
+four-plus k x y z t = omega arith
+
+back-up : (k a : ℕ) → k ≤ a → (a - k) + k ≡ a
+back-up k a h = omega (arith, h)
+
+module _ (k x y z t a b c d : ℕ) (ha : a < 256) (hb : b < 256) (hc : c < 256) (hd : d < 256) (e : (fourOf x y z t + k * 16843009) % 4294967296 ≡ fourOf a b c d) where
+  raised : x + k < 256 → y + k < 256 → z + k < 256 → t + k < 256 → Same (x + k) (y + k) (z + k) (t + k) a b c d
+  raised hx hy hz ht =
+      let plus = four-plus k x y z t in
+      let sum = no-wrap (fourOf x y z t + k * 16843009) (fourOf a b c d) e (omega (arith, plus, four-lt (x + k) (y + k) (z + k) (t + k) hx hy hz ht)) in
+      fours-same (x + k) (y + k) (z + k) (t + k) a b c d hx hy hz ha hb hc (sym plus ∙ sum)
+
+  lowered : x < 256 → y < 256 → z < 256 → t < 256 → k ≤ a → k ≤ b → k ≤ c → k ≤ d → Same x y z t (a - k) (b - k) (c - k) (d - k)
+  lowered hx hy hz ht la lb lc ld =
+      let less : fourOf (a - k) (b - k) (c - k) (d - k) + k * 16843009 ≡ fourOf a b c d = rw (back-up k a la, back-up k b lb, back-up k c lc, back-up k d ld) at (four-plus k (a - k) (b - k) (c - k) (d - k)) in
+      let sum = no-wrap (fourOf x y z t + k * 16843009) (fourOf a b c d) e (omega (arith, less, four-lt x y z t hx hy hz ht)) in
+      fours-same x y z t (a - k) (b - k) (c - k) (d - k) hx hy hz (omega (arith, ha)) (omega (arith, hb)) (omega (arith, hc)) (omega (arith, less, sum))
+
 -- the difference from four '1' has four that are small just where the four are '1' to '4': nothing is borrowed then
 module _ (x y z t a b c d : ℕ) (hx : x < 256) (hy : y < 256) (hz : z < 256) (ht : t < 256) (ha : a < 256) (hb : b < 256) (hc : c < 256) (hd : d < 256) (e : (fourOf x y z t + ones) % 4294967296 ≡ fourOf a b c d) where
   small-in : eachOf (λ (n : ℕ). leb n 3) x y z t ≡ true → eachOf (between 49 52) a b c d ≡ true
-  unfolding fourOf
   small-in s =
       let each = each-shown (λ (n : ℕ). leb n 3) x y z t s in
       let lx = leb-true x 3 (each .first) in
       let ly = leb-true y 3 (each .second) in
       let lz = leb-true z 3 (each .third) in
       let lt = leb-true t 3 (each .fourth) in
-      let sum = no-wrap (fourOf x y z t + ones) (fourOf a b c d) e (omega (arith, lx, ly, lz, lt)) in
-      let same = fours-same (x + 49) (y + 49) (z + 49) (t + 49) a b c d (omega (arith, lx)) (omega (arith, ly)) (omega (arith, lz)) ha hb hc (omega (arith, sum)) in
+      let same = raised 49 x y z t a b c d ha hb hc hd e (omega (arith, lx)) (omega (arith, ly)) (omega (arith, lz)) (omega (arith, lt)) in
       each-made (between 49 52) a b c d
       (between-made 49 52 a (omega (arith, same .first)) (omega (arith, same .first, lx))) (between-made 49 52 b (omega (arith, same .second)) (omega (arith, same .second, ly)))
       (between-made 49 52 c (omega (arith, same .third)) (omega (arith, same .third, lz))) (between-made 49 52 d (omega (arith, same .fourth)) (omega (arith, same .fourth, lt)))
 
   in-small : eachOf (between 49 52) a b c d ≡ true → eachOf (λ (n : ℕ). leb n 3) x y z t ≡ true
-  unfolding fourOf
   in-small s =
       let each = each-shown (between 49 52) a b c d s in
-      let la = between-low 49 52 a (each .first) in
-      let lb = between-low 49 52 b (each .second) in
-      let lc = between-low 49 52 c (each .third) in
-      let ld = between-low 49 52 d (each .fourth) in
-      let sum = no-wrap (fourOf x y z t + ones) (fourOf a b c d) e (omega (arith, la, lb, lc, ld)) in
-      let same = fours-same x y z t (a - 49) (b - 49) (c - 49) (d - 49) hx hy hz (omega arith) (omega arith) (omega arith) (omega (arith, sum, la, lb, lc, ld)) in
+      let same = lowered 49 x y z t a b c d ha hb hc hd e hx hy hz ht (between-low 49 52 a (each .first)) (between-low 49 52 b (each .second)) (between-low 49 52 c (each .third)) (between-low 49 52 d (each .fourth)) in
       each-made (λ (n : ℕ). leb n 3) x y z t
       (le-leb x 3 (omega (arith, same .first, between-high 49 52 a (each .first)))) (le-leb y 3 (omega (arith, same .second, between-high 49 52 b (each .second))))
       (le-leb z 3 (omega (arith, same .third, between-high 49 52 c (each .third)))) (le-leb t 3 (omega (arith, same .fourth, between-high 49 52 d (each .fourth))))
@@ -347,6 +364,81 @@ seven-word a b c d ha hb hc hd =
 pub seven-joins : (x y : ℕ) → inSeven (bitOr x y) ≡ (inSeven x && inSeven y)
 unfolding inSeven
 seven-joins = masked-both 0x80808080
+
+-- how far four are above '0', and that with what '9' lacks to 128, have no eighth bit just where the four are digits
+module _ (x y z t p q r u a b c d : ℕ) (hx : x < 256) (hy : y < 256) (hz : z < 256) (ht : t < 256) (hp : p < 256) (hq : q < 256) (hr : r < 256) (hu : u < 256) (ha : a < 256) (hb : b < 256) (hc : c < 256) (hd : d < 256)
+    (e : (fourOf x y z t + 48 * 16843009) % 4294967296 ≡ fourOf a b c d) (f : (fourOf x y z t + 118 * 16843009) % 4294967296 ≡ fourOf p q r u) where
+  digits-in : (eachOf (between 0 127) x y z t && eachOf (between 0 127) p q r u) ≡ true → eachOf isDigit a b c d ≡ true
+  unfolding isDigit
+  digits-in s =
+      let low = each-shown (between 0 127) x y z t (and-left _ (eachOf (between 0 127) p q r u) s) in
+      let high = each-shown (between 0 127) p q r u (and-right (eachOf (between 0 127) x y z t) _ s) in
+      let lx = between-high 0 127 x (low .first) in
+      let ly = between-high 0 127 y (low .second) in
+      let lz = between-high 0 127 z (low .third) in
+      let lt = between-high 0 127 t (low .fourth) in
+      let same = raised 48 x y z t a b c d ha hb hc hd e (omega (arith, lx)) (omega (arith, ly)) (omega (arith, lz)) (omega (arith, lt)) in
+      let more = raised 118 x y z t p q r u hp hq hr hu f (omega (arith, lx)) (omega (arith, ly)) (omega (arith, lz)) (omega (arith, lt)) in
+      each-made isDigit a b c d
+      (between-made 48 57 a (omega (arith, same .first)) (omega (arith, same .first, more .first, between-high 0 127 p (high .first)))) (between-made 48 57 b (omega (arith, same .second)) (omega (arith, same .second, more .second, between-high 0 127 q (high .second))))
+      (between-made 48 57 c (omega (arith, same .third)) (omega (arith, same .third, more .third, between-high 0 127 r (high .third)))) (between-made 48 57 d (omega (arith, same .fourth)) (omega (arith, same .fourth, more .fourth, between-high 0 127 u (high .fourth))))
+
+  in-digits : eachOf isDigit a b c d ≡ true → (eachOf (between 0 127) x y z t && eachOf (between 0 127) p q r u) ≡ true
+  unfolding isDigit
+  in-digits s =
+      let each = each-shown isDigit a b c d s in
+      let same = lowered 48 x y z t a b c d ha hb hc hd e hx hy hz ht (between-low 48 57 a (each .first)) (between-low 48 57 b (each .second)) (between-low 48 57 c (each .third)) (between-low 48 57 d (each .fourth)) in
+      let lx : x ≤ 9 = omega (arith, same .first, between-high 48 57 a (each .first)) in
+      let ly : y ≤ 9 = omega (arith, same .second, between-high 48 57 b (each .second)) in
+      let lz : z ≤ 9 = omega (arith, same .third, between-high 48 57 c (each .third)) in
+      let lt : t ≤ 9 = omega (arith, same .fourth, between-high 48 57 d (each .fourth)) in
+      let more = raised 118 x y z t p q r u hp hq hr hu f (omega (arith, lx)) (omega (arith, ly)) (omega (arith, lz)) (omega (arith, lt)) in
+      and-both _ _
+      (each-made (between 0 127) x y z t (between-made 0 127 x (omega arith) (omega (arith, lx))) (between-made 0 127 y (omega arith) (omega (arith, ly))) (between-made 0 127 z (omega arith) (omega (arith, lz))) (between-made 0 127 t (omega arith) (omega (arith, lt))))
+      (each-made (between 0 127) p q r u (between-made 0 127 p (omega arith) (omega (arith, more .first, lx))) (between-made 0 127 q (omega arith) (omega (arith, more .second, ly))) (between-made 0 127 r (omega arith) (omega (arith, more .third, lz))) (between-made 0 127 u (omega arith) (omega (arith, more .fourth, lt))))
+
+  digits-lanes : inSeven (bitOr (fourOf x y z t) (fourOf p q r u)) ≡ eachOf isDigit a b c d
+  digits-lanes =
+      seven-joins (fourOf x y z t) (fourOf p q r u)
+      ∙ ap₂ (λ (m n : Bool). m && n) (seven-word x y z t hx hy hz ht) (seven-word p q r u hp hq hr hu)
+      ∙ same-test _ _ digits-in in-digits
+
+pub digits-word : (v w a b c d : ℕ) → v < 4294967296 → w < 4294967296 → a < 256 → b < 256 → c < 256 → d < 256
+    → (v + 0x30303030) % 4294967296 ≡ fourOf a b c d → (v + 0x76767676) % 4294967296 ≡ w → inSeven (bitOr v w) ≡ eachOf isDigit a b c d
+digits-word v w a b c d hv hw ha hb hc hd e f =
+    let same = four-again v hv in
+    let more = four-again w hw in
+    ap₂ (λ (m n : ℕ). inSeven (bitOr m n)) same more
+    ∙ digits-lanes (v % 256) (v / 256 % 256) (v / 65536 % 256) (v / 16777216) (w % 256) (w / 256 % 256) (w / 65536 % 256) (w / 16777216) a b c d
+    (omega arith) (omega arith) (omega arith) (omega arith) (omega arith) (omega arith) (omega arith) (omega arith) ha hb hc hd
+    (ap (λ (n : ℕ). (n + 0x30303030) % 4294967296) (sym same) ∙ e) (ap (λ (n : ℕ). (n + 0x76767676) % 4294967296) (sym same) ∙ f ∙ more)
+
+-- ten characters are three times four, of which two overlap, and eight are two times four
+overlap : (a b c d e f : Bool) → ((a && (b && (c && d))) && (c && (d && (e && f)))) ≡ ((a && (b && (c && d))) && (e && (f && true)))
+overlap true true true true e f = ap (λ (n : Bool). e && n) (sym (and-true f))
+overlap true true true false e f = refl
+overlap true true false d e f = refl
+overlap true false c d e f = refl
+overlap false b c d e f = refl
+
+module _ (p : ℕ → Bool) (s : List ℕ) where
+  abbrev from : ℕ → Bool
+  from i = eachOf p (getD s i 0) (getD s (i + 1) 0) (getD s (i + 2) 0) (getD s (i + 3) 0)
+
+  pub of-ten : length s ≡ 10 → (from 0 && (from 4 && from 6)) ≡ every p s
+  unfolding every
+  of-ten n =
+      ap (λ (t : Bool). from 0 && t)
+      (overlap (p (getD s 4 0)) (p (getD s 5 0)) (p (getD s 6 0)) (p (getD s 7 0)) (p (getD s 8 0)) (p (getD s 9 0))
+      ∙ ap (λ (l : List ℕ). from 4 && every p l) (sym (left-next 8 s (omega (arith, n)) ∙ ap (λ (l : List ℕ). getD s 8 0 ∷ l) (left-next 9 s (omega (arith, n)) ∙ ap (λ (l : List ℕ). getD s 9 0 ∷ l) (drop-of-length-le s {i = 10} (omega (arith, n)))))))
+      ∙ ap (λ (t : Bool). from 0 && t) (sym (next-four p s 4 (omega (arith, n))))
+      ∙ sym (next-four p s 0 (omega (arith, n)))
+
+  pub of-eight : length s ≡ 8 → (from 0 && from 4) ≡ every p s
+  unfolding every
+  of-eight n =
+      ap (λ (t : Bool). from 0 && t) (sym (next-four p s 4 (omega (arith, n)) ∙ ap (λ (l : List ℕ). from 4 && every p l) (drop-of-length-le s {i = 8} (omega (arith, n))) ∙ and-true (from 4)))
+      ∙ sym (next-four p s 0 (omega (arith, n)))
 
 -- of the words behind that of the count, those from a place on
 unfoldable pub behindFrom : ℕ → ℕ → List ℕ → Bool

@@ -6,6 +6,7 @@ ghost use lib.ListN.{length, take, drop};
 ghost use Rattle.line.specs.Runs.{every};
 ghost use Rattle.text.specs.Classes.{between};
 ghost use Rattle.values.specs.Edition.{isEdition};
+ghost use Rattle.values.specs.Registers.{goodSerial, goodPassword};
 ghost use Rattle.state.specs.Sizes.{mostHeld, heldPlaces, firstRows, allRows};
 ghost use Rattle.state.specs.Fours.{inRow, lastGood};
 ghost use Rattle.state.specs.WellFormed.{limit, firstGood, heldGood, zonesBelow, total, countersGood, directionsGood, tablesGood, linkGood, factsGood, factoryGood, editionOf, wellFormed, speedGood, hurtGood};
@@ -288,13 +289,25 @@ fn link_good(link: u8) -> bool
     (link == 1) | (link == 2)
 }
 
+// Whether serial and password are digits, gathered four characters at a time; of the serial the last four overlap.
+fn numbers_good(serial: [u8; 10], password: [u8; 8]) -> bool
+    ensures { λ r. ⌜ r ≡ (goodSerial serial && goodPassword password) ⌝ }
+{
+    let s = words::beside_digits(serial[0], serial[1], serial[2], serial[3])
+        | (words::beside_digits(serial[4], serial[5], serial[6], serial[7])
+            | words::beside_digits(serial[6], serial[7], serial[8], serial[9]));
+    let p = words::beside_digits(password[0], password[1], password[2], password[3])
+        | words::beside_digits(password[4], password[5], password[6], password[7]);
+    words::is_seven(s | p)
+}
+
 // Whether what a meter has for life is good.
 fn facts_good(f: Facts) -> bool
     ensures { λ r. ⌜ r ≡ factsGood f ⌝ }
 {
     let serial = f.serial;
     let password = f.password;
-    (values::is_digits(&serial, 10) & values::is_digits(&password, 8))
+    numbers_good(serial, password)
         & (values::is_edition(f.edition) & (link_good(f.link) & family::is_family(f.decimals)))
 }
 

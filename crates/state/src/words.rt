@@ -1,12 +1,12 @@
 // Four characters looked at as one number: a processor without vectors has a quarter of the work.
 ghost use mathlib.Core.Path.{_≡_};
-ghost use mathlib.Core.Bool.{cond};
+ghost use mathlib.Core.Bool.{cond, _&&_};
 ghost use mathlib.Core.List.{[], _∷_};
 ghost use Prim.Native.Nat.{_+_, _%_, _<_};
 ghost use lib.Dec.{eqb};
 ghost use lib.ListN.{drop};
 ghost use Rattle.line.specs.Runs.{every};
-ghost use Rattle.text.specs.Classes.{between};
+ghost use Rattle.text.specs.Classes.{between, isDigit};
 ghost use Rattle.state.specs.Fours.{fourOf, ones, inRow, inSeven};
 
 // The first is the lowest, so that the compiler makes one load of four neighbours.
@@ -28,6 +28,14 @@ pub fn is_in_row(bad: u32) -> bool
     ensures { λ r. ⌜ r ≡ inRow bad ⌝ }
 {
     bad & 0xFCFC_FCFC == 0
+}
+
+// Four characters are digits where this has no eighth bit: how far they are above '0', which wraps from the lowest that is below, joined with that and what '9' lacks to 128.
+pub fn beside_digits(a: u8, b: u8, c: u8, d: u8) -> u32
+    ensures { λ r. ⌜ inSeven r ≡ (isDigit a && (isDigit b && (isDigit c && isDigit d))) ⌝ }
+{
+    let above = std::num::wrapping_sub_u32(four(a, b, c, d), 0x3030_3030);
+    above | std::num::wrapping_add_u32(above, 0x7676_7676)
 }
 
 // Whether four have no eighth bit.

@@ -6,9 +6,7 @@ use Rattle.state.proofs.facts_good.Tie as tie
 
 returns : tie.Need-returns
 unfolding factsGood
-returns c =
-    let numbers = c .before .before .before in
-    rw (numbers .before .before .is-digits .ensures, numbers .is-digits2 .ensures, c .before .before .is-edition .ensures, c .before .link-good .ensures, c .is-family .ensures)
+returns c = rw (c .before .before .before .numbers-good .ensures, c .before .before .is-edition .ensures, c .before .link-good .ensures, c .is-family .ensures)
 
 pub facts-good-spec : {M : Type 1} → statement M
-facts-good-spec = tie.close (tie.spec (λ c. search needs) (λ c κs. search needs) (λ c. search needs) (λ c κs. search needs) (λ c κs. search needs) (λ c κs. search needs) (λ c κs. search needs) returns)
+facts-good-spec = tie.close (tie.spec (λ c κs. search needs) (λ c κs. search needs) (λ c κs. search needs) (λ c κs. search needs) returns)
