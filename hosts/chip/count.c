@@ -150,6 +150,7 @@ static void alone(uint8_t character) {
     value = character;
     met_by(0);
     expect(sides[0].number <= 1, "an answer");
+    memcpy(sides[1].reply, sides[0].reply, ROOM);
 }
 
 /* A number, or - of a side that was not asked. */
