@@ -57,10 +57,7 @@ fn both_below(p: Period, end: u32, out: u32) -> bool
 {
     let zones = p.zones;
     let exported = p.exported;
-    if crate::four_below(zones, end) {
-        return crate::four_below(exported, out);
-    }
-    false
+    crate::four_below(zones, end) & crate::four_below(exported, out)
 }
 
 fn has_no_time(s: Stamp) -> bool
@@ -97,15 +94,14 @@ fn count_good(count: u8) -> bool
     count <= PERIODS as u8
 }
 
-// Whether a place is as it has to be, where so many periods are kept. Its counters come first: a small processor has no room to keep them until its time is tested.
+// Whether a place is as it has to be, where so many periods are kept.
 fn place_good(p: Period, i: u32, count: u8, family: u8) -> bool
     ensures { λ r. ⌜ r ≡ placeGood family count i p ⌝ }
 {
     let used = i < count as u32;
-    let end = end_at(used, family::counter_end(family));
-    let out = end_at(used, family::export_end(family));
-    if both_below(p, end, out) {
-        return time_good(p.closed, used);
+    if time_good(p.closed, used) {
+        let end = end_at(used, family::counter_end(family));
+        return both_below(p, end, end_at(used, family::export_end(family)));
     }
     false
 }

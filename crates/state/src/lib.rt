@@ -182,20 +182,11 @@ fn held_good(held: &[u8], count: u8) -> bool
     words_held(held, count) & part_unused(held, count)
 }
 
-// Whether four counters are below an end, and no further than the first that is not.
+// Whether four counters are below an end. They are named one by one, so that no copy of them is made to be counted through.
 fn four_below(zones: [u32; 4], end: u32) -> bool
     ensures { λ r. ⌜ r ≡ zonesBelow end zones ⌝ }
 {
-    if end <= zones[0] {
-        return false;
-    }
-    if end <= zones[1] {
-        return false;
-    }
-    if end <= zones[2] {
-        return false;
-    }
-    zones[3] < end
+    (zones[0] < end) & ((zones[1] < end) & ((zones[2] < end) & (zones[3] < end)))
 }
 
 // A number below twice an end, rolled over there: small processors have no division.

@@ -6,11 +6,7 @@ use Rattle.state.proofs.closing.both_below.Tie as tie
 
 returns : tie.Need-returns
 unfolding bothBelow
-returns c = rw (c .four-below2 .ensures, ← c .before .before .four-below .ensures, c .before .if1 .taken)
-
-returns-2 : tie.Need-returns-2
-unfolding bothBelow
-returns-2 c = rw (← c .before .four-below .ensures, c .if1 .left)
+returns c = rw (c .before .four-below .ensures, c .four-below2 .ensures)
 
 pub both-below-spec : {M : Type 1} → statement M
-both-below-spec = tie.close (tie.spec (λ c κs. search needs) (λ c κs. search needs) returns returns-2)
+both-below-spec = tie.close (tie.spec (λ c κs. search needs) (λ c κs. search needs) returns)

@@ -1,6 +1,6 @@
 -- `state::closing::place_good` meets its contract: a kept period and an unused place are asked the same of other ends. Assumes nothing.
 use mathlib.Core.Path.{_≡_, refl, sym, ap, _∙_}
-use mathlib.Core.Bool.{Bool, true, false, cond, _&&_, and-comm}
+use mathlib.Core.Bool.{Bool, true, false, cond, _&&_}
 use Prim.Native.Nat.{ℕ}
 use lib.Dec.{ltb}
 use Rattle.clock.specs.Seconds.{realStamp}
@@ -11,32 +11,32 @@ use borrow.Author.Needs.{needs}
 use Rattle.state.proofs.closing.place_good.Statement.{statement}
 use Rattle.state.proofs.closing.place_good.Tie as tie
 
--- its counters below their ends, and its time
+-- its time, and its counters below their ends
 asked : (used : Bool) (family : ℕ) (p : Period)
-    → (bothBelow (cond used (counterEnd family) 1) (cond used (exportEnd family) 1) p && cond used (realStamp (p .closed)) (noTime (p .closed))) ≡ cond used (periodGood family p) (unused p)
+    → (cond used (realStamp (p .closed)) (noTime (p .closed)) && bothBelow (cond used (counterEnd family) 1) (cond used (exportEnd family) 1) p) ≡ cond used (periodGood family p) (unused p)
 unfolding periodGood unused
-asked true family p = and-comm (bothBelow (counterEnd family) (exportEnd family) p) (realStamp (p .closed))
-asked false family p = and-comm (bothBelow 1 1 p) (noTime (p .closed))
+asked true family p = refl
+asked false family p = refl
 
--- the counters came first
-counted : (used below : Bool) (family : ℕ) (p : Period) (end out : ℕ) → end ≡ cond used (counterEnd family) 1 → out ≡ cond used (exportEnd family) 1 → below ≡ bothBelow end out p
-    → (below && cond used (realStamp (p .closed)) (noTime (p .closed))) ≡ cond used (periodGood family p) (unused p)
-counted used below family p end out ee eo e = rw (e, ee, eo) (asked used family p)
+-- the time came first
+timed : (used time : Bool) (family : ℕ) (p : Period) → time ≡ cond used (realStamp (p .closed)) (noTime (p .closed))
+    → (time && bothBelow (cond used (counterEnd family) 1) (cond used (exportEnd family) 1) p) ≡ cond used (periodGood family p) (unused p)
+timed used time family p e =
+    ap (λ (t : Bool). t && bothBelow (cond used (counterEnd family) 1) (cond used (exportEnd family) 1) p) e ∙ asked used family p
 
 returns : tie.Need-returns
 unfolding placeGood
 returns c =
-    let below = c .before .before in
-    let a = below .before .before .before .before .before .args in
-    rw (c .time-good .ensures)
-    (rw (c .before .if1 .taken) at (counted (ltb (a .i) (a .count)) (below .both-below .result) (a .family) (a .p) _ _ (rw (below .before .before .before .end-at .ensures, below .before .before .before .before .counter-end .ensures .0)) (rw (below .before .end-at2 .ensures, below .before .before .export-end .ensures .0)) (below .both-below .ensures)))
+    let at-time = c .before .before .before .before .before .before in
+    let a = at-time .before .args in
+    rw (c .both-below .ensures, c .before .end-at2 .ensures, c .before .before .export-end .ensures .0, c .before .before .before .end-at .ensures, c .before .before .before .before .counter-end .ensures .0)
+    (rw (c .before .before .before .before .before .if1 .taken) at (timed (ltb (a .i) (a .count)) (at-time .time-good .result) (a .family) (a .p) (at-time .time-good .ensures)))
 
 returns-2 : tie.Need-returns-2
 unfolding placeGood
 returns-2 c =
-    let below = c .before in
-    let a = below .before .before .before .before .before .args in
-    rw (c .if1 .left) at (counted (ltb (a .i) (a .count)) (below .both-below .result) (a .family) (a .p) _ _ (rw (below .before .before .before .end-at .ensures, below .before .before .before .before .counter-end .ensures .0)) (rw (below .before .end-at2 .ensures, below .before .before .export-end .ensures .0)) (below .both-below .ensures))
+    let a = c .before .before .args in
+    rw (c .if1 .left) at (timed (ltb (a .i) (a .count)) (c .before .time-good .result) (a .family) (a .p) (c .before .time-good .ensures))
 
 pub place-good-spec : {M : Type 1} → statement M
 place-good-spec =
