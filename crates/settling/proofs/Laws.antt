@@ -111,7 +111,7 @@ settled-is m room e s = met-in-order m room e ∙ go (isEdition (editionOf m)) (
     go true n true false o h f s = refl
     go true n false q o h f s = refl
 
--- a character and a refusal leave clock and counters as they were, a second and a pulse the receiver: what is stored of it alone is the whole
+-- a character and a refusal leave clock and counters as they were, a second and a pulse the receiver: so what is stored of them is all
 Apart : Meter → Heard → Type 0
 Apart m h = settledMeter m h ≡ settledIn m h
 

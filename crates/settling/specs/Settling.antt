@@ -175,7 +175,7 @@ settledMeter m h =
     withRegisters (withReceiver m (receiverAfter (m .receiver) h))
     (withExported (withCounters (withClock (m .registers) (h .clock)) (h .counters)) (h .exported))
 
--- the same with only that stored which the event changes: of a second or a pulse, which are answered 1, clock and counters, of all others the receiver
+-- the meter with only that stored which an event can change: of a second or a pulse, answered 1, clock and counters; of any other the receiver
 abbrev pub settledIn : Meter → Heard → Meter
 settledIn m h =
     cond (eqb (h .number) 1)
