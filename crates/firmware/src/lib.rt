@@ -1,11 +1,13 @@
 // The meter as firmware holds it: the state lies in the host's record and is changed in place.
 // A reference to a record is walked by hand, so these functions pass values on, and store what is small.
 ghost use mathlib.Core.Path.{_≡_};
+ghost use lib.Dec.{eqb};
 ghost use lib.ListN.{length};
 ghost use Rattle.text.specs.Writing.{holding};
 ghost use Rattle.frames.specs.Frames.{onWire};
 ghost use Rattle.receiving.specs.Receivers.{heldAfter};
 ghost use Rattle.meter.specs.Life.{eventOf, met};
+ghost use Rattle.settling.specs.Settling.{settledIn};
 ghost use Rattle.storing.specs.Replies.{replyOf};
 ghost use Rattle.firmware.specs.Replies.{settledReply};
 use settling::Heard;
@@ -19,18 +21,49 @@ fn is_settled(h: Heard) -> bool
     h.settled
 }
 
-// What a settled event leaves of the held characters, where they lie; it has no reply.
-fn settle(held: &mut [u8; HELD_PLACES as usize], h: Heard) -> Reply
-    ensures { λ r. ⌜ (r ≡ settledReply h) × (now (held .exit) ≡ heldAfter (h .holding) (now (held .entry))) ⌝ }
+// A second or a pulse: of all settled events these alone are answered with 1.
+fn is_moved(h: Heard) -> bool
+    ensures { λ r. ⌜ r ≡ eqb (h .number) 1 ⌝ }
 {
-    let holding = h.holding;
-    receiving::hold(held, holding);
+    h.number == 1
+}
+
+// A settled event has no reply.
+fn answer(h: Heard) -> Reply
+    ensures { λ r. ⌜ r ≡ settledReply h ⌝ }
+{
     Reply {
         number: h.number,
         length: 0,
         speed: h.speed,
         place: 0,
     }
+}
+
+// What it leaves of the held characters, where they lie.
+fn hold(held: &mut [u8; HELD_PLACES as usize], h: Heard) -> Reply
+    ensures { λ r. ⌜ (r ≡ settledReply h) × (now (held .exit) ≡ heldAfter (h .holding) (now (held .entry))) ⌝ }
+{
+    let holding = h.holding;
+    receiving::hold(held, holding);
+    answer(h)
+}
+
+// What it leaves of the record: a second and a pulse touch clock and counters alone, a character the receiver.
+fn settle(m: &mut Meter, h: Heard) -> Reply
+    ensures { λ r. ⌜ (r ≡ settledReply h) × (now (m .exit) ≡ settledIn (now (m .entry)) h) ⌝ }
+{
+    if is_moved(h) {
+        m.registers.clock = h.clock;
+        m.registers.counters = h.counters;
+        m.registers.exported = h.exported;
+        return answer(h);
+    }
+    let held = hold(&mut m.receiver.held, h);
+    m.receiver.count = h.count;
+    m.receiver.mark = h.mark;
+    m.receiver.place = h.place;
+    held
 }
 
 // An event, told by a number and a value; the record becomes the next state. Most events change its receiver, its clock or its counters alone, and the rest of it is not stored.
@@ -41,14 +74,7 @@ pub fn meet_in_place(m: &mut Meter, kind: u8, value: u32, reply: &mut [u8]) -> R
 {
     let heard = settling::look(&*m, kind, value, reply.len());
     if is_settled(heard) {
-        let settled = settle(&mut m.receiver.held, heard);
-        m.receiver.count = heard.count;
-        m.receiver.mark = heard.mark;
-        m.receiver.place = heard.place;
-        m.registers.clock = heard.clock;
-        m.registers.counters = heard.counters;
-        m.registers.exported = heard.exported;
-        return settled;
+        return settle(m, heard);
     }
     storing::act_in_place(m, kind, value, reply)
 }

@@ -33,7 +33,7 @@ use Rattle.meter.proofs.Done.{heard-done, silence-done, start-done, month-done}
 use Rattle.settling.specs.declared.Seen.{Seen}
 use Rattle.settling.specs.declared.Heard.{Heard}
 use Rattle.settling.specs.Acting.{deedOf}
-use Rattle.settling.specs.Settling.{seenIn, ends, refuses, movesOn, heardAs, heardBy, tickedBy, pulsedBy, toldBy, heardOf, settlesBy, settles, settledOutcome, Countable}
+use Rattle.settling.specs.Settling.{seenIn, ends, refuses, movesOn, heardAs, heardBy, tickedBy, pulsedBy, toldBy, heardOf, settlesBy, settles, settledMeter, settledIn, settledOutcome, Countable}
 
 heard-settled : (m : Meter) (c : ℕ) (damaged : Bool) (h : Hearing) → heardAs (seenIn m) c damaged h .settled ≡ true → heard m c damaged h ≡ settledOutcome m (heardAs (seenIn m) c damaged h)
 unfolding heardAs heard heldAfter
@@ -110,6 +110,64 @@ settled-is m room e s = met-in-order m room e ∙ go (isEdition (editionOf m)) (
     go true n true true o h f s = f s
     go true n true false o h f s = refl
     go true n false q o h f s = refl
+
+-- a character and a refusal leave clock and counters as they were, a second and a pulse the receiver: so what is stored of them is all
+Apart : Meter → Heard → Type 0
+Apart m h = settledMeter m h ≡ settledIn m h
+
+heard-apart : (m : Meter) (c : ℕ) (damaged : Bool) (h : Hearing) → Apart m (heardAs (seenIn m) c damaged h)
+unfolding Apart heardAs heldAfter
+heard-apart m c damaged Drop = refl
+heard-apart m c damaged Hold = refl
+heard-apart m c damaged Restart = refl
+heard-apart m c damaged Empty = refl
+heard-apart m c damaged Line = refl
+heard-apart m c damaged Confirm = refl
+heard-apart m c damaged Frame = refl
+heard-apart m c damaged TooLong = refl
+
+tick-apart : (m : Meter) → Apart m (tickedBy (seenIn m))
+unfolding Apart tickedBy heldAfter
+tick-apart m = go (monthStarts (nextSecond (m .registers .clock)))
+  where
+    went : Bool → Heard
+    went b = cond b (ends (seenIn m)) (movesOn (seenIn m) (nextSecond (m .registers .clock)) (m .registers .counters) (m .registers .exported))
+
+    go : (b : Bool) → settledMeter m (went b) ≡ settledIn m (went b)
+    go true = refl
+    go false = refl
+
+pulse-apart : (m : Meter) (out : Bool) (units : ℕ) → Apart m (pulsedBy (seenIn m) (m .registers .tables) out units)
+unfolding Apart pulsedBy heldAfter
+pulse-apart m true units = refl
+pulse-apart m false units = refl
+
+event-apart : (m : Meter) (e : Event) → Apart m (heardIn m e)
+unfolding Apart heardIn heardOf heardBy heldAfter
+event-apart m (Character b) = heard-apart m (symbol b) (damagedAt b) (hearing (m .mode) (m .receiver .count) (lastHeld (m .receiver)) (symbol b))
+event-apart m Silence = refl
+event-apart m Tick = tick-apart m
+event-apart m (Pulse units) = pulse-apart m false units
+event-apart m PowerUp = refl
+event-apart m (PulseOut units) = pulse-apart m true units
+event-apart m Unknown = refl
+
+pub settled-apart : (m : Meter) (room : ℕ) (e : Event) → settledMeter m (settles m room e) ≡ settledIn m (settles m room e)
+unfolding Apart settlesBy heldAfter heardIn
+settled-apart m room e = go (isEdition (editionOf m)) (refusal (familyOf m) room e) (eqb (refusal (familyOf m) room e) 0) (wellFormed m) (heardIn m e) (event-apart m e)
+  where
+    not : ℕ → Heard
+    not n = refuses (seenIn m) n
+
+    same : (b : Bool) → m ≡ cond b m m
+    same true = refl
+    same false = refl
+
+    go : (k : Bool) (n : ℕ) (p q : Bool) (h : Heard) → Apart m h → Apart m (cond k (cond p (cond q h (not 14)) (not n)) (not 16))
+    go false n p q h f = refl
+    go true n true true h f = f
+    go true n true false h f = refl
+    go true n false q h f = same (eqb n 1)
 
 -- what the meter has to act on
 pub record Left (m : Meter) (room : ℕ) (e : Event) : Type 0 where

@@ -175,6 +175,13 @@ settledMeter m h =
     withRegisters (withReceiver m (receiverAfter (m .receiver) h))
     (withExported (withCounters (withClock (m .registers) (h .clock)) (h .counters)) (h .exported))
 
+-- the meter with only that stored which an event can change: of a second or a pulse, answered 1, clock and counters; of any other the receiver
+abbrev pub settledIn : Meter → Heard → Meter
+settledIn m h =
+    cond (eqb (h .number) 1)
+    (withRegisters m (withExported (withCounters (withClock (m .registers) (h .clock)) (h .counters)) (h .exported)))
+    (withReceiver m (receiverAfter (m .receiver) h))
+
 -- all that comes of it
 abbrev pub settledOutcome : Meter → Heard → Outcome
 settledOutcome m h = record { number = h .number; speed = h .speed; reply = []; place = 0; next = settledMeter m h }
