@@ -3,7 +3,7 @@
 use mathlib.Core.Path.{_≡_, refl, sym, ap, ap₂, _∙_}
 use mathlib.Core.Bool.{Bool, true, _&&_}
 use mathlib.Core.List.{List, map}
-use Prim.Native.Nat.{ℕ, suc, _+_, _-_, _*_, _/_, _%_, _^_, _<_, _≤_}
+use Prim.Native.Nat.{ℕ, _+_, _-_, _/_, _%_, _≤_}
 use native.Mathlib.Nat.{div-one}
 use native.Mathlib.Omega.{arith}
 use lib.Dec.{ltb}
@@ -17,14 +17,10 @@ use Rattle.text.specs.Layout.{agrees, fits}
 use Rattle.eights.specs.Lanes.{lanes, least, common, spare, keeps, paired, isByte}
 use Rattle.eights.proofs.Windows.{window, window-kept, window-least, window-few, window-two, covered}
 use Rattle.values.specs.declared.number.Three.{Three}
-use Rattle.values.specs.Numbers.{threeIn, threeOf}
+use Rattle.values.specs.Numbers.{Above, threeIn, threeOf}
 
 abbrev pub lowBytes : List ℕ → Bool
 lowBytes p = every (λ c. ltb (least c) 256) p
-
--- what a number above the least of its form has to be, to have its pairs taken
-abbrev pub Above : ℕ → ℕ → Type 0
-Above w low = (low ≤ w) × ((w - low) * 11 < 2 ^ 64)
 
 -- digits, digits, anything, three times without the last
 pub record Twos (p : List ℕ) : Type 0 where

@@ -1,27 +1,22 @@
 -- What a family fixes of its counters: their digits and decimals, where they end, and their text's length and round trip.
 -- The law of digits and decimals (`counter-reads-back`, `counter-read-is-text`) read at a family's. Assumes nothing.
 use mathlib.Core.Path.{_≡_, refl, sym, ap, _∙_}
-use mathlib.Core.Bool.{Bool, true, false, cond, _||_}
+use mathlib.Core.Bool.{Bool, true, false, cond}
 use mathlib.Core.List.{List, [], _∷_, _++_, append-assoc}
-use Prim.Native.Nat.{ℕ, _+_, _-_, _*_, _/_, _%_, _^_, _≤_, _<_}
-use native.Mathlib.Nat.{add-mul, mul-le-mul-right}
+use Prim.Native.Nat.{ℕ, _+_, _-_, _/_, _%_, _^_, _≤_, _<_}
 use native.Mathlib.Omega.{arith}
 use borrow.Author.Tests.{not-true, leb-true, eqb-true, eqb-false}
 use lib.Dec.{eqb, leb}
-use lib.Pow.{pow-add}
 use lib.Seq.{take-at, drop-at, take-all}
 use lib.ListN.{length, take, drop, length-append, length-replicate, replicate}
 use Rattle.line.proofs.Runs.{and-left, and-right}
 use Rattle.text.specs.Classes.{between}
 use Rattle.text.specs.Decimal.{decimal}
-use Rattle.text.specs.Layout.{pattern, fits, layoutText, numbersFrom}
+use Rattle.text.specs.Layout.{pattern, layoutText}
 use Rattle.text.proofs.Decimal.{length-decimal, decimal-split, decimal-mod}
-use Rattle.text.proofs.Forms.{form-within}
 use Rattle.values.specs.Family.{isFamily, isEqm, counterDigits, counterDecimals, counterEnd}
 use Rattle.values.specs.Texts.{counterForm, counterText, energyText}
-use Rattle.values.specs.Reading.{counterIn, energyRead}
-use Rattle.values.specs.Numbers.{CounterAt}
-use Rattle.values.proofs.Fields.{fits-long}
+use Rattle.values.specs.Reading.{energyRead}
 use Rattle.values.proofs.RoundTrip.{counter-reads-back, counter-read-is-text}
 
 -- eight digits or nine, two to four of them decimals
@@ -68,14 +63,6 @@ end-is family = by (eqb family 0)
     by true = refl
     by false = refl
 
-pub end-most : (family : ℕ) → counterEnd family ≤ 1000000000
-unfolding counterEnd
-end-most family = by (eqb family 0)
-  where
-    by : (b : Bool) → cond b 1000000000 100000000 ≤ 1000000000
-    by true = omega arith
-    by false = omega arith
-
 -- a counter's text, over its digits and decimals
 pub counter-long : (all decimals n : ℕ) → decimals ≤ all → length (counterText all decimals n) ≡ all + 5
 unfolding counterText layoutText
@@ -119,32 +106,10 @@ unfolding energyRead energyText
 energy-read-is-text family s h = counter-read-is-text (counterDigits family) (counterDecimals family) s h
 
 -- a pattern of a counter, over its digits and decimals, is as long as its text
-pattern-long : (all decimals : ℕ) → decimals ≤ all → length (pattern (counterForm all decimals)) ≡ all + 5
+pub pattern-long : (all decimals : ℕ) → decimals ≤ all → length (pattern (counterForm all decimals)) ≡ all + 5
 unfolding pattern
 pattern-long all decimals low =
     let mark : ℕ = 35 in
     let rest = replicate decimals mark in
     length-append (replicate (all - decimals) mark) (46 ∷ (rest ++ (42 ∷ 107 ∷ 87 ∷ 104 ∷ [])))
     ∙ omega (arith, length-append rest (42 ∷ 107 ∷ 87 ∷ 104 ∷ []), length-replicate (all - decimals) mark, length-replicate decimals mark)
-
--- two numbers within their digits, one after the other
-together : (w d a b : ℕ) → a < 10 ^ w → b < 10 ^ d → a * 10 ^ d + b < 10 ^ (w + d)
-together w d a b ha hb =
-    let more : (a + 1) * 10 ^ d ≤ 10 ^ w * 10 ^ d = mul-le-mul-right (10 ^ d) (omega arith) in
-    rw (pow-add 10 w d) (omega (arith, add-mul a 1 (10 ^ d), more))
-
-counter-below : (all decimals : ℕ) (s : List ℕ) → decimals ≤ all → fits (pattern (counterForm all decimals)) s ≡ true → counterIn all decimals s < 10 ^ all
-unfolding numbersFrom
-counter-below all decimals s low h =
-    let f = form-within (counterForm all decimals) s h in
-    let z : all - decimals + 1 ≡ 0 + (all - decimals) + 1 = omega arith in
-    let e : 10 ^ (all - decimals + decimals) ≡ 10 ^ all = ap (λ (k : ℕ). 10 ^ k) (omega arith) in
-    rw (← e, z) (together (all - decimals) decimals _ _ (f .0) (f .1 .0))
-
-pub counter-fields : (family : ℕ) (s : List ℕ) → fits (pattern (counterForm (counterDigits family) (counterDecimals family))) s ≡ true → CounterAt family s
-counter-fields family s h =
-    let low : counterDecimals family ≤ counterDigits family = omega (arith, shown family) in
-    record {
-      long = fits-long _ s h ∙ pattern-long (counterDigits family) (counterDecimals family) low;
-      number = rw (end-is family) at (counter-below (counterDigits family) (counterDecimals family) s low h);
-    }

@@ -5,4 +5,5 @@ pub mod Families
 pub mod Rules
 pub mod Serials
 pub mod Eights
+pub mod Counters
 pub mod Digits

@@ -4,4 +4,5 @@ pub mod Registers
 pub mod Texts
 pub mod Reading
 pub mod Numbers
+pub mod Counters
 pub mod Serials

@@ -1,12 +1,10 @@
 -- Where numbers stand in a text, and how large each can be.
 use mathlib.Core.Path.{_≡_}
 use mathlib.Core.List.{List}
-use Prim.Native.Nat.{ℕ, _+_, _/_, _%_, _≤_, _<_}
+use Prim.Native.Nat.{ℕ, _+_, _-_, _*_, _/_, _%_, _^_, _≤_, _<_}
 use lib.ListN.{length}
 use Rattle.text.specs.Decimal.{numberAt}
 use Rattle.values.specs.declared.number.Three.{Three}
-use Rattle.values.specs.Family.{counterDigits, counterDecimals, counterEnd}
-use Rattle.values.specs.Reading.{counterIn}
 
 -- there are three from a place on, each below 100
 pub record ThreeAt (s : List ℕ) (at : ℕ) : Type 0 where
@@ -22,6 +20,10 @@ threeIn s at = record { first = numberAt s at 2; second = numberAt s (at + 3) 2;
 abbrev pub threeOf : ℕ → Three
 threeOf p = record { first = p % 0x100; second = p / 0x1000000 % 0x100; third = p / 0x1000000000000 % 0x100 }
 
+-- what a number above the least of its form has to be, to have its pairs taken
+abbrev pub Above : ℕ → ℕ → Type 0
+Above w low = (low ≤ w) × ((w - low) * 11 < 2 ^ 64)
+
 -- as in dd-mm-yyyy;hh:nn:ss
 pub record ClockAt (s : List ℕ) : Type 0 where
   pub long : length s ≡ 19
@@ -29,11 +31,6 @@ pub record ClockAt (s : List ℕ) : Type 0 where
   pub month : numberAt s 3 2 < 100
   pub year : numberAt s 6 4 < 10000
   pub time : ThreeAt s 11
-
--- as in eeeeee.eee*kWh, or as another family shows it
-pub record CounterAt (family : ℕ) (s : List ℕ) : Type 0 where
-  pub long : length s ≡ counterDigits family + 5
-  pub number : counterIn (counterDigits family) (counterDecimals family) s < counterEnd family
 
 -- as in xx
 pub record TableAt (s : List ℕ) : Type 0 where

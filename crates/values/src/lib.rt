@@ -7,6 +7,7 @@ ghost use Rattle.values.specs.Edition.{isEdition, tablesOf};
 ghost use Rattle.values.specs.Registers.{goodDigits, isAccountCharacter, goodAccount, goodRow, goodTable, goodZone, energyNo};
 
 pub mod characters;
+mod counter;
 pub mod family;
 mod number;
 pub mod reading;

@@ -1,10 +1,10 @@
-// The number that a run of digits says.
+// The numbers that two digits say.
 ghost use mathlib.Core.Path.{_≡_};
-ghost use Prim.Native.Nat.{_+_, _-_, _<_, _≤_, _^_};
+ghost use Prim.Native.Nat.{_+_, _-_, _<_, _≤_};
 ghost use lib.ListN.{length};
 ghost use Rattle.values.specs.Numbers.{ThreeAt, threeIn};
 ghost use Rattle.line.specs.Quoted.{char};
-ghost use Rattle.text.specs.Decimal.{valueFrom, numberAt};
+ghost use Rattle.text.specs.Decimal.{numberAt};
 
 // What a digit stands for; a character below '0' stands for nothing.
 fn digit(c: u8) -> u32
@@ -42,18 +42,4 @@ pub fn three_at(s: &[u8], at: usize) -> Three
         second: b as u8,
         third: c as u8,
     }
-}
-
-// The number that digits say after those of another, where it fits.
-pub fn number(before: u32, s: &[u8]) -> u32
-    requires { ⌜ valueFrom before (now s) < 2 ^ 32 ⌝ }
-    ensures { λ r. ⌜ r ≡ valueFrom before (now (s .entry)) ⌝ }
-{
-    let mut n = before;
-    let mut i = 0;
-    while i < s.len() {
-        n = n * 10 + digit(s[i]);
-        i += 1;
-    }
-    n
 }

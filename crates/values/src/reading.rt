@@ -1,18 +1,16 @@
 // Dates, times, counters and table numbers read back from their texts.
 ghost use mathlib.Core.Path.{_≡_};
-ghost use Prim.Native.Nat.{_+_, _-_, _*_, _<_, _≤_, _^_};
-ghost use Rattle.values.specs.Family.{counterDigits, counterDecimals};
-ghost use Rattle.text.specs.Layout.{pattern, fits};
-ghost use Rattle.values.specs.Numbers.{ClockAt, CounterAt, threeOf};
+ghost use mathlib.Core.Bool.{false};
+ghost use Prim.Native.Nat.{_+_, _-_, _<_};
+ghost use Rattle.values.specs.Numbers.{Above, ClockAt, threeOf};
 ghost use Rattle.clock.specs.Seconds.{dateOf};
 ghost use Rattle.eights.specs.Lanes.{paired};
-ghost use Rattle.values.specs.Texts.{counterForm};
-ghost use Rattle.values.specs.Reading.{someDate, someTime, someClock, noClock, clockIn, noDate, noTime, someStamp, noStamp, counterIn, someTable, dateRead, timeRead, clockRead, stampRead, energyRead, tableRead};
+ghost use Rattle.values.specs.Reading.{someDate, someTime, someClock, noClock, clockIn, noDate, noTime, someStamp, noStamp, someTable, dateRead, timeRead, clockRead, stampRead, energyRead, tableRead};
 use crate::TableNo;
-use crate::family::counter_decimals;
+use crate::counter::counter_in;
+use crate::counter::is_counter;
 use crate::family::counter_digits;
 use crate::number::Three;
-use crate::number::number;
 use crate::number::three_at;
 use crate::number::two;
 use clock::Clock;
@@ -34,7 +32,7 @@ const SPARE: u64 = 0x0606_0006_0600_0606;
 
 // The three numbers of two digits in eight such characters.
 fn three_above(w: u64, least: u64) -> Three
-    requires { ⌜ (least ≤ w) × ((w - least) * 11 < 2 ^ 64) ⌝ }
+    requires { ⌜ Above w least ⌝ }
     ensures { λ r. ⌜ r ≡ threeOf (paired (w - least)) ⌝ }
 {
     let p = eights::pairs(w, least);
@@ -306,49 +304,32 @@ pub fn read_stamp(s: &[u8]) -> StampRead
     no_stamp()
 }
 
-// Whether a text has the form of a family's counters.
-fn is_counter(s: &[u8], family: u8) -> bool
-    ensures { λ r. ⌜ r ≡ fits (pattern (counterForm (counterDigits family) (counterDecimals family))) (now (s .entry)) ⌝ }
+fn no_counter() -> CounterRead
+    ensures { λ r. ⌜ r ≡ record { ok = false; number = 0 } ⌝ }
 {
-    if family == 0 {
-        return text::has_form(b"######.###*kWh", s);
-    }
-    if family == 2 {
-        return text::has_form(b"######.##*kWh", s);
-    }
-    if family == 3 {
-        return text::has_form(b"#####.###*kWh", s);
-    }
-    text::has_form(b"####.####*kWh", s)
-}
-
-// The number of a counter's text.
-fn counter_in(s: &[u8], family: u8) -> u32
-    requires { ⌜ CounterAt family (now s) ⌝ }
-    ensures { λ r. ⌜ r ≡ counterIn (counterDigits family) (counterDecimals family) (now (s .entry)) ⌝ }
-{
-    let digits = counter_digits(family);
-    let point = digits - counter_decimals(family);
-    let after = point + 1;
-    let end = digits + 1;
-    let kwh = number(0, &s[0..point]);
-    number(kwh, &s[after..end])
-}
-
-// A counter from `eeeeee.eee*kWh`, or as another family shows it.
-pub fn read_counter(s: &[u8], family: u8) -> CounterRead
-    ensures { λ r. ⌜ r ≡ energyRead family (now (s .entry)) ⌝ }
-{
-    if is_counter(s, family) {
-        return CounterRead {
-            ok: true,
-            number: counter_in(s, family),
-        };
-    }
     CounterRead {
         ok: false,
         number: 0,
     }
+}
+
+// A counter from `eeeeee.eee*kWh`, or as another family shows it. Its last eight characters are the unit and four before it.
+pub fn read_counter(s: &[u8], family: u8) -> CounterRead
+    ensures { λ r. ⌜ r ≡ energyRead family (now (s .entry)) ⌝ }
+{
+    let at = counter_digits(family) - 3;
+    if s.len() != at + 8 {
+        return no_counter();
+    }
+    let w = eights::eight(s, 0);
+    let v = eights::eight(s, at);
+    if is_counter(w, v, family) {
+        return CounterRead {
+            ok: true,
+            number: counter_in(w, v, family),
+        };
+    }
+    no_counter()
 }
 
 // The table that a number of two digits names, of so many tables.

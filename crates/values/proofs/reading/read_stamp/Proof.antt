@@ -11,11 +11,11 @@ use Rattle.line.specs.Runs.{every}
 use Rattle.text.specs.Layout.{pattern, fits}
 use Rattle.eights.specs.Lanes.{lanes, least, common, spare, keeps, paired, isByte}
 use Rattle.eights.proofs.Windows.{window}
-use Rattle.values.specs.Numbers.{threeIn, threeOf}
+use Rattle.values.specs.Numbers.{Above, threeIn, threeOf}
 use Rattle.values.specs.Texts.{stampForm}
 use Rattle.values.specs.Reading.{stampRead}
 use Rattle.values.proofs.Fields.{misfit}
-use Rattle.values.proofs.Eights.{Above, kept-both, front-fits, end-fits, is-above, three-read}
+use Rattle.values.proofs.Eights.{kept-both, front-fits, end-fits, is-above, three-read}
 use Rattle.values.proofs.reading.read_stamp.Statement.{statement}
 use Rattle.values.proofs.reading.read_stamp.Tie as tie
 

@@ -9,11 +9,11 @@ use Rattle.line.specs.Runs.{every}
 use Rattle.text.specs.Layout.{pattern, fits}
 use Rattle.eights.specs.Lanes.{lanes, least, common, spare, keeps, paired, isByte}
 use Rattle.eights.proofs.Windows.{window}
-use Rattle.values.specs.Numbers.{threeIn, threeOf}
+use Rattle.values.specs.Numbers.{Above, threeIn, threeOf}
 use Rattle.values.specs.Texts.{timeForm}
 use Rattle.values.specs.Reading.{timeRead}
 use Rattle.values.proofs.Fields.{misfit}
-use Rattle.values.proofs.Eights.{Above, kept-eight, eight-above, eight-three}
+use Rattle.values.proofs.Eights.{kept-eight, eight-above, eight-three}
 use Rattle.values.proofs.reading.read_time.Statement.{statement}
 use Rattle.values.proofs.reading.read_time.Tie as tie
 
