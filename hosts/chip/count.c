@@ -265,12 +265,12 @@ static void spoil_some(void) {
 
 /* ---- A frame that comes whole. */
 
-static uint8_t frame[36];
+static uint8_t frame[36], answer[ROOM];
 
 static void take_frame(void) {
     dirgemist_size length;
     uint8_t speed, place;
-    expect(dirgemist_meter_frame(&sides[0].meter, frame, sizeof frame, sides[0].reply, ROOM, &length, &speed, &place) == 1,
+    expect(dirgemist_meter_frame(&sides[0].meter, frame, sizeof frame, answer, sizeof answer, &length, &speed, &place) == 1,
            "a whole frame");
 }
 
