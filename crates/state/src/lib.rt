@@ -200,7 +200,7 @@ fn rolled(n: u32, end: u32) -> u32
     n - end
 }
 
-// The sum of the zones, which rolls over where they do; the one place where they are added up. Four that are below an end roll over twice at twice that end, or at it.
+// The sum of the zones, which rolls over where they do; the one place where they are added up. It is below four ends, so it rolls over at two of them and then at one.
 fn total_of(c: Counters, end: u32) -> u32
     requires { ⌜ ((1 ≤ end) × (end ≤ 1000000000)) × (zonesBelow end (c .zones) ≡ true) ⌝ }
     ensures { λ r. ⌜ r ≡ total end c ⌝ }
