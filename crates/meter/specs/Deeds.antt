@@ -207,21 +207,25 @@ done m d =
       next = storedIn m (actedWith (smallOf m) (saidBy (m .registers) d) d);
     }
 
--- nothing said, then mode 0
-abbrev pub rests : Standing → ℕ → Deed
-rests s number =
+-- at the link's own speed, with an empty receiver: this number, then this mode and so many attempts; this said and this written
+abbrev pub atRest : Standing → ℕ → ℕ → ℕ → Says → Writes → Deed
+atRest s number mode attempts says writes =
     record {
       number = number;
       place = 0;
       speed = restSpeed (s .facts .link);
-      mode = 0;
-      attempts = s .attempts;
+      mode = mode;
+      attempts = attempts;
       rate = restSpeed (s .facts .link);
       empties = true;
       long = false;
-      says = Nothing;
-      writes = None;
+      says = says;
+      writes = writes;
     }
+
+-- nothing said, then mode 0
+abbrev pub rests : Standing → ℕ → Deed
+rests s number = atRest s number 0 (s .attempts) Nothing None
 
 -- 3 to 11, at this place and with so many attempts
 abbrev pub refuses : Standing → ℕ → ℕ → ℕ → Deed
@@ -273,19 +277,7 @@ stays s says writes =
 
 -- the identification, then mode 1
 abbrev pub signsOn : Standing → Writes → Deed
-signsOn s writes =
-    record {
-      number = 1;
-      place = 0;
-      speed = restSpeed (s .facts .link);
-      mode = 1;
-      attempts = s .attempts;
-      rate = restSpeed (s .facts .link);
-      empties = true;
-      long = false;
-      says = Identification;
-      writes = writes;
-    }
+signsOn s writes = atRest s 1 1 (s .attempts) Identification writes
 
 -- a block at a speed, with the closed periods or without, then mode 0
 abbrev pub readsOut : Standing → ℕ → Bool → Deed
@@ -321,35 +313,11 @@ invites s speed =
 
 -- silence in mode 1
 abbrev pub interrupted : Standing → Deed
-interrupted s =
-    record {
-      number = 1;
-      place = 0;
-      speed = restSpeed (s .facts .link);
-      mode = 0;
-      attempts = s .attempts;
-      rate = restSpeed (s .facts .link);
-      empties = true;
-      long = false;
-      says = Refusal;
-      writes = None;
-    }
+interrupted s = atRest s 1 0 (s .attempts) Refusal None
 
 -- power-up
 abbrev pub starts : Standing → Deed
-starts s =
-    record {
-      number = 1;
-      place = 0;
-      speed = restSpeed (s .facts .link);
-      mode = 0;
-      attempts = 0;
-      rate = restSpeed (s .facts .link);
-      empties = true;
-      long = false;
-      says = Nothing;
-      writes = None;
-    }
+starts s = atRest s 1 0 0 Nothing None
 
 -- the second that starts a month: the receiver stays
 abbrev pub monthStarted : Standing → Clock → Deed

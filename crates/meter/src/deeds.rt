@@ -4,7 +4,7 @@ ghost use Prim.Native.Nat.{_≤_};
 ghost use lib.ListN.{length};
 ghost use Rattle.frames.specs.Session.{speedSaid};
 ghost use Rattle.meter.specs.SignOn.{confirms, wantsBlock, wantsPeriods, wantsProgram};
-ghost use Rattle.meter.specs.Deeds.{standingIn, rests, refuses, goesTo, stays, signsOn, readsOut, invites, interrupted, starts, monthStarted, lineDeed, confirmationDeed, passwordDeed, rowDeed, verdictDeed, frameDeed, heardDeed, characterDeed, silenceDeed, leftDeed};
+ghost use Rattle.meter.specs.Deeds.{standingIn, atRest, rests, refuses, goesTo, stays, signsOn, readsOut, invites, interrupted, starts, monthStarted, lineDeed, confirmationDeed, passwordDeed, rowDeed, verdictDeed, frameDeed, heardDeed, characterDeed, silenceDeed, leftDeed};
 use crate::Deed;
 use crate::Event;
 use crate::Says;
@@ -38,9 +38,9 @@ pub fn standing_in(s: Small) -> Standing
     }
 }
 
-// Nothing said, then mode 0.
-fn rest(s: Standing, number: u8) -> Deed
-    ensures { λ r. ⌜ r ≡ rests s number ⌝ }
+// At the link's own speed, with an empty receiver: this number, then this mode and so many attempts; this said and this written.
+fn at_rest(s: Standing, number: u8, mode: u8, attempts: u8, says: Says, writes: Writes) -> Deed
+    ensures { λ r. ⌜ r ≡ atRest s number mode attempts says writes ⌝ }
 {
     let f = s.facts;
     let speed = rest_speed(f.link);
@@ -48,14 +48,21 @@ fn rest(s: Standing, number: u8) -> Deed
         number,
         place: 0,
         speed,
-        mode: 0,
-        attempts: s.attempts,
+        mode,
+        attempts,
         rate: speed,
         empties: true,
         long: false,
-        says: Says::Nothing,
-        writes: Writes::None,
+        says,
+        writes,
     }
+}
+
+// Nothing said, then mode 0.
+fn rest(s: Standing, number: u8) -> Deed
+    ensures { λ r. ⌜ r ≡ rests s number ⌝ }
+{
+    at_rest(s, number, 0, s.attempts, Says::Nothing, Writes::None)
 }
 
 // A refusal as the link rules it, with this place and so many attempts.
@@ -119,20 +126,7 @@ fn stay(s: Standing, says: Says, writes: Writes) -> Deed
 fn sign_on(s: Standing, writes: Writes) -> Deed
     ensures { λ r. ⌜ r ≡ signsOn s writes ⌝ }
 {
-    let f = s.facts;
-    let speed = rest_speed(f.link);
-    Deed {
-        number: 1,
-        place: 0,
-        speed,
-        mode: 1,
-        attempts: s.attempts,
-        rate: speed,
-        empties: true,
-        long: false,
-        says: Says::Identification,
-        writes,
-    }
+    at_rest(s, 1, 1, s.attempts, Says::Identification, writes)
 }
 
 // A block at a speed, with the closed periods or without, then mode 0.
@@ -347,20 +341,7 @@ pub fn of_hearing(
 fn interrupt(s: Standing) -> Deed
     ensures { λ r. ⌜ r ≡ interrupted s ⌝ }
 {
-    let f = s.facts;
-    let speed = rest_speed(f.link);
-    Deed {
-        number: 1,
-        place: 0,
-        speed,
-        mode: 0,
-        attempts: s.attempts,
-        rate: speed,
-        empties: true,
-        long: false,
-        says: Says::Refusal,
-        writes: Writes::None,
-    }
+    at_rest(s, 1, 0, s.attempts, Says::Refusal, Writes::None)
 }
 
 // Eight seconds of silence.
@@ -380,20 +361,7 @@ pub fn of_silence(s: Standing) -> Deed
 pub fn of_power_up(s: Standing) -> Deed
     ensures { λ r. ⌜ r ≡ starts s ⌝ }
 {
-    let f = s.facts;
-    let speed = rest_speed(f.link);
-    Deed {
-        number: 1,
-        place: 0,
-        speed,
-        mode: 0,
-        attempts: 0,
-        rate: speed,
-        empties: true,
-        long: false,
-        says: Says::Nothing,
-        writes: Writes::None,
-    }
+    at_rest(s, 1, 0, 0, Says::Nothing, Writes::None)
 }
 
 // The second that starts a month, after which the clock shows this.
