@@ -1,4 +1,3 @@
 pub mod Behind
 pub mod Known
 pub mod Fields
-pub mod Forks

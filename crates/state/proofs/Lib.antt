@@ -6,3 +6,4 @@ pub mod Archives
 pub mod Places
 pub mod Elements
 pub mod Fours
+pub mod Forks

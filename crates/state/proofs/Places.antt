@@ -1,20 +1,22 @@
 -- The places of an archive, one after the other: a flag, with what is left of the places, says it of all twelve. Assumes nothing.
 use mathlib.Core.Path.{_≡_, refl, sym, ap, _∙_}
-use mathlib.Core.Bool.{Bool, true, _&&_, and-true}
+use mathlib.Core.Bool.{Bool, true, false, _&&_, and-true}
 use mathlib.Core.List.{List, [], _∷_}
 use Prim.Native.Nat.{ℕ, zero, suc, _+_, _<_, _≤_}
 use native.Mathlib.Omega.{arith}
 use borrow.Author.Tests.{eq-eqb, lt-ltb, le-ltb}
-use lib.Dec.{leb}
+use lib.Dec.{leb, ltb}
 use lib.ListN.{length, getD, take, drop, drop-of-length-le, length-map}
 use mir.Val.{Val}
 use denote.Laws.{Is}
 use denote.Struct.Laws.{owed}
 use Rattle.line.proofs.Runs.{and-assoc}
+use Rattle.clock.specs.Seconds.{realStamp}
+use Rattle.values.specs.Family.{counterEnd, exportEnd}
 use Rattle.state.specs.declared.Period.{Period}
 use Rattle.state.specs.declared.Archive.{Archive}
 use Rattle.state.specs.Sizes.{periodPlaces}
-use Rattle.state.specs.WellFormed.{periodGood, unused, placeGood, everyPeriod, archiveGood}
+use Rattle.state.specs.WellFormed.{bothBelow, periodGood, unused, placeGood, everyPeriod, archiveGood}
 use Rattle.state.proofs.Archives.{period-next}
 use Rattle.state.proofs.Archive as S
 use Rattle.state.proofs.Archive.Laws as S′
@@ -23,6 +25,16 @@ use Rattle.state.proofs.Period as P
 -- an archive in memory has all its places
 pub all-there : (a : Archive) (vs : List Val) → Is S.the-row a vs → length (a .periods) ≡ periodPlaces
 all-there a vs is = sym (length-map (a .periods) (P.the-field .into)) ∙ owed S.the-type S′.the-laws a vs is .0 .1 .0 .1
+
+-- a place among the kept, and one behind them
+module _ (family count i : ℕ) (p : Period) (k : Bool) where
+  pub place-kept : (end out : ℕ) → i < count → end ≡ counterEnd family → out ≡ exportEnd family → k ≡ (realStamp (p .closed) && bothBelow end out p) → k ≡ placeGood family count i p
+  unfolding placeGood periodGood
+  place-kept end out l e o is = rw (lt-ltb i count l) (is ∙ ap (λ (n : ℕ). realStamp (p .closed) && bothBelow n out p) e ∙ ap (λ (n : ℕ). realStamp (p .closed) && bothBelow (counterEnd family) n p) o)
+
+  pub place-unused : count ≤ i → k ≡ unused p → k ≡ placeGood family count i p
+  unfolding placeGood
+  place-unused l is = rw (le-ltb i count l) is
 
 -- the places from the i-th on, where so many periods are kept
 unfoldable pub placesGood : ℕ → ℕ → ℕ → List Period → Bool

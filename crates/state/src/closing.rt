@@ -67,50 +67,30 @@ fn has_no_time(s: Stamp) -> bool
     ((d.year == 0) & ((d.month == 0) & (d.day == 0))) & ((s.hour == 0) & (s.minute == 0))
 }
 
-// Whether a period that is kept has a real time, and an unused place none.
-fn time_good(s: Stamp, used: bool) -> bool
-    ensures { λ r. ⌜ r ≡ cond used (realStamp s) (noTime s) ⌝ }
+// Whether a kept period has a real time, and counters below these ends. A small processor has no registers for them while it looks at the time: they come first.
+fn is_kept(p: Period, end: u32, out: u32) -> bool
+    ensures { λ r. ⌜ r ≡ (realStamp (p .closed) && bothBelow end out p) ⌝ }
 {
-    if used {
-        return clock::is_stamp(s);
+    if both_below(p, end, out) {
+        return clock::is_stamp(p.closed);
     }
-    has_no_time(s)
+    false
 }
 
-// Where a place's counters end: unused ones are 0.
-fn end_at(used: bool, end: u32) -> u32
-    ensures { λ r. ⌜ r ≡ cond used end 1 ⌝ }
+fn is_unused(p: Period) -> bool
+    ensures { λ r. ⌜ r ≡ unused p ⌝ }
 {
-    if used {
-        return end;
-    }
-    1
-}
-
-// Whether there are places for so many periods.
-fn count_good(count: u8) -> bool
-    ensures { λ r. ⌜ r ≡ leb count periodPlaces ⌝ }
-{
-    count <= PERIODS as u8
+    has_no_time(p.closed) & both_below(p, 1, 1)
 }
 
 // Whether a place is as it has to be, where so many periods are kept.
 fn place_good(p: Period, i: u32, count: u8, family: u8) -> bool
     ensures { λ r. ⌜ r ≡ placeGood family count i p ⌝ }
 {
-    let used = i < count as u32;
-    if time_good(p.closed, used) {
-        let end = end_at(used, family::counter_end(family));
-        return both_below(p, end, end_at(used, family::export_end(family)));
+    if i < count as u32 {
+        return is_kept(p, family::counter_end(family), family::export_end(family));
     }
-    false
-}
-
-// Whether all was good so far, and this place too.
-fn still_good(ok: bool, p: Period, i: u32, count: u8, family: u8) -> bool
-    ensures { λ r. ⌜ r ≡ (ok && placeGood family count i p) ⌝ }
-{
-    ok & place_good(p, i, count, family)
+    is_unused(p)
 }
 
 // Whether an archive is well-formed: the first so many places hold good periods, and those behind them are unused.
@@ -118,28 +98,40 @@ pub fn archive_good(a: Archive, family: u8) -> bool
     ensures { λ r. ⌜ r ≡ archiveGood family a ⌝ }
 {
     let count = a.count;
-    let mut ok = count_good(count);
+    let mut ok = count as u32 <= PLACES;
     let mut i: u32 = 0;
     while i < PLACES {
         let p = a.periods[i as usize];
-        ok = still_good(ok, p, i, count, family);
+        ok = ok & place_good(p, i, count, family);
         i += 1;
     }
     ok
 }
 
-// The same of an archive that is lent: each place is looked at where it lies.
+// The same of an archive that is lent: each place is looked at where it lies, up to the first that is not as it has to be. The ends are asked for once.
 pub fn lent_good(a: &Archive, family: u8) -> bool
     ensures { λ r. ⌜ r ≡ archiveGood family (now (a .entry)) ⌝ }
 {
-    let count = a.count;
-    let mut ok = count_good(count);
+    let count = a.count as u32;
+    if PLACES < count {
+        return false;
+    }
+    let end = family::counter_end(family);
+    let out = family::export_end(family);
     let mut i: u32 = 0;
-    while i < PLACES {
-        ok = still_good(ok, a.periods[i as usize], i, count, family);
+    while i < count {
+        if !is_kept(a.periods[i as usize], end, out) {
+            return false;
+        }
         i += 1;
     }
-    ok
+    while i < PLACES {
+        if !is_unused(a.periods[i as usize]) {
+            return false;
+        }
+        i += 1;
+    }
+    true
 }
 
 fn one_more(count: u8) -> u8

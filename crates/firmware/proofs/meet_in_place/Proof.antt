@@ -63,7 +63,7 @@ use Rattle.settling.proofs.look.Met as look-thm
 use Rattle.storing.specs.declared.Reply.{Reply}
 use Rattle.storing.proofs.Answers.{Answered, answered-as, is-true, is-false}
 use Rattle.firmware.specs.Replies.{settledReply}
-use Rattle.lent.proofs.Forks.{forks}
+use Rattle.state.proofs.Forks.{forks}
 use Rattle.storing.proofs.Reply as P
 use Rattle.storing.proofs.Reply.Laws as P′
 use Rattle.firmware.proofs.is_settled as settled

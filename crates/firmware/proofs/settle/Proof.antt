@@ -62,7 +62,7 @@ use Rattle.settling.specs.Settling.{settledIn}
 use Rattle.settling.proofs.Heard as E
 use Rattle.settling.proofs.Heard.Laws as E′
 use Rattle.lent.proofs.Behind.{behind}
-use Rattle.lent.proofs.Forks.{forks}
+use Rattle.state.proofs.Forks.{forks}
 use Rattle.lent.proofs.Known.{inField}
 use Rattle.storing.specs.declared.Reply.{Reply}
 use Rattle.storing.proofs.Answers.{is-true, is-false}

@@ -70,7 +70,7 @@ use Rattle.whole.proofs.Looked as L
 use Rattle.whole.proofs.Looked.Laws as L′
 use Rattle.whole.proofs.Looking.{Finished, refused-is, finished-is, finished-fits, finished-done}
 use Rattle.lent.proofs.Behind.{behind}
-use Rattle.lent.proofs.Forks.{forks}
+use Rattle.state.proofs.Forks.{forks}
 use Rattle.lent.proofs.is_formed as formed
 use Rattle.lent.proofs.is_formed.Symbol as formed-def
 use Rattle.lent.proofs.is_formed.Symbol.{name as #lent·is-formed}

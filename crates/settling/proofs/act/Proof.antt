@@ -62,7 +62,7 @@ use Rattle.state.proofs.Archive.Laws as K′
 use Rattle.clock.proofs.Clock as C
 use Rattle.clock.proofs.Clock.Laws as C′
 use Rattle.lent.proofs.Behind.{behind}
-use Rattle.lent.proofs.Forks.{forks}
+use Rattle.state.proofs.Forks.{forks}
 use Rattle.lent.proofs.Known.{inField, accountVal, Known, known}
 use Rattle.lent.proofs.Fields.{tables-part, archive-part, lends-part}
 use Rattle.replies.proofs.Plain as P

@@ -71,7 +71,7 @@ use Rattle.meter.proofs.Known.{archive-good}
 use Rattle.meter.proofs.Acted as N
 use Rattle.meter.proofs.Acted.Laws as N′
 use Rattle.lent.proofs.Behind.{behind}
-use Rattle.lent.proofs.Forks.{forks}
+use Rattle.state.proofs.Forks.{forks}
 use Rattle.lent.proofs.Known.{inField}
 use Rattle.storing.proofs.Lending.{lends-run, run-back}
 use Rattle.storing.specs.declared.Reply.{Reply}
