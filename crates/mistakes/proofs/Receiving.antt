@@ -103,12 +103,9 @@ setting =
     record {
       «with_receiver» = (seen (λ (m : Meter). m .receiver .count) refl, seen (λ (m : Meter). m .mode) refl);
       «in_mode» = (seen (λ (m : Meter). m .speed) refl, seen (λ (m : Meter). m .speed) refl);
-      emptied = (seen (λ (m : Meter). m .receiver .count) refl, seen (λ (m : Meter). m .speed) refl);
-      «with_speed» = (seen (λ (m : Meter). m .speed) refl, seen (λ (m : Meter). m .mode) refl);
       «with_attempts» = (seen (λ (m : Meter). m .attempts) refl, seen (λ (m : Meter). m .attempts) refl);
       «with_registers» = (seen (λ (m : Meter). counterOf (m .registers .counters) 1) refl, seen (λ (m : Meter). m .mode) refl);
       ten = (byte 0 refl, byte 0 refl);
-      «with_row» = (byte 144 refl, byte 145 refl);
       «row_start» = (number refl, number refl);
       one-place = number refl;
       «with_zones» = (seen (λ (c : Counters). counterOf c 1) refl, seen (λ (c : Counters). counterOf c 2) refl);

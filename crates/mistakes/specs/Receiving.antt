@@ -23,7 +23,7 @@ use Rattle.receiving.specs.declared.Holding.the-variants.{More, Anew}
 use Rattle.deciding.specs.declared.Verdict.the-variants.{Refuse, Leave, Password, Read, WriteTable}
 use Rattle.replies.specs.declared.Ask.the-variants.{Energy, Export}
 use Rattle.deciding.specs.Verdict.{verdict}
-use Rattle.state.specs.Setting.{withHeld, withMark, withReceiver, inMode, withAttempts, withRegisters, withClock, withAccount, withTables, withCounters, withExported, withZones, withTotal, zonePlace, counterOf, rowStart, withRow, withSpeed}
+use Rattle.state.specs.Setting.{withHeld, withMark, withReceiver, inMode, withAttempts, withRegisters, withClock, withAccount, withTables, withCounters, withExported, withZones, withTotal, zonePlace, counterOf, rowStart, withSpeed}
 use Rattle.tariff.specs.Zones.{tableFor, zoneAt, zoneIn, counted, countedIn, countedOut}
 use Rattle.tariff.specs.Months.{monthStarts, secondLater}
 use Rattle.mistakes.specs.RuledOut.{RuledOut}
@@ -71,20 +71,12 @@ pub record Setting : Type 0 where
   -- a slow session made fast; a fast one's speed kept in mode 0
   pub «in_mode» : RuledOut (inMode (inMode newMeter 2) 4) (withSpeed (inMode newMeter 4) 5)
       × RuledOut (inMode (withSpeed (inMode newMeter 4) 5) 0) (withSpeed newMeter 5)
-  -- what was held kept; the speed lost
-  pub emptied : RuledOut (withReceiver (heldIn 2 (1 ∷ [])) emptyReceiver) (heldIn 2 (1 ∷ []))
-      × RuledOut (withReceiver (withSpeed (heldIn 2 (1 ∷ [])) 5) emptyReceiver) (inMode newMeter 2)
-  -- the old speed; mode 0 with it
-  pub «with_speed» : RuledOut (withSpeed (inMode newMeter 2) 5) (inMode newMeter 2) × RuledOut (withSpeed (inMode newMeter 2) 5) (withSpeed newMeter 5)
   -- the old attempts; one more
   pub «with_attempts» : RuledOut (withAttempts newMeter 2) newMeter × RuledOut (withAttempts newMeter 2) (withAttempts newMeter 3)
   -- the old registers; mode 0 with the new
   pub «with_registers» : RuledOut (withRegisters newMeter used) newMeter × RuledOut (withRegisters (inMode newMeter 4) used) (withRegisters newMeter used)
   -- zeros; one character too far on
   pub ten : RuledOut serial (replicate 10 48) × RuledOut serial (drop 1 serial ++ (0 ∷ []))
-  -- the row of table 7 in table 8; its first character alone
-  pub «with_row» : RuledOut (withRow (newMeter .registers .tables) 7 twos) (withRow (newMeter .registers .tables) 8 twos)
-      × RuledOut (withRow (newMeter .registers .tables) 7 twos) (withRow (newMeter .registers .tables) 7 (chars "2"))
   -- a row too far on; a character a table
   pub «row_start» : RuledOut (rowStart 2) 48 × RuledOut (rowStart 2) 1
   -- the first table's for every table

@@ -1,10 +1,8 @@
 // A record of the state with one thing anew, and all else as it was.
 ghost use mathlib.Core.Path.{_≡_};
-ghost use Prim.Native.Nat.{_≤_};
 ghost use lib.ListN.{length};
-ghost use Rattle.state.specs.Sizes.{rowLength, tablePlaces};
 ghost use Rattle.state.specs.Making.{emptyReceiver};
-ghost use Rattle.state.specs.Setting.{withHeld, withMark, withReceiver, inMode, withAttempts, withRegisters, withAccount, withClock, withCounters, withExported, withTables, withArchive, withZones, withTotal, withRow, rowStart, zonePlace, counterOf, speedIn, withSpeed};
+ghost use Rattle.state.specs.Setting.{withHeld, withMark, withReceiver, inMode, withAttempts, withRegisters, withAccount, withClock, withCounters, withExported, withTables, withArchive, withZones, withTotal, rowStart, zonePlace, counterOf, speedIn};
 use crate::ALL_ROWS;
 use crate::Archive;
 use crate::Counters;
@@ -73,21 +71,6 @@ pub fn in_mode(m: Meter, mode: u8) -> Meter
     next.mode = mode;
     next.speed = speed_in(link_of(m), mode, m.speed);
     next.receiver = empty_receiver();
-    next
-}
-
-// In the same mode, the receiver empty.
-pub fn emptied(m: Meter) -> Meter
-    ensures { λ x. ⌜ x ≡ withReceiver m emptyReceiver ⌝ }
-{
-    with_receiver(m, empty_receiver())
-}
-
-pub fn with_speed(m: Meter, speed: u8) -> Meter
-    ensures { λ x. ⌜ x ≡ withSpeed m speed ⌝ }
-{
-    let mut next = m;
-    next.speed = speed;
     next
 }
 
@@ -211,14 +194,4 @@ pub fn row_start(t: TableNo) -> usize
         return 0;
     }
     (n - 1) * ROW_LENGTH
-}
-
-// The tables with one row anew.
-pub fn with_row(rows: [u8; ALL_ROWS], t: TableNo, row: &[u8]) -> [u8; ALL_ROWS]
-    requires { ⌜ ((1 ≤ t .0) × (t .0 ≤ tablePlaces)) × (length (now row) ≡ rowLength) ⌝ }
-    ensures { λ r. ⌜ r ≡ withRow rows (t .0) (now (row .entry)) ⌝ }
-{
-    let mut next = rows;
-    text::put(&mut next, row_start(t), row);
-    next
 }
