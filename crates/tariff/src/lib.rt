@@ -56,12 +56,16 @@ pub fn zone_in(g: Registers) -> ZoneNo
     zone_at(&rows, f.edition, g.clock)
 }
 
-// A counter some units of the last place on; it rolls over at an end.
+// A counter some units of the last place on; it rolls over at an end. It is seldom there, and a division takes longer than all else that a pulse does.
 fn grow(counter: u32, units: u32, end: u32) -> u32
     requires { ⌜ ((counter < end) × (end ≤ 1000000000)) × (units ≤ 1000000) ⌝ }
     ensures { λ r. ⌜ r ≡ grown end counter units ⌝ }
 {
-    (counter + units) % end
+    let sum = counter + units;
+    if sum < end {
+        return sum;
+    }
+    sum % end
 }
 
 // The counters after a pulse in a zone, and their total with them.
