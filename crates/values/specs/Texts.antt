@@ -69,6 +69,10 @@ counterForm all decimals = digits (all - decimals) ∷ fixed (chars ".") ∷ dig
 unfoldable pub counterText : ℕ → ℕ → ℕ → List ℕ
 counterText all decimals n = layoutText (counterForm all decimals) ((n / 10 ^ decimals) ∷ (n % 10 ^ decimals) ∷ [])
 
+-- of nine digits those from one on, with a point before another, and the unit
+unfoldable pub pointed : ℕ → ℕ → List ℕ → List ℕ
+pointed first point nine = take (point - first) (drop first nine) ++ (chars "." ++ (take (9 - point) (drop point nine) ++ chars "*kWh"))
+
 -- as a family shows it
 unfoldable pub energyText : ℕ → ℕ → List ℕ
 energyText family n = counterText (counterDigits family) (counterDecimals family) n

@@ -5,10 +5,8 @@ ghost use lib.ListN.{length};
 ghost use Rattle.text.specs.Decimal.{decimal};
 ghost use Rattle.text.specs.Writing.{stored};
 ghost use Rattle.values.specs.Family.{counterDigits};
-ghost use Rattle.values.specs.Texts.{parted, serialText, wiredText, tableText, dateText, timeText, clockText, stampText, energyText};
+ghost use Rattle.values.specs.Texts.{parted, serialText, wiredText, tableText, dateText, timeText, clockText, stampText, pointed, energyText};
 use crate::TableNo;
-use crate::family::counter_decimals;
-use crate::family::counter_digits;
 use clock::Clock;
 use clock::Date;
 use clock::Stamp;
@@ -173,17 +171,33 @@ fn nine_digits(n: u32) -> [u8; 9]
     ]
 }
 
-// A counter as `eeeeee.eee*kWh`, or as another family shows it.
+// Of nine digits those from the first that is shown on, with the point, and the unit.
+fn put_pointed(buf: &mut [u8], at: usize, nine: &[u8], first: usize, point: usize) -> usize
+    requires { ⌜ ((length (now nine) ≡ 9) × ((first ≤ point) × (point ≤ 9))) × (at + (9 - first + 5) ≤ length (now buf)) ⌝ }
+    ensures next { λ r. ⌜ r ≡ at + (9 - first + 5) ⌝ }
+    ensures held { λ _. ⌜ now (buf .exit) ≡ stored (now (buf .entry)) at (pointed first point (now (nine .entry))) ⌝ }
+{
+    let a = text::put(buf, at, &nine[first..point]);
+    let b = text::put(buf, a, b".");
+    let c = text::put(buf, b, &nine[point..9]);
+    text::put(buf, c, b"*kWh")
+}
+
+// A counter as `eeeeee.eee*kWh`, or as another family shows it. Each family has its own call, with places that are constants: so the compiler moves its characters with no loop.
 pub fn put_counter(buf: &mut [u8], at: usize, n: u32, family: u8) -> usize
     requires { ⌜ at + (counterDigits family + 5) ≤ length (now buf) ⌝ }
     ensures next { λ r. ⌜ r ≡ at + (counterDigits family + 5) ⌝ }
     ensures held { λ _. ⌜ now (buf .exit) ≡ stored (now (buf .entry)) at (energyText family n) ⌝ }
 {
-    let shown = nine_digits(n);
-    let first = 9 - counter_digits(family);
-    let point = 9 - counter_decimals(family);
-    let a = text::put(buf, at, &shown[first..point]);
-    let b = text::put(buf, a, b".");
-    let c = text::put(buf, b, &shown[point..9]);
-    text::put(buf, c, b"*kWh")
+    let nine = nine_digits(n);
+    if family == 0 {
+        return put_pointed(buf, at, &nine, 0, 6);
+    }
+    if family == 2 {
+        return put_pointed(buf, at, &nine, 1, 7);
+    }
+    if family == 3 {
+        return put_pointed(buf, at, &nine, 1, 6);
+    }
+    put_pointed(buf, at, &nine, 1, 5)
 }
