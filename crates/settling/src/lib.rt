@@ -231,7 +231,58 @@ fn hear_or_leave<'a>(
     }
 }
 
-// An event, told by a number and a value, with so much room for a reply.
+// A pulse, with so much room for a reply. It goes its own way from the first test on, so that no other event's way has counters to carry.
+fn settle_pulse<'a>(
+    s: Seen,
+    formed: bool,
+    held: &'a [u8; HELD_PLACES as usize],
+    tables: &'a [u8; ALL_ROWS],
+    e: Event,
+    room: usize,
+) -> Heard
+    requires { ⌜ (formed ≡ true → Countable s) × (toldBy e .pulse ≡ true) ⌝ }
+    ensures { λ r. ⌜ r ≡ settlesBy s formed (now (held .entry)) (now (tables .entry)) room e ⌝ }
+{
+    if !values::is_edition(s.edition) {
+        return stand(s, true, 16, 0);
+    }
+    let number = events::refusal_of(e, s.family, room);
+    if number != 0 {
+        return stand(s, true, number, 0);
+    }
+    if formed {
+        let told = told_by(e);
+        return pulse(s, tables, told.out, told.units);
+    }
+    stand(s, true, 14, 0)
+}
+
+// Any other event.
+fn settle_other<'a>(
+    s: Seen,
+    formed: bool,
+    held: &'a [u8; HELD_PLACES as usize],
+    tables: &'a [u8; ALL_ROWS],
+    e: Event,
+    room: usize,
+) -> Heard
+    requires { ⌜ toldBy e .pulse ≡ false ⌝ }
+    ensures { λ r. ⌜ r ≡ settlesBy s formed (now (held .entry)) (now (tables .entry)) room e ⌝ }
+{
+    if !values::is_edition(s.edition) {
+        return stand(s, true, 16, 0);
+    }
+    let number = events::refusal_of(e, s.family, room);
+    if number != 0 {
+        return stand(s, true, number, 0);
+    }
+    if formed {
+        return hear_or_leave(s, held, tables, e);
+    }
+    stand(s, true, 14, 0)
+}
+
+// An event, told by a number and a value.
 fn settle<'a>(
     s: Seen,
     formed: bool,
@@ -244,22 +295,12 @@ fn settle<'a>(
     requires { ⌜ (formed ≡ true → Countable s) ⌝ }
     ensures { λ r. ⌜ r ≡ settlesBy s formed (now (held .entry)) (now (tables .entry)) room (eventOf kind value) ⌝ }
 {
-    if !values::is_edition(s.edition) {
-        return stand(s, true, 16, 0);
-    }
     let e = events::event_of(kind, value);
-    let number = events::refusal_of(e, s.family, room);
-    if number != 0 {
-        return stand(s, true, number, 0);
+    let told = told_by(e);
+    if told.pulse {
+        return settle_pulse(s, formed, held, tables, e, room);
     }
-    if formed {
-        let told = told_by(e);
-        if told.pulse {
-            return pulse(s, tables, told.out, told.units);
-        }
-        return hear_or_leave(s, held, tables, e);
-    }
-    stand(s, true, 14, 0)
+    settle_other(s, formed, held, tables, e, room)
 }
 
 // The same of a record that is lent.
