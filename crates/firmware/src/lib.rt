@@ -43,6 +43,7 @@ fn answer(h: Heard) -> Reply
     }
 }
 
+// The clock after it, and the counters of each direction: as they were, where it does not change them.
 fn clock_after(h: Heard, clock: Clock) -> Clock
     ensures { λ r. ⌜ r ≡ clockAfter (h .change) clock ⌝ }
 {
