@@ -7,10 +7,13 @@ ghost use Rattle.text.specs.Writing.{holding};
 ghost use Rattle.frames.specs.Frames.{onWire};
 ghost use Rattle.receiving.specs.Receivers.{heldAfter};
 ghost use Rattle.meter.specs.Life.{eventOf, met};
-ghost use Rattle.settling.specs.Settling.{settledIn};
+ghost use Rattle.settling.specs.Settling.{clockAfter, countersAfter, exportedAfter, settledIn};
 ghost use Rattle.storing.specs.Replies.{replyOf};
 ghost use Rattle.firmware.specs.Replies.{settledReply};
+use clock::Clock;
+use settling::Change;
 use settling::Heard;
+use state::Counters;
 use state::HELD_PLACES;
 use state::Meter;
 use storing::Reply;
@@ -40,6 +43,43 @@ fn answer(h: Heard) -> Reply
     }
 }
 
+// The clock after it, and the counters of each direction: as they were, where it does not change them.
+fn clock_after(h: Heard, clock: Clock) -> Clock
+    ensures { λ r. ⌜ r ≡ clockAfter (h .change) clock ⌝ }
+{
+    let change = h.change;
+    match change {
+        Change::Stay => clock,
+        Change::Time(next) => next,
+        Change::In => clock,
+        Change::Out => clock,
+    }
+}
+
+fn counters_after(h: Heard, counters: Counters) -> Counters
+    ensures { λ r. ⌜ r ≡ countersAfter (h .change) (h .counters) counters ⌝ }
+{
+    let change = h.change;
+    match change {
+        Change::Stay => counters,
+        Change::Time(next) => counters,
+        Change::In => h.counters,
+        Change::Out => counters,
+    }
+}
+
+fn exported_after(h: Heard, exported: Counters) -> Counters
+    ensures { λ r. ⌜ r ≡ exportedAfter (h .change) (h .counters) exported ⌝ }
+{
+    let change = h.change;
+    match change {
+        Change::Stay => exported,
+        Change::Time(next) => exported,
+        Change::In => exported,
+        Change::Out => h.counters,
+    }
+}
+
 // What it leaves of the held characters, where they lie.
 fn hold(held: &mut [u8; HELD_PLACES as usize], h: Heard) -> Reply
     ensures { λ r. ⌜ (r ≡ settledReply h) × (now (held .exit) ≡ heldAfter (h .holding) (now (held .entry))) ⌝ }
@@ -54,9 +94,9 @@ fn settle(m: &mut Meter, h: Heard) -> Reply
     ensures { λ r. ⌜ (r ≡ settledReply h) × (now (m .exit) ≡ settledIn (now (m .entry)) h) ⌝ }
 {
     if is_moved(h) {
-        m.registers.clock = h.clock;
-        m.registers.counters = h.counters;
-        m.registers.exported = h.exported;
+        m.registers.clock = clock_after(h, m.registers.clock);
+        m.registers.counters = counters_after(h, m.registers.counters);
+        m.registers.exported = exported_after(h, m.registers.exported);
         return answer(h);
     }
     let held = hold(&mut m.receiver.held, h);

@@ -44,12 +44,12 @@ use Rattle.meter.specs.declared.Event.{Event}
 use Rattle.meter.specs.declared.Event.the-variants.{Character, Silence, Tick, Pulse, PowerUp, PulseOut, Unknown}
 use Rattle.meter.specs.Life.{eventOf, met, refusal, happened}
 use Rattle.settling.specs.declared.Heard.{Heard}
-use Rattle.settling.specs.Settling.{heardAs, heardBy, tickedBy, heardOf, settlesBy}
+use Rattle.settling.specs.Settling.{heardAs, heardBy, tickedBy, heardOf, settlesBy, clockAfter, countersAfter, exportedAfter}
 use Rattle.keeping.specs.declared.Shown.{Shown}
 use Rattle.keeping.specs.Shown.{checkedAs, shownAs}
 use Rattle.storing.specs.declared.Reply.{Reply}
 use Rattle.mistakes.specs.Samples.{serial, account, password, twos, newMeter, newEqm, heldIn}
-use Rattle.mistakes.specs.Events.{told, toldAll, toldMet, shortPassword, shortTried, signedOn, slowConfirmed, oddConfirmed, slowEntered, fastLeft, restarted, hurt, hurtLast, hurtAnew, clockSent, clockSet, monthEnds, noEdition, Receiving, Passing, Happening, Settling, Lent, Kept}
+use Rattle.mistakes.specs.Events.{told, toldAll, toldMet, shortPassword, shortTried, signedOn, slowConfirmed, oddConfirmed, slowEntered, fastLeft, restarted, hurt, hurtLast, hurtAnew, clockSent, clockSet, monthEnds, noEdition, oneUnit, Receiving, Passing, Happening, Settling, Lent, Kept}
 use Rattle.mistakes.proofs.Differing.{seen, number, flag, byte}
 
 -- the kinds of event, as numbers
@@ -63,7 +63,7 @@ kindOf (PulseOut units) = 5
 kindOf Unknown = 6
 
 pub events : Receiving × Passing × Happening × Settling × Lent × Kept
-unfolding ones damagedAt seven sent bccOf every stored holding between isDigit isLetter isPrintable matching sameText decimal valueFrom valueOf numberAt layoutText pattern agrees fits leap thirty daysIn realDate realTime realClock goodDigits isAccountCharacter goodAccount goodRow goodTable tableText tableRead closed frameOf bracketed setTable signOn limit firstGood heldGood markGood hurtGood receiverGood tablesGood isEdition tablesOf linkGood isFamily factsGood registersGood wellFormed hearing listening confirming framing startGood bareShape content framedShape enclosed inner tableTold toldBy entry bareVerdict framedVerdict shapeVerdict verdict isWired restSpeed refusedReply afterRefusal tried acted calls opticalCall wiredCall identified slowToo symbol lineEnded confirmed heard taken character serial account password twos newMeter heldIn told toldAll toldMet shortPassword shortTried signedOn restarted hurt hurtLast hurtAnew daysBefore dayNumber weekday nextSecond tableFor zoneIn counted afterSilence silence tick isEqm pulseRefused pulse powerUp newEqm heardAs heardBy heardOf settlesBy eventOf met refusal happened factsRefused madeOf checkedAs shownAs kindOf below zonesBelow counterEnd exportEnd bothBelow sumOf total factoryGood confirms wantsBlock wantsProgram confirmation speedSaid bareFrame speedGood slowConfirmed oddConfirmed slowEntered fastLeft clockSent clockSet monthEnds noEdition identification clockText setClock clockRead clockTold tickedBy nextMonth nextDay noTime unused periodGood everyPeriod archiveGood closes closingSignOn wantsPeriods monthStarts monthClosed newRows ownDay
+unfolding ones damagedAt seven sent bccOf every stored holding between isDigit isLetter isPrintable matching sameText decimal valueFrom valueOf numberAt layoutText pattern agrees fits leap thirty daysIn realDate realTime realClock goodDigits isAccountCharacter goodAccount goodRow goodTable tableText tableRead closed frameOf bracketed setTable signOn limit firstGood heldGood markGood hurtGood receiverGood tablesGood isEdition tablesOf linkGood isFamily factsGood registersGood wellFormed hearing listening confirming framing startGood bareShape content framedShape enclosed inner tableTold toldBy entry bareVerdict framedVerdict shapeVerdict verdict isWired restSpeed refusedReply afterRefusal tried acted calls opticalCall wiredCall identified slowToo symbol lineEnded confirmed heard taken character serial account password twos newMeter heldIn told toldAll toldMet shortPassword shortTried signedOn restarted hurt hurtLast hurtAnew daysBefore dayNumber weekday nextSecond tableFor zoneIn counted afterSilence silence tick isEqm pulseRefused pulse powerUp newEqm heardAs heardBy heardOf settlesBy clockAfter countersAfter exportedAfter oneUnit eventOf met refusal happened factsRefused madeOf checkedAs shownAs kindOf below zonesBelow counterEnd exportEnd bothBelow sumOf total factoryGood confirms wantsBlock wantsProgram confirmation speedSaid bareFrame speedGood slowConfirmed oddConfirmed slowEntered fastLeft clockSent clockSet monthEnds noEdition identification clockText setClock clockRead clockTold tickedBy nextMonth nextDay noTime unused periodGood everyPeriod archiveGood closes closingSignOn wantsPeriods monthStarts monthClosed newRows ownDay
 events = (
   record {
     receive = (seen (λ (a : Answer). a .number) refl, seen (λ (a : Answer). getD (a .next .registers .tables) 144 0) refl);
@@ -106,6 +106,8 @@ events = (
     look-refused = (seen (λ (h : Heard). h .number) refl, seen (λ (h : Heard). h .number) refl);
     settles-all = seen (λ (h : Heard). cond (h .settled) 1 0) refl;
     settles-a-month = seen (λ (h : Heard). h .number) refl;
+    stores-no-second = seen (λ (m : Meter). m .registers .clock .time .second) refl;
+    stores-in-as-out = seen (λ (m : Meter). m .registers .counters .total) refl;
     says-16-after-12 = seen (λ (h : Heard). h .number) refl;
   },
   record {

@@ -10,19 +10,21 @@ use Rattle.text.specs.Writing.{holding}
 use Rattle.frames.specs.Frames.{frameOf, bareFrame, onWire}
 use Rattle.frames.specs.Commands.{B0, P1, W1, bracketed, setClock, setTable}
 use Rattle.state.specs.Sizes.{replyRoom}
+use Rattle.state.specs.declared.Counters.{Counters}
 use Rattle.state.specs.declared.Meter.{Meter}
 use Rattle.state.specs.WellFormed.{familyOf}
 use Rattle.replies.specs.Fixed.{accepted, refused, identification, passwordAsk}
 use Rattle.receiving.specs.Receivers.{keptReceiver, restartedReceiver}
 use Rattle.state.specs.Making.{emptyReceiver, noCounters, factsOf, meterOf, madeOf}
-use Rattle.state.specs.Setting.{withHeld, withMark, withReceiver, inMode, withAttempts, withRegisters, withClock, withCounters, withZones, withTotal, withSpeed}
+use Rattle.state.specs.Setting.{withHeld, withMark, withReceiver, inMode, withAttempts, withRegisters, withClock, withCounters, withExported, withZones, withTotal, withSpeed}
 use Rattle.meter.specs.Outcomes.{Outcome, answerOf, atPlace, silent, unheard, saying, nak, ack}
 use Rattle.meter.specs.Character.{symbol, character}
 use Rattle.meter.specs.Events.{silence, tick, pulseRefused, pulse, powerUp}
 use Rattle.meter.specs.declared.Event.the-variants.{Character, Silence, Tick, Pulse, Unknown}
 use Rattle.meter.specs.Life.{eventOf, met, refusal, happened}
 use Rattle.receiving.specs.declared.Holding.the-variants.{Anew}
-use Rattle.settling.specs.Settling.{seenIn, standing, goesOn, refuses, movesOn, settles}
+use Rattle.settling.specs.declared.Change.the-variants.{Time, In}
+use Rattle.settling.specs.Settling.{seenIn, standing, goesOn, refuses, movesOn, settles, settledIn}
 use Rattle.keeping.specs.Shown.{checkedAs, shownAs}
 use Rattle.storing.specs.Replies.{replyOf}
 use Rattle.mistakes.specs.RuledOut.{RuledOut}
@@ -99,6 +101,10 @@ monthEnds = withRegisters newMeter (withClock (newMeter .registers) (clockAt 200
 -- [3]: of an edition that there is not
 unfoldable pub noEdition : Meter
 noEdition = meterOf (factsOf serial password 3 1 0) account (clockAt 2000 1 1 12 0 0)
+
+-- a unit in the first zone
+unfoldable pub oneUnit : Counters
+oneUnit = withTotal (withZones noCounters (1 ∷ 0 ∷ 0 ∷ 0 ∷ [])) 1
 
 -- of `meter`
 pub record Receiving : Type 0 where
@@ -202,7 +208,11 @@ pub record Settling : Type 0 where
   -- the last character of a frame settled, and nothing changed
   pub settles-all : RuledOut (settles told replyRoom (Character (sent (getD (frameOf W1 (setTable 7 twos)) 35 0)))) (standing (seenIn told) true 0 0)
   -- the second that starts a month settled
-  pub settles-a-month : RuledOut (settles monthEnds replyRoom Tick) (movesOn (seenIn monthEnds) (clockAt 2000 2 1 0 0 0) (monthEnds .registers .counters) (monthEnds .registers .exported))
+  pub settles-a-month : RuledOut (settles monthEnds replyRoom Tick) (movesOn (seenIn monthEnds) (Time (clockAt 2000 2 1 0 0 0)) (monthEnds .registers .counters))
+  -- a second that is answered and not stored
+  pub stores-no-second : RuledOut (settledIn newMeter (movesOn (seenIn newMeter) (Time (clockAt 2000 1 1 12 0 1)) (newMeter .registers .counters))) newMeter
+  -- what came in stored as what went out
+  pub stores-in-as-out : RuledOut (settledIn newMeter (movesOn (seenIn newMeter) In oneUnit)) (withRegisters newMeter (withExported (newMeter .registers) oneUnit))
   -- 12 for an edition that there is not
   pub says-16-after-12 : RuledOut (settles noEdition 2047 (Character 47)) (refuses (seenIn noEdition) 12)
 

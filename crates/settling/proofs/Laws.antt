@@ -31,12 +31,13 @@ use Rattle.meter.specs.Life.{met, refusal, happened}
 use Rattle.meter.proofs.Tests.{met-in-order, pulse-small, pulse-out-small}
 use Rattle.meter.proofs.Done.{heard-done, silence-done, start-done, month-done}
 use Rattle.settling.specs.declared.Seen.{Seen}
+use Rattle.settling.specs.declared.Change.the-variants.{Time}
 use Rattle.settling.specs.declared.Heard.{Heard}
 use Rattle.settling.specs.Acting.{deedOf}
-use Rattle.settling.specs.Settling.{seenIn, ends, refuses, movesOn, heardAs, heardBy, tickedBy, pulsedBy, toldBy, heardOf, settlesBy, settles, settledMeter, settledIn, settledOutcome, Countable}
+use Rattle.settling.specs.Settling.{seenIn, ends, refuses, movesOn, heardAs, heardBy, tickedBy, pulsedBy, toldBy, heardOf, settlesBy, settles, clockAfter, countersAfter, exportedAfter, settledMeter, settledIn, settledOutcome, Countable}
 
 heard-settled : (m : Meter) (c : ℕ) (damaged : Bool) (h : Hearing) → heardAs (seenIn m) c damaged h .settled ≡ true → heard m c damaged h ≡ settledOutcome m (heardAs (seenIn m) c damaged h)
-unfolding heardAs heard heldAfter
+unfolding heardAs heard heldAfter clockAfter countersAfter exportedAfter
 heard-settled m c damaged Drop e = refl
 heard-settled m c damaged Hold e = refl
 heard-settled m c damaged Restart e = refl
@@ -47,21 +48,21 @@ heard-settled m c damaged Frame e = absurd (let z : _≡_ {A = ℕ} 0 1 = cc in 
 heard-settled m c damaged TooLong e = absurd (let z : _≡_ {A = ℕ} 0 1 = cc in omega arith)
 
 tick-settled : (m : Meter) → tickedBy (seenIn m) .settled ≡ true → afterTick m ≡ settledOutcome m (tickedBy (seenIn m))
-unfolding tickedBy monthClosed heldAfter
+unfolding tickedBy monthClosed heldAfter clockAfter countersAfter exportedAfter
 tick-settled m = go (monthStarts next)
   where
     next : Clock
     next = nextSecond (m .registers .clock)
 
     went : Bool → Heard
-    went b = cond b (ends (seenIn m)) (movesOn (seenIn m) next (m .registers .counters) (m .registers .exported))
+    went b = cond b (ends (seenIn m)) (movesOn (seenIn m) (Time next) (m .registers .counters))
 
     go : (b : Bool) → went b .settled ≡ true → silent 1 (withRegisters m (cond b (closing (withClock (m .registers) next)) (withClock (m .registers) next))) ≡ settledOutcome m (went b)
     go true s = absurd (let z : _≡_ {A = ℕ} 0 1 = cc in omega arith)
     go false s = refl
 
 pulse-settled : (m : Meter) (out : Bool) (units : ℕ) → afterPulse m out units ≡ settledOutcome m (pulsedBy (seenIn m) (m .registers .tables) out units)
-unfolding pulsedBy heldAfter zoneIn
+unfolding pulsedBy heldAfter clockAfter countersAfter exportedAfter zoneIn
 pulse-settled m true units = refl
 pulse-settled m false units = refl
 
@@ -96,7 +97,7 @@ pub countable : (m : Meter) → wellFormed m ≡ true → Countable (seenIn m)
 countable m h = (month-low m h, (counters-good m h, exported-good m h))
 
 pub settled-is : (m : Meter) (room : ℕ) (e : Event) → settles m room e .settled ≡ true → met m room e ≡ settledOutcome m (settles m room e)
-unfolding settlesBy heldAfter heardIn
+unfolding settlesBy heldAfter clockAfter countersAfter exportedAfter heardIn
 settled-is m room e s = met-in-order m room e ∙ go (isEdition (editionOf m)) (refusal (familyOf m) room e) (eqb (refusal (familyOf m) room e) 0) (wellFormed m) (happened m e) (heardIn m e) (event-settled m e) s
   where
     not : ℕ → Heard
@@ -116,7 +117,7 @@ Apart : Meter → Heard → Type 0
 Apart m h = settledMeter m h ≡ settledIn m h
 
 heard-apart : (m : Meter) (c : ℕ) (damaged : Bool) (h : Hearing) → Apart m (heardAs (seenIn m) c damaged h)
-unfolding Apart heardAs heldAfter
+unfolding Apart heardAs heldAfter clockAfter countersAfter exportedAfter
 heard-apart m c damaged Drop = refl
 heard-apart m c damaged Hold = refl
 heard-apart m c damaged Restart = refl
@@ -127,23 +128,23 @@ heard-apart m c damaged Frame = refl
 heard-apart m c damaged TooLong = refl
 
 tick-apart : (m : Meter) → Apart m (tickedBy (seenIn m))
-unfolding Apart tickedBy heldAfter
+unfolding Apart tickedBy heldAfter clockAfter countersAfter exportedAfter
 tick-apart m = go (monthStarts (nextSecond (m .registers .clock)))
   where
     went : Bool → Heard
-    went b = cond b (ends (seenIn m)) (movesOn (seenIn m) (nextSecond (m .registers .clock)) (m .registers .counters) (m .registers .exported))
+    went b = cond b (ends (seenIn m)) (movesOn (seenIn m) (Time (nextSecond (m .registers .clock))) (m .registers .counters))
 
     go : (b : Bool) → settledMeter m (went b) ≡ settledIn m (went b)
     go true = refl
     go false = refl
 
 pulse-apart : (m : Meter) (out : Bool) (units : ℕ) → Apart m (pulsedBy (seenIn m) (m .registers .tables) out units)
-unfolding Apart pulsedBy heldAfter
+unfolding Apart pulsedBy heldAfter clockAfter countersAfter exportedAfter
 pulse-apart m true units = refl
 pulse-apart m false units = refl
 
 event-apart : (m : Meter) (e : Event) → Apart m (heardIn m e)
-unfolding Apart heardIn heardOf heardBy heldAfter
+unfolding Apart heardIn heardOf heardBy heldAfter clockAfter countersAfter exportedAfter
 event-apart m (Character b) = heard-apart m (symbol b) (damagedAt b) (hearing (m .mode) (m .receiver .count) (lastHeld (m .receiver)) (symbol b))
 event-apart m Silence = refl
 event-apart m Tick = tick-apart m
@@ -153,7 +154,7 @@ event-apart m (PulseOut units) = pulse-apart m true units
 event-apart m Unknown = refl
 
 pub settled-apart : (m : Meter) (room : ℕ) (e : Event) → settledMeter m (settles m room e) ≡ settledIn m (settles m room e)
-unfolding Apart settlesBy heldAfter heardIn
+unfolding Apart settlesBy heldAfter clockAfter countersAfter exportedAfter heardIn
 settled-apart m room e = go (isEdition (editionOf m)) (refusal (familyOf m) room e) (eqb (refusal (familyOf m) room e) 0) (wellFormed m) (heardIn m e) (event-apart m e)
   where
     not : ℕ → Heard
@@ -210,7 +211,7 @@ tick-left m = go (monthStarts next)
     next = nextSecond (m .registers .clock)
 
     went : Bool → Heard
-    went b = cond b (ends (seenIn m)) (movesOn (seenIn m) next (m .registers .counters) (m .registers .exported))
+    went b = cond b (ends (seenIn m)) (movesOn (seenIn m) (Time next) (m .registers .counters))
 
     go : (b : Bool) → went b .settled ≡ false → silent 1 (withRegisters m (cond b (closing (withClock (m .registers) next)) (withClock (m .registers) next))) ≡ done m (monthStarted (standingOf m) next)
     go true s = month-done m next

@@ -10,6 +10,7 @@ use Rattle.values.specs.Edition.{isEdition}
 use Rattle.state.specs.declared.Receiver.{Receiver}
 use Rattle.state.specs.declared.Meter.{Meter}
 use Rattle.state.specs.declared.Counters.{Counters}
+use Rattle.state.specs.declared.Registers.{Registers}
 use Rattle.clock.specs.declared.Clock.{Clock}
 use Rattle.clock.specs.Seconds.{nextSecond}
 use Rattle.tariff.specs.Zones.{zoneAt, counted}
@@ -29,6 +30,8 @@ use Rattle.meter.specs.declared.Event.{Event}
 use Rattle.meter.specs.declared.Event.the-variants.{Character, Silence, Tick, Pulse, PowerUp, PulseOut, Unknown}
 use Rattle.meter.specs.Life.{refusal}
 use Rattle.settling.specs.declared.Seen.{Seen}
+use Rattle.settling.specs.declared.Change.{Change}
+use Rattle.settling.specs.declared.Change.the-variants.{Stay, Time, In, Out}
 use Rattle.settling.specs.declared.Heard.{Heard}
 use Rattle.settling.specs.declared.Told.{Told}
 
@@ -59,9 +62,8 @@ standing s settled number speed =
       count = s .count;
       mark = s .mark;
       place = s .place;
-      clock = s .clock;
+      change = Stay;
       counters = s .counters;
-      exported = s .exported;
     }
 
 -- answer 0, and the receiver after the character: what it holds, how many, and the mark with its place
@@ -75,9 +77,8 @@ goesOn s holding count mark place =
       count = count;
       mark = mark;
       place = place;
-      clock = s .clock;
+      change = Stay;
       counters = s .counters;
-      exported = s .exported;
     }
 
 -- the character ends a line, a confirmation or a frame, or is one too many of a frame: the meter has to act
@@ -88,9 +89,9 @@ ends s = standing s false 0 0
 abbrev pub refuses : Seen → ℕ → Heard
 refuses s number = standing s true number 0
 
--- answer 1, with this clock and these counters
-abbrev pub movesOn : Seen → Clock → Counters → Counters → Heard
-movesOn s clock counters exported =
+-- answer 1, and this of clock and counters
+abbrev pub movesOn : Seen → Change → Counters → Heard
+movesOn s change counters =
     record {
       settled = true;
       number = 1;
@@ -99,9 +100,8 @@ movesOn s clock counters exported =
       count = s .count;
       mark = s .mark;
       place = s .place;
-      clock = clock;
+      change = change;
       counters = counters;
-      exported = exported;
     }
 
 unfoldable pub heardAs : Seen → ℕ → Bool → Hearing → Heard
@@ -120,14 +120,14 @@ heardBy s held b = heardAs s (symbol b) (damagedAt b) (hearing (s .mode) (s .cou
 
 -- a second moves the clock alone, but for the one that starts a month
 unfoldable pub tickedBy : Seen → Heard
-tickedBy s = cond (monthStarts (nextSecond (s .clock))) (ends s) (movesOn s (nextSecond (s .clock)) (s .counters) (s .exported))
+tickedBy s = cond (monthStarts (nextSecond (s .clock))) (ends s) (movesOn s (Time (nextSecond (s .clock))) (s .counters))
 
 -- a pulse moves the counters of its direction
 unfoldable pub pulsedBy : Seen → List ℕ → Bool → ℕ → Heard
 pulsedBy s tables out units =
     cond out
-    (movesOn s (s .clock) (s .counters) (counted (exportEnd (s .family)) (s .exported) (zoneAt tables (s .edition) (s .clock)) units))
-    (movesOn s (s .clock) (counted (counterEnd (s .family)) (s .counters) (zoneAt tables (s .edition) (s .clock)) units) (s .exported))
+    (movesOn s Out (counted (exportEnd (s .family)) (s .exported) (zoneAt tables (s .edition) (s .clock)) units))
+    (movesOn s In (counted (counterEnd (s .family)) (s .counters) (zoneAt tables (s .edition) (s .clock)) units))
 
 -- whether an event is a pulse, its direction and its units
 unfoldable pub toldBy : Event → Told
@@ -169,18 +169,37 @@ Countable s =
 abbrev pub receiverAfter : Receiver → Heard → Receiver
 receiverAfter r h = record { count = h .count; held = heldAfter (h .holding) (r .held); mark = h .mark; place = h .place }
 
--- the meter with that receiver, the clock and the counters of the event, and all else as it was
+-- clock and counters after a settled event, as `Change` says it: of the counters that it has, those of the direction that is counted
+unfoldable pub clockAfter : Change → Clock → Clock
+clockAfter Stay clock = clock
+clockAfter (Time next) clock = next
+clockAfter In clock = clock
+clockAfter Out clock = clock
+
+unfoldable pub countersAfter : Change → Counters → Counters → Counters
+countersAfter Stay next counters = counters
+countersAfter (Time clock) next counters = counters
+countersAfter In next counters = next
+countersAfter Out next counters = counters
+
+unfoldable pub exportedAfter : Change → Counters → Counters → Counters
+exportedAfter Stay next exported = exported
+exportedAfter (Time clock) next exported = exported
+exportedAfter In next exported = exported
+exportedAfter Out next exported = next
+
+abbrev pub registersAfter : Registers → Heard → Registers
+registersAfter g h =
+    withExported (withCounters (withClock g (clockAfter (h .change) (g .clock))) (countersAfter (h .change) (h .counters) (g .counters)))
+    (exportedAfter (h .change) (h .counters) (g .exported))
+
+-- the meter with that receiver, clock and counters, and all else as it was
 abbrev pub settledMeter : Meter → Heard → Meter
-settledMeter m h =
-    withRegisters (withReceiver m (receiverAfter (m .receiver) h))
-    (withExported (withCounters (withClock (m .registers) (h .clock)) (h .counters)) (h .exported))
+settledMeter m h = withRegisters (withReceiver m (receiverAfter (m .receiver) h)) (registersAfter (m .registers) h)
 
 -- the meter with only that stored which an event can change: of a second or a pulse, answered 1, clock and counters; of any other the receiver
 abbrev pub settledIn : Meter → Heard → Meter
-settledIn m h =
-    cond (eqb (h .number) 1)
-    (withRegisters m (withExported (withCounters (withClock (m .registers) (h .clock)) (h .counters)) (h .exported)))
-    (withReceiver m (receiverAfter (m .receiver) h))
+settledIn m h = cond (eqb (h .number) 1) (withRegisters m (registersAfter (m .registers) h)) (withReceiver m (receiverAfter (m .receiver) h))
 
 -- all that comes of it
 abbrev pub settledOutcome : Meter → Heard → Outcome

@@ -42,7 +42,16 @@ pub struct Seen {
     pub exported: Counters,
 }
 
-// What an event does: where it is settled, the answer's number and speed, and the next receiver, clock and counters; otherwise the meter has to act.
+// What becomes of clock and counters: they stay, the clock shows another time, or what came in or went out is counted.
+pub enum Change {
+    Stay,
+    Time(Clock),
+    In,
+    Out,
+}
+
+// What an event does: where it is settled, the answer's number and speed, the next receiver, and what becomes of clock and counters, with those of the
+// direction that is counted; otherwise the meter has to act.
 pub struct Heard {
     pub settled: bool,
     pub number: u8,
@@ -51,9 +60,8 @@ pub struct Heard {
     pub count: u8,
     pub mark: u8,
     pub place: u8,
-    pub clock: Clock,
+    pub change: Change,
     pub counters: Counters,
-    pub exported: Counters,
 }
 
 // Whether an event is a pulse, its direction and its units.
@@ -67,9 +75,7 @@ pub struct Told {
 fn stand(s: Seen, settled: bool, number: u8, speed: u8) -> Heard
     ensures { λ r. ⌜ r ≡ standing s settled number speed ⌝ }
 {
-    let clock = s.clock;
     let counters = s.counters;
-    let exported = s.exported;
     Heard {
         settled,
         number,
@@ -78,9 +84,8 @@ fn stand(s: Seen, settled: bool, number: u8, speed: u8) -> Heard
         count: s.count,
         mark: s.mark,
         place: s.place,
-        clock,
+        change: Change::Stay,
         counters,
-        exported,
     }
 }
 
@@ -88,9 +93,7 @@ fn stand(s: Seen, settled: bool, number: u8, speed: u8) -> Heard
 fn go_on(s: Seen, holding: Holding, count: u8, mark: u8, place: u8) -> Heard
     ensures { λ r. ⌜ r ≡ goesOn s holding count mark place ⌝ }
 {
-    let clock = s.clock;
     let counters = s.counters;
-    let exported = s.exported;
     Heard {
         settled: true,
         number: 0,
@@ -99,15 +102,14 @@ fn go_on(s: Seen, holding: Holding, count: u8, mark: u8, place: u8) -> Heard
         count,
         mark,
         place,
-        clock,
+        change: Change::Stay,
         counters,
-        exported,
     }
 }
 
-// Answer 1, with this clock and these counters.
-fn move_on(s: Seen, clock: Clock, counters: Counters, exported: Counters) -> Heard
-    ensures { λ r. ⌜ r ≡ movesOn s clock counters exported ⌝ }
+// Answer 1, and this of clock and counters.
+fn move_on(s: Seen, change: Change, counters: Counters) -> Heard
+    ensures { λ r. ⌜ r ≡ movesOn s change counters ⌝ }
 {
     Heard {
         settled: true,
@@ -117,9 +119,8 @@ fn move_on(s: Seen, clock: Clock, counters: Counters, exported: Counters) -> Hea
         count: s.count,
         mark: s.mark,
         place: s.place,
-        clock,
+        change,
         counters,
-        exported,
     }
 }
 
@@ -160,7 +161,7 @@ fn tick(s: Seen) -> Heard
     if tariff::month_starts(next) {
         return stand(s, false, 0, 0);
     }
-    move_on(s, next, s.counters, s.exported)
+    move_on(s, Change::Time(next), s.counters)
 }
 
 // A pulse, counted in its direction.
@@ -171,10 +172,10 @@ fn pulse(s: Seen, tables: &[u8; ALL_ROWS], out: bool, units: u32) -> Heard
     let zone = tariff::zone_at(tables, s.edition, s.clock);
     if out {
         let x = tariff::count(s.exported, zone, units, family::export_end(s.family));
-        return move_on(s, s.clock, s.counters, x);
+        return move_on(s, Change::Out, x);
     }
     let c = tariff::count(s.counters, zone, units, family::counter_end(s.family));
-    move_on(s, s.clock, c, s.exported)
+    move_on(s, Change::In, c)
 }
 
 fn no_pulse() -> Told
@@ -230,7 +231,58 @@ fn hear_or_leave<'a>(
     }
 }
 
-// An event, told by a number and a value, with so much room for a reply.
+// A pulse, with so much room for a reply. It goes its own way from the first test on, so that no other event's way has counters to carry.
+fn settle_pulse<'a>(
+    s: Seen,
+    formed: bool,
+    held: &'a [u8; HELD_PLACES as usize],
+    tables: &'a [u8; ALL_ROWS],
+    e: Event,
+    room: usize,
+) -> Heard
+    requires { ⌜ (formed ≡ true → Countable s) × (toldBy e .pulse ≡ true) ⌝ }
+    ensures { λ r. ⌜ r ≡ settlesBy s formed (now (held .entry)) (now (tables .entry)) room e ⌝ }
+{
+    if !values::is_edition(s.edition) {
+        return stand(s, true, 16, 0);
+    }
+    let number = events::refusal_of(e, s.family, room);
+    if number != 0 {
+        return stand(s, true, number, 0);
+    }
+    if formed {
+        let told = told_by(e);
+        return pulse(s, tables, told.out, told.units);
+    }
+    stand(s, true, 14, 0)
+}
+
+// Any other event.
+fn settle_other<'a>(
+    s: Seen,
+    formed: bool,
+    held: &'a [u8; HELD_PLACES as usize],
+    tables: &'a [u8; ALL_ROWS],
+    e: Event,
+    room: usize,
+) -> Heard
+    requires { ⌜ toldBy e .pulse ≡ false ⌝ }
+    ensures { λ r. ⌜ r ≡ settlesBy s formed (now (held .entry)) (now (tables .entry)) room e ⌝ }
+{
+    if !values::is_edition(s.edition) {
+        return stand(s, true, 16, 0);
+    }
+    let number = events::refusal_of(e, s.family, room);
+    if number != 0 {
+        return stand(s, true, number, 0);
+    }
+    if formed {
+        return hear_or_leave(s, held, tables, e);
+    }
+    stand(s, true, 14, 0)
+}
+
+// An event, told by a number and a value.
 fn settle<'a>(
     s: Seen,
     formed: bool,
@@ -243,22 +295,12 @@ fn settle<'a>(
     requires { ⌜ (formed ≡ true → Countable s) ⌝ }
     ensures { λ r. ⌜ r ≡ settlesBy s formed (now (held .entry)) (now (tables .entry)) room (eventOf kind value) ⌝ }
 {
-    if !values::is_edition(s.edition) {
-        return stand(s, true, 16, 0);
-    }
     let e = events::event_of(kind, value);
-    let number = events::refusal_of(e, s.family, room);
-    if number != 0 {
-        return stand(s, true, number, 0);
+    let told = told_by(e);
+    if told.pulse {
+        return settle_pulse(s, formed, held, tables, e, room);
     }
-    if formed {
-        let told = told_by(e);
-        if told.pulse {
-            return pulse(s, tables, told.out, told.units);
-        }
-        return hear_or_leave(s, held, tables, e);
-    }
-    stand(s, true, 14, 0)
+    settle_other(s, formed, held, tables, e, room)
 }
 
 // The same of a record that is lent.
