@@ -8,7 +8,7 @@ ghost use Rattle.line.specs.Quoted.{chars};
 ghost use Rattle.clock.specs.Seconds.{realClock};
 ghost use Rattle.values.specs.Edition.{tablesOf, rowLength};
 ghost use Rattle.values.specs.Registers.{goodSerial, goodPassword, goodAccount, goodRow, goodTable, goodZone};
-ghost use Rattle.values.specs.Texts.{serialText, wiredText, tableText, clockText};
+ghost use Rattle.values.specs.Texts.{tableText, clockText};
 ghost use Rattle.frames.specs.Frames.{sealed, frameOf, bareFrame, onWire};
 ghost use Rattle.frames.specs.Commands.{B0, P1, R1, W1, askClock, askSerial, askAccount, lettered, askEnergy, askExport, askTable, setClock, setAccount, setTable};
 ghost use Rattle.frames.specs.Session.{signOn, closingSignOn, signOnTo, wiredSignOn, confirmation, goodSpeed, enterData, passwordData};
@@ -101,6 +101,18 @@ fn aside(buf: &mut [u8], start: &[u8], content: &[u8]) -> Built
     built
 }
 
+// A command that lies ready with its parity.
+fn put_made(buf: &mut [u8], made: &[u8]) -> Built
+    requires { ⌜ length (now made) ≤ length (now buf) ⌝ }
+    ensures { λ r. ⌜ Made (now (buf .entry)) (now (made .entry)) r (now (buf .exit)) ⌝ }
+{
+    let n = text::put(buf, 0, made);
+    Built {
+        number: DONE,
+        length: n,
+    }
+}
+
 // A frame where the buffer has room and the field lies within its rule; else refused, and nothing is written.
 fn build(buf: &mut [u8], good: bool, start: &[u8], content: &[u8]) -> Built
     requires { ⌜ Small good (now start) (now content) ⌝ }
@@ -135,24 +147,57 @@ pub fn close(buf: &mut [u8]) -> Built
     line_of(buf, b"/C", b"", b"!\r\n")
 }
 
-// The serial as it is shown.
-fn shown_serial(serial: &[u8]) -> [u8; 11]
+// The sign-on to a serial, as it is sent: its first eight digits and its last have their parity at once.
+fn sent_call(serial: &[u8]) -> [u8; 16]
     requires { ⌜ length (now serial) ≡ 10 ⌝ }
-    ensures { λ r. ⌜ r ≡ serialText (now (serial .entry)) ⌝ }
+    ensures { λ r. ⌜ r ≡ onWire (signOnTo (now (serial .entry))) ⌝ }
 {
-    let mut shown = [0u8; 11];
-    values::writing::put_serial(&mut shown, 0, serial);
-    shown
+    let a = eights::sent_eight(serial, 0);
+    let z = eights::sent_eight(serial, 2);
+    [
+        0xAF,
+        0x3F,
+        a[0],
+        a[1],
+        a[2],
+        0xA0,
+        z[1],
+        z[2],
+        z[3],
+        z[4],
+        z[5],
+        z[6],
+        z[7],
+        0x21,
+        0x8D,
+        0x0A,
+    ]
 }
 
-// The serial as the wired link has it.
-fn wired_serial(serial: &[u8]) -> [u8; 11]
+// The same of the wired link.
+fn sent_wired(serial: &[u8]) -> [u8; 15]
     requires { ⌜ length (now serial) ≡ 10 ⌝ }
-    ensures { λ r. ⌜ r ≡ wiredText (now (serial .entry)) ⌝ }
+    ensures { λ r. ⌜ r ≡ onWire (wiredSignOn (now (serial .entry))) ⌝ }
 {
-    let mut shown = [0u8; 11];
-    values::writing::put_wired(&mut shown, 0, serial);
-    shown
+    let a = eights::sent_eight(serial, 0);
+    let z = eights::sent_eight(serial, 2);
+    [
+        0xAF,
+        0x41,
+        a[0],
+        a[1],
+        a[2],
+        0x2E,
+        z[1],
+        z[2],
+        z[3],
+        z[4],
+        z[5],
+        z[6],
+        z[7],
+        0x8D,
+        0x0A,
+    ]
 }
 
 // The sign-on to the meter of a serial, given by its ten digits.
@@ -168,7 +213,7 @@ pub fn sign_on_to(buf: &mut [u8], serial: &[u8]) -> Built
     if !values::is_digits(serial, SERIAL) {
         return refused();
     }
-    line_of(buf, b"/?", &shown_serial(serial), b"!\r\n")
+    put_made(buf, &sent_call(serial))
 }
 
 // The sign-on on the wired link, to the meter of a serial or, with zeros, to whichever is there.
@@ -184,7 +229,7 @@ pub fn sign_on_wired(buf: &mut [u8], serial: &[u8]) -> Built
     if !values::is_digits(serial, SERIAL) {
         return refused();
     }
-    line_of(buf, b"/A", &wired_serial(serial), b"\r\n")
+    put_made(buf, &sent_wired(serial))
 }
 
 // The confirmation, with the character '0' (300 baud) or '5' (9600) as speed, and with '0', '1', '6' or '7'.
@@ -210,6 +255,33 @@ pub fn enter(buf: &mut [u8]) -> Built
     build(buf, true, b"\x01P1\x02(", b"")
 }
 
+// P1 with a password, as it is sent.
+fn sent_password(password: &[u8]) -> [u8; 16]
+    requires { ⌜ length (now password) ≡ 8 ⌝ }
+    ensures { λ r. ⌜ r ≡ onWire (frameOf P1 (passwordData (now (password .entry)))) ⌝ }
+{
+    let p = eights::sent_eight(password, 0);
+    let sum = eights::bcc_eight(password, 0) ^ line::bcc(b"P1\x02()\x03");
+    [
+        0x81,
+        0x50,
+        0xB1,
+        0x82,
+        0x28,
+        p[0],
+        p[1],
+        p[2],
+        p[3],
+        p[4],
+        p[5],
+        p[6],
+        p[7],
+        0xA9,
+        0x03,
+        line::wire(sum),
+    ]
+}
+
 // P1 with a password of eight digits.
 pub fn password(buf: &mut [u8], password: &[u8]) -> Built
     ensures { λ r. ⌜ Builds (now (buf .entry)) (goodPassword (now (password .entry))) (onWire (frameOf P1 (passwordData (now (password .entry))))) r (now (buf .exit)) ⌝ }
@@ -223,7 +295,7 @@ pub fn password(buf: &mut [u8], password: &[u8]) -> Built
     if !values::is_digits(password, PASSWORD) {
         return refused();
     }
-    frame(buf, b"\x01P1\x02(", password)
+    put_made(buf, &sent_password(password))
 }
 
 // R1 for the clock.
@@ -353,7 +425,7 @@ pub fn write_account(buf: &mut [u8], account: &[u8]) -> Built
     if account.len() != ACCOUNT {
         return refused();
     }
-    if !values::is_account(account) {
+    if !values::is_whole_account(account) {
         return refused();
     }
     aside(buf, b"\x01W1\x02K(", account)

@@ -1,10 +1,11 @@
 -- Characters taken together as one number, and a form's test on that number.
 use mathlib.Core.Bool.{Bool, cond, _&&_}
 use mathlib.Core.List.{List, [], _∷_}
-use Prim.Native.Nat.{ℕ, _+_, _*_, _/_, _%_, _^_}
+use Prim.Native.Nat.{ℕ, zero, suc, _+_, _*_, _/_, _%_, _^_}
 use lib.Bits.{bitAnd}
 use lib.Dec.{eqb, ltb}
 use Rattle.line.specs.Quoted.{char}
+use Rattle.line.specs.Balance.{folded}
 
 -- the first character lowest, each in a lane of 256 values
 unfoldable pub lanes : List ℕ → ℕ
@@ -31,3 +32,12 @@ paired d = d * 10 + d / 256
 
 unfoldable pub isByte : ℕ → Bool
 isByte c = ltb c 256
+
+-- lanes of seven bits, each with the bit on top that evens them: of the fold, a lane's lowest bit tells it
+unfoldable pub evened : ℕ → ℕ
+evened m = bitAnd (folded m) 0x0101010101010101 * 128 + m
+
+-- so many lanes, the lowest first
+unfoldable pub unlaned : ℕ → ℕ → List ℕ
+unlaned zero w = []
+unlaned (suc n) w = w % 256 ∷ unlaned n (w / 256)

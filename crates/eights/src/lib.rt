@@ -1,11 +1,13 @@
-// Eight characters as one number: a form tested on all of them at once, and the numbers of two digits in it.
+// Eight characters as one number: a form tested on all of them at once, the numbers of two digits in it, parity and BCC.
 ghost use mathlib.Core.Path.{_≡_};
 ghost use mathlib.Core.Bool.{true};
-ghost use mathlib.Core.List.{[], _∷_};
+ghost use mathlib.Core.List.{[], _∷_, map};
 ghost use Prim.Native.Nat.{_+_, _-_, _*_, _≤_, _<_, _^_};
 ghost use lib.ListN.{length, take, drop};
 ghost use Rattle.line.specs.Runs.{every};
-ghost use Rattle.eights.specs.Lanes.{isByte, lanes, keeps, paired};
+ghost use Rattle.line.specs.Characters.{sent};
+ghost use Rattle.line.specs.Checksum.{bccOf};
+ghost use Rattle.eights.specs.Lanes.{isByte, lanes, keeps, paired, evened, unlaned};
 
 fn wide(c: u8) -> u64
     ensures { λ r. ⌜ (r ≡ c) × (r < 256) ⌝ }
@@ -56,4 +58,50 @@ pub fn pairs(w: u64, low: u64) -> u64
 {
     let d = w - low;
     d * 10 + d / 256
+}
+
+// Parity on eight lanes of seven bits.
+fn even(m: u64) -> u64
+    requires { ⌜ m ≤ 0x7F7F7F7F7F7F7F7F ⌝ }
+    ensures { λ r. ⌜ r ≡ evened m ⌝ }
+{
+    let four = m ^ m / 16;
+    let two = four ^ four / 4;
+    ((two ^ two / 2) & 0x0101_0101_0101_0101) * 128 + m
+}
+
+// The lanes of a number: of all eight in a row the compiler makes one store.
+pub fn apart(w: u64) -> [u8; 8]
+    ensures { λ r. ⌜ r ≡ unlaned 8 w ⌝ }
+{
+    [
+        (w % 256) as u8,
+        (w / 256 % 256) as u8,
+        (w / 256 / 256 % 256) as u8,
+        (w / 256 / 256 / 256 % 256) as u8,
+        (w / 256 / 256 / 256 / 256 % 256) as u8,
+        (w / 256 / 256 / 256 / 256 / 256 % 256) as u8,
+        (w / 256 / 256 / 256 / 256 / 256 / 256 % 256) as u8,
+        (w / 256 / 256 / 256 / 256 / 256 / 256 / 256 % 256) as u8,
+    ]
+}
+
+// The eight characters from a place on, as they are sent.
+pub fn sent_eight(s: &[u8], at: usize) -> [u8; 8]
+    requires { ⌜ at + 8 ≤ length (now s) ⌝ }
+    ensures { λ r. ⌜ r ≡ map sent (take 8 (drop at (now (s .entry)))) ⌝ }
+{
+    let w = eight(s, at);
+    apart(even(w & 0x7F7F_7F7F_7F7F_7F7F))
+}
+
+// Their BCC: one half upon the other, three times.
+pub fn bcc_eight(s: &[u8], at: usize) -> u8
+    requires { ⌜ at + 8 ≤ length (now s) ⌝ }
+    ensures { λ r. ⌜ r ≡ bccOf (take 8 (drop at (now (s .entry)))) ⌝ }
+{
+    let w = eight(s, at);
+    let four = w % 0x1_0000_0000 ^ w / 0x1_0000_0000;
+    let two = four % 0x1_0000 ^ four / 0x1_0000;
+    ((two % 0x100 ^ two / 0x100) % 128) as u8
 }

@@ -5,6 +5,7 @@ ghost use Rattle.clock.specs.Seconds.{dateOf};
 ghost use Rattle.values.specs.Reading.{dateRead, timeRead, stampRead, energyRead};
 ghost use Rattle.values.specs.Serials.{serialRead, accountRead, rowRead};
 ghost use Rattle.headlink.specs.Telling.{valueNumber, Tells, eqmTold};
+use values::reading::CounterRead;
 
 pub const SHORT: u8 = 26;
 
@@ -36,19 +37,26 @@ fn tell(out: &mut [u8], ok: bool, characters: &[u8]) -> u8
 pub extern "C" fn dirgemist_head_value_serial(value: &[u8], out: &mut [u8]) -> u8
     ensures { λ r. ⌜ Tells (now (out .entry)) 10 (serialRead (now (value .entry)) .ok) (serialRead (now (value .entry)) .serial) r (now (out .exit)) ⌝ }
 {
-    let v = values::characters::read_serial(value);
-    let characters = v.serial;
-    tell(out, v.ok, &characters)
+    if values::characters::is_serial(value) {
+        let serial = values::characters::digits_of(value);
+        return tell(out, true, &serial);
+    }
+    tell(out, false, &[0u8; 10])
 }
 
-// An account's ten characters.
+// An account's ten characters: copied first, since what is lent might lie within what is written.
 #[no_mangle]
 pub extern "C" fn dirgemist_head_value_account(value: &[u8], out: &mut [u8]) -> u8
     ensures { λ r. ⌜ Tells (now (out .entry)) 10 (accountRead (now (value .entry)) .ok) (accountRead (now (value .entry)) .account) r (now (out .exit)) ⌝ }
 {
-    let v = values::characters::read_account(value);
-    let characters = v.account;
-    tell(out, v.ok, &characters)
+    if value.len() != 10 {
+        return tell(out, false, &[0u8; 10]);
+    }
+    let account = values::characters::ten_of(value);
+    if values::is_whole_account(&account) {
+        return tell(out, true, &account);
+    }
+    tell(out, false, &[0u8; 10])
 }
 
 // A row's 24 characters.
@@ -56,9 +64,14 @@ pub extern "C" fn dirgemist_head_value_account(value: &[u8], out: &mut [u8]) -> 
 pub extern "C" fn dirgemist_head_value_row(value: &[u8], out: &mut [u8]) -> u8
     ensures { λ r. ⌜ Tells (now (out .entry)) 24 (rowRead (now (value .entry)) .ok) (rowRead (now (value .entry)) .row) r (now (out .exit)) ⌝ }
 {
-    let v = values::characters::read_row(value);
-    let characters = v.row;
-    tell(out, v.ok, &characters)
+    if value.len() != values::ROW_LENGTH {
+        return tell(out, false, &[0u8; 24]);
+    }
+    let row = values::characters::row_of(value);
+    if values::is_row(&row) {
+        return tell(out, true, &row);
+    }
+    tell(out, false, &[0u8; 24])
 }
 
 // A date.
@@ -140,12 +153,25 @@ pub struct Counted {
     pub count: u32,
 }
 
+// The decimals are told apart once, and each has its code.
+fn read_family(decimals: u8, value: &[u8]) -> CounterRead
+    ensures { λ r. ⌜ r ≡ energyRead decimals (now (value .entry)) ⌝ }
+{
+    if decimals == 2 {
+        return values::reading::read_counter(value, 2);
+    }
+    if decimals == 3 {
+        return values::reading::read_counter(value, 3);
+    }
+    values::reading::read_counter(value, decimals)
+}
+
 fn read_eqm(decimals: u8, value: &[u8]) -> Counted
     ensures { λ r. ⌜ r ≡ eqmTold decimals (now (value .entry)) ⌝ }
 {
     let known = values::family::is_family(decimals) & values::family::is_eqm(decimals);
     if known {
-        let v = values::reading::read_counter(value, decimals);
+        let v = read_family(decimals, value);
         return Counted {
             number: number(v.ok),
             count: v.number,

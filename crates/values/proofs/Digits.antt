@@ -17,7 +17,7 @@ use Rattle.eights.proofs.Lanes.{same-test}
 use Rattle.eights.proofs.Windows.{window, window-kept}
 use Rattle.values.specs.Registers.{goodDigits}
 
-or-none : (a : Bool) → (a || false) ≡ a
+pub or-none : (a : Bool) → (a || false) ≡ a
 or-none true = refl
 or-none false = refl
 

@@ -7,3 +7,4 @@ pub mod Serials
 pub mod Eights
 pub mod Counters
 pub mod Digits
+pub mod Around

@@ -1,9 +1,11 @@
 // Serial, account and row read back from their texts to the characters that made them; zeros where a text has not their form.
 ghost use mathlib.Core.Path.{_≡_};
+ghost use mathlib.Core.Bool.{true};
 ghost use mathlib.Core.List.{_++_};
 ghost use lib.ListN.{length, take, drop};
 ghost use Rattle.values.specs.Edition.{rowLength};
 ghost use Rattle.text.specs.Layout.{pattern, fits};
+ghost use Rattle.eights.specs.Lanes.{lanes};
 ghost use Rattle.values.specs.Serials.{serialForm, noSerial, noAccount, noRow, serialRead, accountRead, rowRead};
 
 pub struct SerialRead {
@@ -35,24 +37,35 @@ const LAST_BITS: u64 = 0xF0F0_F0F0_F0F0_F0FF;
 
 const LAST_SPARE: u64 = 0x0606_0606_0606_0600;
 
-// Whether eleven characters are `nnn nnnnnnn`.
-fn is_serial(s: &[u8]) -> bool
-    requires { ⌜ length (now s) ≡ 11 ⌝ }
+// Whether a text is `nnn nnnnnnn`.
+pub fn is_serial(s: &[u8]) -> bool
     ensures { λ r. ⌜ r ≡ fits (pattern serialForm) (now (s .entry)) ⌝ }
 {
+    if s.len() != 11 {
+        return false;
+    }
     let first = eights::keeps_form(eights::eight(s, 0), FIRST, FIRST_BITS, FIRST_SPARE);
     first & eights::keeps_form(eights::eight(s, 3), LAST, LAST_BITS, LAST_SPARE)
 }
 
+// The first eight digits as one number: those before the space and those after it, and '0' on all of them at once. So the compiler cannot
+// tell one from the other and stores them together.
+fn first_digits(s: &[u8]) -> u64
+    requires { ⌜ fits (pattern serialForm) (now s) ≡ true ⌝ }
+    ensures { λ r. ⌜ r ≡ lanes (take 8 (take 3 (now (s .entry)) ++ drop 4 (now (s .entry)))) ⌝ }
+{
+    let before = (eights::eight(s, 0) - FIRST) % 0x100_0000;
+    let after = (eights::eight(s, 3) - LAST) / 0x100 % 0x100_0000_0000;
+    (before + after * 0x100_0000) | crate::DIGITS
+}
+
 // The ten digits around the space.
-fn digits_of(s: &[u8]) -> [u8; 10]
-    requires { ⌜ length (now s) ≡ 11 ⌝ }
+pub fn digits_of(s: &[u8]) -> [u8; 10]
+    requires { ⌜ fits (pattern serialForm) (now s) ≡ true ⌝ }
     ensures { λ r. ⌜ r ≡ take 3 (now (s .entry)) ++ drop 4 (now (s .entry)) ⌝ }
 {
-    let mut digits = [0u8; 10];
-    let a = text::put(&mut digits, 0, &s[0..3]);
-    text::put(&mut digits, a, &s[4..11]);
-    digits
+    let d = eights::apart(first_digits(s));
+    [d[0], d[1], d[2], d[3], d[4], d[5], d[6], d[7], s[9], s[10]]
 }
 
 fn no_serial() -> SerialRead
@@ -68,9 +81,6 @@ fn no_serial() -> SerialRead
 pub fn read_serial(s: &[u8]) -> SerialRead
     ensures { λ r. ⌜ r ≡ serialRead (now (s .entry)) ⌝ }
 {
-    if s.len() != 11 {
-        return no_serial();
-    }
     if is_serial(s) {
         let digits = digits_of(s);
         return SerialRead {
@@ -81,7 +91,8 @@ pub fn read_serial(s: &[u8]) -> SerialRead
     no_serial()
 }
 
-fn ten_of(s: &[u8]) -> [u8; 10]
+// Ten characters, copied.
+pub fn ten_of(s: &[u8]) -> [u8; 10]
     requires { ⌜ length (now s) ≡ 10 ⌝ }
     ensures { λ r. ⌜ r ≡ now (s .entry) ⌝ }
 {
@@ -106,7 +117,7 @@ pub fn read_account(s: &[u8]) -> AccountRead
     if s.len() != 10 {
         return no_account();
     }
-    if crate::is_account(s) {
+    if crate::is_whole_account(s) {
         let account = ten_of(s);
         return AccountRead {
             ok: true,
@@ -116,7 +127,8 @@ pub fn read_account(s: &[u8]) -> AccountRead
     no_account()
 }
 
-fn row_of(s: &[u8]) -> [u8; crate::ROW_LENGTH]
+// A row's characters, copied.
+pub fn row_of(s: &[u8]) -> [u8; crate::ROW_LENGTH]
     requires { ⌜ length (now s) ≡ rowLength ⌝ }
     ensures { λ r. ⌜ r ≡ now (s .entry) ⌝ }
 {

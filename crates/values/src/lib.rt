@@ -113,6 +113,22 @@ pub fn is_account(s: &[u8]) -> bool
     true
 }
 
+// All ten of them at once: what is read back is good as a rule, and of a loop with one way out a larger processor makes vector code.
+pub fn is_whole_account(s: &[u8]) -> bool
+    ensures { λ r. ⌜ r ≡ goodAccount (now (s .entry)) ⌝ }
+{
+    if s.len() != 10 {
+        return false;
+    }
+    let mut ok = true;
+    let mut i: u32 = 0;
+    while i < 10 {
+        ok = ok & is_account_character(s[i as usize]);
+        i += 1;
+    }
+    ok
+}
+
 pub fn is_row(s: &[u8]) -> bool
     ensures { λ r. ⌜ r ≡ goodRow (now (s .entry)) ⌝ }
 {

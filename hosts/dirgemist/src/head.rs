@@ -590,23 +590,23 @@ pub fn value_row(value: &[u8]) -> (u8, [u8; 24]) {
 /// A date's year, month and day.
 #[inline]
 pub fn value_date(value: &[u8]) -> (u8, (u16, u8, u8)) {
-    let mut date = (UNWRITTEN as u16, UNWRITTEN_BYTE, UNWRITTEN_BYTE);
-    let (year, month, day) = (&mut date.0, &mut date.1, &mut date.2);
+    let (mut year, mut month, mut day) = (UNWRITTEN as u16, UNWRITTEN_BYTE, UNWRITTEN_BYTE);
+    let (from, length) = (value.as_ptr(), value.len());
     // SAFETY: see above.
     let number =
-        unsafe { dirgemist_head_value_date(value.as_ptr(), value.len(), year, month, day) };
-    (number, date)
+        unsafe { dirgemist_head_value_date(from, length, &mut year, &mut month, &mut day) };
+    (number, (year, month, day))
 }
 
 /// A time's hour, minute and second.
 #[inline]
 pub fn value_time(value: &[u8]) -> (u8, (u8, u8, u8)) {
-    let mut time = (UNWRITTEN_BYTE, UNWRITTEN_BYTE, UNWRITTEN_BYTE);
-    let (hour, minute, second) = (&mut time.0, &mut time.1, &mut time.2);
+    let (mut hour, mut minute, mut second) = (UNWRITTEN_BYTE, UNWRITTEN_BYTE, UNWRITTEN_BYTE);
+    let (from, length) = (value.as_ptr(), value.len());
     // SAFETY: see above.
     let number =
-        unsafe { dirgemist_head_value_time(value.as_ptr(), value.len(), hour, minute, second) };
-    (number, time)
+        unsafe { dirgemist_head_value_time(from, length, &mut hour, &mut minute, &mut second) };
+    (number, (hour, minute, second))
 }
 
 /// When a period was closed: year, month, day, hour and minute.
@@ -618,14 +618,21 @@ pub fn value_time(value: &[u8]) -> (u8, (u8, u8, u8)) {
 /// ```
 #[inline]
 pub fn value_period(value: &[u8]) -> (u8, (u16, u8, u8, u8, u8)) {
-    let byte = UNWRITTEN_BYTE;
-    let mut at = (UNWRITTEN as u16, byte, byte, byte, byte);
-    let (year, month, day, hour, minute) = (&mut at.0, &mut at.1, &mut at.2, &mut at.3, &mut at.4);
-    let (from, length) = (value.as_ptr(), value.len());
+    let (mut year, mut month, mut day) = (UNWRITTEN as u16, UNWRITTEN_BYTE, UNWRITTEN_BYTE);
+    let (mut hour, mut minute) = (UNWRITTEN_BYTE, UNWRITTEN_BYTE);
     // SAFETY: see above.
-    let number =
-        unsafe { dirgemist_head_value_period(from, length, year, month, day, hour, minute) };
-    (number, at)
+    let number = unsafe {
+        dirgemist_head_value_period(
+            value.as_ptr(),
+            value.len(),
+            &mut year,
+            &mut month,
+            &mut day,
+            &mut hour,
+            &mut minute,
+        )
+    };
+    (number, (year, month, day, hour, minute))
 }
 
 /// A counter's Wh.
@@ -645,6 +652,7 @@ pub fn value_counter(value: &[u8]) -> (u8, u32) {
 /// assert_eq!(head::value_eqm(2, b"00001.500*kWh"), (25, 0));
 /// assert_eq!(head::value_eqm(1, b"00001.500*kWh"), (head::NO_DECIMALS, 0));
 /// ```
+#[inline]
 pub fn value_eqm(decimals: u8, value: &[u8]) -> (u8, u32) {
     let mut read = UNWRITTEN as u32;
     let (from, length) = (value.as_ptr(), value.len());

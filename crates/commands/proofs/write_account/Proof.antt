@@ -17,14 +17,14 @@ returns-2 c = field-refused _ _ _ _ (c .before .before .if1 .left) (no-account (
 
 returns-3 : tie.Need-returns-3
 returns-3 c =
-    field-refused _ _ _ _ (c .before .before .before .before .if1 .left) (sym (c .before .before .is-account .ensures) ∙ not-true _ (c .before .if3 .taken)) (c .refused2 .ensures)
+    field-refused _ _ _ _ (c .before .before .before .before .if1 .left) (sym (c .before .before .is-whole-account .ensures) ∙ not-true _ (c .before .if3 .taken)) (c .refused2 .ensures)
 
 returns-4 : tie.Need-returns-4
 unfolding frameOf sealed setAccount bracketed
 returns-4 c =
     let c5 = c .before .before .before .before .before in
     let c6 = c5 .before in
-    built _ _ _ _ _ (c6 .before .before .if1 .left) (sym (c6 .is-account .ensures) ∙ not-false _ (c5 .if3 .left)) (c .before .before .aside .ensures)
+    built _ _ _ _ _ (c6 .before .before .if1 .left) (sym (c6 .is-whole-account .ensures) ∙ not-false _ (c5 .if3 .left)) (c .before .before .aside .ensures)
 
 pub write-account-spec : {M : Type 1} → statement M
 write-account-spec = tie.close (tie.spec (λ c κs. search needs) returns (λ c κs. search needs) returns-2 (λ c κs. search needs) (λ c κs. search needs) returns-3 (λ c. search needs) (λ c κs. search needs) (λ c. search needs) returns-4)

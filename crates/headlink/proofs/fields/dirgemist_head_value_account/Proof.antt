@@ -1,13 +1,31 @@
--- `headlink::fields::dirgemist_head_value_account` meets its contract: what is told is what was read, and as long. Assumes nothing.
+-- `headlink::fields::dirgemist_head_value_account` meets its contract: the characters of a good one, or zeros. Assumes nothing.
+use mathlib.Core.Path.{sym, ap, _∙_}
 use borrow.Author.Needs.{needs}
-use Rattle.headlink.proofs.Telling.{sized}
-use Rattle.values.proofs.Serials.{account-read-long}
+use Rattle.values.specs.Registers.{goodAccount}
+use Rattle.values.proofs.Rules.{no-account}
+use Rattle.headlink.proofs.Telling.{account-told, account-untold}
 use Rattle.headlink.proofs.fields.dirgemist_head_value_account.Statement.{statement}
 use Rattle.headlink.proofs.fields.dirgemist_head_value_account.Tie as tie
 
 returns : tie.Need-returns
-returns c = let c6 = c .before .before .before .before .before .before in let c9 = c6 .before .before .before in let read = c6 .read-account in
-    sized _ _ _ _ _ _ (account-read-long (c9 .args .value .now)) (rw (← read .ensures) (c .before .before .tell .ensures))
+returns c =
+    let c5 = c .before .before .before .before .before in
+    let s = c5 .before .before .before .args .value .now in
+    account-untold _ _ _ s (no-account s (c5 .if1 .taken)) (c .before .before .tell .ensures)
+
+returns-2 : tie.Need-returns-2
+returns-2 c =
+    let c6 = c .before .before .before .before .before .before in
+    let c8 = c6 .before .before in
+    let s = c8 .before .before .before .before .args .value .now in
+    account-told _ _ _ s _ (ap goodAccount (sym (c8 .ten-of .ensures)) ∙ sym (c6 .is-whole-account .ensures) ∙ c .before .before .before .before .before .if2 .taken) (c8 .ten-of .ensures) (c .before .before .tell2 .ensures)
+
+returns-3 : tie.Need-returns-3
+returns-3 c =
+    let c6 = c .before .before .before .before .before .before in
+    let c8 = c6 .before .before in
+    let s = c8 .before .before .before .before .args .value .now in
+    account-untold _ _ _ s (ap goodAccount (sym (c8 .ten-of .ensures)) ∙ sym (c6 .is-whole-account .ensures) ∙ c .before .before .before .before .before .if2 .left) (c .before .before .tell3 .ensures)
 
 pub dirgemist-head-value-account-spec : {M : Type 1} → statement M
-dirgemist-head-value-account-spec = tie.close (tie.spec (λ c κs. search needs) (λ c. search needs) (λ c κs. search needs) (λ c. search needs) returns)
+dirgemist-head-value-account-spec = tie.close (tie.spec (λ c. search needs) (λ c κs. search needs) (λ c. search needs) returns (λ c κs. search needs) (λ c. search needs) (λ c κs. search needs) (λ c. search needs) (λ c κs. search needs) (λ c. search needs) returns-2 (λ c. search needs) (λ c κs. search needs) (λ c. search needs) returns-3)

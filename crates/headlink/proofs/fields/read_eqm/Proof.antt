@@ -9,7 +9,7 @@ unfolding eqmTold
 returns c =
     let c2 = c .before .before in
     let c3 = c2 .before in
-    rw (← c3 .before .is-family .ensures, ← c3 .is-eqm .ensures, c2 .if1 .taken, ← c .before .read-counter .ensures, c .number .ensures)
+    rw (← c3 .before .is-family .ensures, ← c3 .is-eqm .ensures, c2 .if1 .taken, ← c .before .read-family .ensures, c .number .ensures)
 
 returns-2 : tie.Need-returns-2
 unfolding eqmTold
