@@ -3,13 +3,12 @@ use mathlib.Core.Path.{_≡_, refl, sym, ap, ap₂, _∙_}
 use mathlib.Core.Bool.{Bool, true, false, _&&_}
 use mathlib.Core.List.{List, [], _∷_, _++_, append-nil, append-assoc}
 use Prim.Native.Nat.{ℕ, zero, suc, _+_, _-_, _*_, _/_, _%_, _^_, _<_, _≤_}
-use native.Mathlib.Nat.{lt-of-lt-of-le, le-trans, le-of-eq, mul-le-mul-right, mul-assoc, mul-comm, one-mul, add-mul, pow-suc, pow-succ', add-suc, add-zero, zero-add, mod-lt, zero-lt-suc, div-one, div-div-eq-div-mul}
+use native.Mathlib.Nat.{lt-of-lt-of-le, le-trans, le-of-eq, mul-le-mul-right, mul-assoc, mul-comm, one-mul, pow-suc, pow-succ', add-suc, add-zero, zero-add, mod-lt, zero-lt-suc, div-one, div-div-eq-div-mul}
 use native.Mathlib.Omega.{arith}
 use borrow.Author.Tests.{leb-true, le-leb}
 use lib.Arith.{digits-div, digits-mod, mod-mul}
 use lib.Dec.{leb, lit<}
-use lib.ListN.{length, take, drop, getD, replicate, length-append}
-use lib.Seq.{drop-cons}
+use lib.ListN.{length, getD, length-append}
 use Rattle.line.specs.Runs.{every}
 use Rattle.line.proofs.Runs.{left-next, every-append, and-left, and-right}
 use Rattle.text.specs.Classes.{between, isDigit}
@@ -75,21 +74,6 @@ decimal-digits zero n = refl
 decimal-digits (suc w) n =
     every-append isDigit (decimal w (n / 10)) ((48 + n % 10) ∷ []) (decimal-digits w (n / 10))
     (rw (digit-is (n % 10) (mod-lt n (zero-lt-suc 9))))
-
--- reading on never makes the number smaller
-pub value-grows : (s : List ℕ) (acc : ℕ) → acc ≤ valueFrom acc s
-unfolding valueFrom
-value-grows [] acc = omega arith
-value-grows (c ∷ s) acc = omega (arith, value-grows s (acc * 10 + (c - 48)))
-
--- digits read on after those of acc
-pub value-after : (s : List ℕ) (acc : ℕ) → valueFrom acc s ≡ acc * 10 ^ length s + valueOf s
-unfolding valueFrom valueOf
-value-after [] acc = omega arith
-value-after (c ∷ s) acc =
-    let more : valueFrom (0 * 10 + (c - 48)) s ≡ (c - 48) * 10 ^ length s + valueFrom 0 s = ap (λ (k : ℕ). valueFrom k s) (omega arith) ∙ value-after s (c - 48) in
-    value-after s (acc * 10 + (c - 48))
-    ∙ (rw (more, pow-succ' 10 (length s), add-mul (acc * 10) (c - 48) (10 ^ length s), mul-assoc acc 10 (10 ^ length s)) (omega arith))
 
 value-below : (s : List ℕ) (acc : ℕ) → every isDigit s ≡ true → valueFrom acc s < (acc + 1) * 10 ^ length s
 unfolding valueFrom every
