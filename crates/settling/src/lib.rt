@@ -231,7 +231,7 @@ fn hear_or_leave<'a>(
     }
 }
 
-// A pulse, with so much room for a reply. It goes its own way from the first test on, so that no other event's way has counters to carry.
+// A pulse, with so much room for a reply. It goes its own way from the first test on: with one way for all events, each took longer.
 fn settle_pulse<'a>(
     s: Seen,
     formed: bool,
