@@ -36,6 +36,21 @@ const PASSWORD: usize = 8;
 
 const ACCOUNT: usize = 10;
 
+// As they are sent: `/`, space, CR, SOH, `1`, STX and `)` have a one on top, for their parity. The others of a sign-on and of P1 are sent as they are.
+const SENT_SLASH: u8 = 0xAF;
+
+const SENT_SPACE: u8 = 0xA0;
+
+const SENT_CR: u8 = 0x8D;
+
+const SENT_SOH: u8 = 0x81;
+
+const SENT_ONE: u8 = 0xB1;
+
+const SENT_STX: u8 = 0x82;
+
+const SENT_CLOSE: u8 = 0xA9;
+
 pub struct Built {
     pub number: u8,
     pub length: usize,
@@ -155,12 +170,12 @@ fn sent_call(serial: &[u8]) -> [u8; 16]
     let a = eights::sent_eight(serial, 0);
     let z = eights::sent_eight(serial, 2);
     [
-        0xAF,
-        0x3F,
+        SENT_SLASH,
+        b'?',
         a[0],
         a[1],
         a[2],
-        0xA0,
+        SENT_SPACE,
         z[1],
         z[2],
         z[3],
@@ -168,9 +183,9 @@ fn sent_call(serial: &[u8]) -> [u8; 16]
         z[5],
         z[6],
         z[7],
-        0x21,
-        0x8D,
-        0x0A,
+        b'!',
+        SENT_CR,
+        line::LF,
     ]
 }
 
@@ -182,12 +197,12 @@ fn sent_wired(serial: &[u8]) -> [u8; 15]
     let a = eights::sent_eight(serial, 0);
     let z = eights::sent_eight(serial, 2);
     [
-        0xAF,
-        0x41,
+        SENT_SLASH,
+        b'A',
         a[0],
         a[1],
         a[2],
-        0x2E,
+        b'.',
         z[1],
         z[2],
         z[3],
@@ -195,8 +210,8 @@ fn sent_wired(serial: &[u8]) -> [u8; 15]
         z[5],
         z[6],
         z[7],
-        0x8D,
-        0x0A,
+        SENT_CR,
+        line::LF,
     ]
 }
 
@@ -263,11 +278,11 @@ fn sent_password(password: &[u8]) -> [u8; 16]
     let p = eights::sent_eight(password, 0);
     let sum = eights::bcc_eight(password, 0) ^ line::bcc(b"P1\x02()\x03");
     [
-        0x81,
-        0x50,
-        0xB1,
-        0x82,
-        0x28,
+        SENT_SOH,
+        b'P',
+        SENT_ONE,
+        SENT_STX,
+        b'(',
         p[0],
         p[1],
         p[2],
@@ -276,8 +291,8 @@ fn sent_password(password: &[u8]) -> [u8; 16]
         p[5],
         p[6],
         p[7],
-        0xA9,
-        0x03,
+        SENT_CLOSE,
+        line::ETX,
         line::wire(sum),
     ]
 }
