@@ -7,7 +7,13 @@ extern uint32_t data_image[], data_start[], data_end[], bss_start[], bss_end[], 
 
 int main(void);
 
+#define CONFIGURATION (*(volatile uint32_t *)0xE000ED14)
+#define NO_ODD_WORDS 8
+
 _Noreturn void start(void) {
+#if __ARM_ARCH == 6
+    CONFIGURATION |= NO_ODD_WORDS; /* so the board's Cortex-M3 faults at a word that is not aligned, as a Cortex-M0 does */
+#endif
     for (uint32_t *from = data_image, *to = data_start; to < data_end;) {
         *to++ = *from++;
     }
