@@ -21,6 +21,7 @@ type Outcome = Result<(), String>;
 /// So many events and more.
 pub fn play(pair: &mut Pair, seed: u64, events: u64) -> Outcome {
     let chance = &mut Chance::new(seed);
+    wrong_twice(pair)?;
     while pair.reached.events < events {
         let filling = chance.byte();
         match chance.weighed(&[80, 5, 5, 4, 3, 4, 4, 3, 2, 2, 1, 60, 100, 10]) {
@@ -72,6 +73,22 @@ pub fn play(pair: &mut Pair, seed: u64, events: u64) -> Outcome {
             }
         }
     }
+    Ok(())
+}
+
+/// Facts with more than one fault, which chance seldom has: the edition is named before the decimals, and these before all else.
+fn wrong_twice(pair: &mut Pair) -> Outcome {
+    let kept = std::mem::replace(&mut pair.model, Meter::blank());
+    for kind in [[0, 1, 1], [3, 2, 5], [0, 3, 0], [1, 3, 1], [2, 0, 255]] {
+        pair.make(&Facts {
+            serial: b"1234567890".to_vec(),
+            account: b"Kiln_7 old".to_vec(),
+            password: b"00000000".to_vec(),
+            clock: Meter::blank().clock,
+            kind,
+        })?;
+    }
+    pair.put(kept);
     Ok(())
 }
 
