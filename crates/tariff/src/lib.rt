@@ -56,7 +56,7 @@ pub fn zone_in(g: Registers) -> ZoneNo
     zone_at(&rows, f.edition, g.clock)
 }
 
-// A counter some units of the last place on; it rolls over at an end. It is seldom there, and a division takes longer than all else that a pulse does.
+// A counter some units of the last place on; it rolls over at an end. It is seldom there, so a pulse seldom divides.
 fn grow(counter: u32, units: u32, end: u32) -> u32
     requires { ⌜ ((counter < end) × (end ≤ 1000000000)) × (units ≤ 1000000) ⌝ }
     ensures { λ r. ⌜ r ≡ grown end counter units ⌝ }
