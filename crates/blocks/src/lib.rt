@@ -1,4 +1,6 @@
 // A meter's reply: its parity stripped, and the part of a block that holds the data.
+#![tactic(auto)]
+
 ghost use Rattle.std.specs.Prelude.{◌≡◌, [], ◌∷◌, ◌++◌, map, ◌+◌, ◌-◌, ◌≤◌, max, length, take, drop, get_or};
 ghost use Rattle.line.specs.Characters.{seven};
 ghost use Rattle.line.specs.Checksum.{bcc_of};
@@ -19,7 +21,7 @@ pub const DAMAGED: u8 = 24;
 pub const SHORT: u8 = 26;
 
 // What stripping answers: with 24 the place of the first damaged byte, else 0.
-#[derive(Drop)]
+#[derive(Clone, Copy)]
 pub struct Stripped {
     pub number: u8,
     pub length: usize,
@@ -65,7 +67,7 @@ pub fn strip(reply: &[u8], out: &mut [u8]) -> Stripped
 }
 
 // What one pass over a block's content finds.
-#[derive(Drop)]
+#[derive(Clone, Copy)]
 pub struct Seen {
     pub plain: bool,
     pub sum: u8,
@@ -99,7 +101,7 @@ fn look(s: &[u8]) -> Seen
 }
 
 // Where a block's part lies.
-#[derive(Drop)]
+#[derive(Clone, Copy)]
 pub struct PartAt {
     pub number: u8,
     pub start: usize,

@@ -1,4 +1,6 @@
 // Cards: whether a text is one, where it leaves every card, and the frames that bring it to a meter. All is said over the number of tables.
+#![tactic(auto)]
+
 ghost use Rattle.std.specs.Prelude.{◌≡◌, ◌++◌, ◌+◌, ◌*◌, ◌<◌, ◌≤◌, length, drop};
 ghost use Rattle.line.specs.Quoted.{chars};
 ghost use Rattle.text.specs.Writing.{stored, holding};
@@ -22,14 +24,14 @@ const ACCOUNT_FRAME: usize = 19;
 const TABLE_FRAME: usize = 36;
 
 // The check's answer: 1, or 40 with the place, or 16.
-#[derive(Drop)]
+#[derive(Clone, Copy)]
 pub struct Checked {
     pub number: u8,
     pub place: usize,
 }
 
 // The reader's answer: 1 with the length, 40 with the place, or 41, or 16.
-#[derive(Drop)]
+#[derive(Clone, Copy)]
 pub struct Framed {
     pub number: u8,
     pub length: usize,
@@ -37,7 +39,7 @@ pub struct Framed {
 }
 
 // How far whole fields reach, and the number of the last table.
-#[derive(Drop)]
+#[derive(Clone, Copy)]
 pub struct Reached {
     pub at: usize,
     pub above: u8,

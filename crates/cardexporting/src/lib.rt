@@ -1,4 +1,6 @@
 // All that the card exporter writes, made in a lent buffer: the frames of a card; for any other text `40`, a space, the place and LF.
+#![tactic(auto)]
+
 ghost use Rattle.std.specs.Prelude.{◌≡◌, ◌+◌, ◌*◌, ◌<◌, ◌≤◌, length, take};
 ghost use Rattle.cardexporting.specs.Shown.{ShowsCard, ShownFor};
 
@@ -6,7 +8,7 @@ ghost use Rattle.cardexporting.specs.Shown.{ShowsCard, ShownFor};
 pub const ROOM: usize = 919;
 
 // Whether a card was shown, 1, 40 or 16, and how many bytes of the buffer are to be written.
-#[derive(Drop)]
+#[derive(Clone, Copy)]
 pub struct Shown {
     pub number: u8,
     pub length: usize,

@@ -1,5 +1,7 @@
 // Cards for C: the check, the reader and the writer, on numbers, byte buffers and a lent record. The header is include/dirgemist_card.h.
 // The record is walked by hand, so its function only passes values on.
+#![tactic(auto)]
+
 ghost use Rattle.std.specs.Prelude.{◌≡◌};
 ghost use Rattle.card.specs.Place.{CheckedFor};
 ghost use Rattle.card.specs.Frames.{ReadFor};

@@ -1,4 +1,6 @@
 // A card written from a state: the account, and all of the tables.
+#![tactic(auto)]
+
 ghost use Rattle.std.specs.Prelude.{◌≡◌, ◌+◌, ◌*◌, ◌<◌, ◌≤◌, length};
 ghost use Rattle.text.specs.Writing.{stored};
 ghost use Rattle.values.specs.Edition.{row_length};
@@ -9,7 +11,7 @@ use state::{ALL_ROWS, Meter};
 use values::ROW_LENGTH;
 
 // The writer's answer: 1 with the card's length, 16, 14 or 41.
-#[derive(Drop)]
+#[derive(Clone, Copy)]
 pub struct Written {
     pub number: u8,
     pub length: usize,

@@ -1,11 +1,13 @@
 // The clock: real dates of 2000 to 2099, the next second and the day of the week. Numbers only; their texts are in `values`.
+#![tactic(auto)]
+
 ghost use Rattle.std.specs.Prelude.{◌≡◌, cond, ◌&&◌, ◌-◌, ◌<◌, get_or, ltb};
 ghost use Rattle.clock.specs.Dates.{days_of, leap, days_in, real_date, real_time};
 ghost use Rattle.clock.specs.Seconds.{real_clock, real_stamp, stamp_of, next_month, next_day, next_second};
 ghost use Rattle.clock.specs.Weekday.{days_before, weekday};
 
 #[repr(C)]
-#[derive(Drop)]
+#[derive(Clone, Copy)]
 pub struct Date {
     pub year: u16,
     pub month: u8,
@@ -13,7 +15,7 @@ pub struct Date {
 }
 
 #[repr(C)]
-#[derive(Drop)]
+#[derive(Clone, Copy)]
 pub struct Time {
     pub hour: u8,
     pub minute: u8,
@@ -21,7 +23,7 @@ pub struct Time {
 }
 
 #[repr(C)]
-#[derive(Drop)]
+#[derive(Clone, Copy)]
 pub struct Clock {
     pub date: Date,
     pub time: Time,
@@ -29,7 +31,7 @@ pub struct Clock {
 
 // What is shown of the time at which something was kept: no second.
 #[repr(C)]
-#[derive(Drop)]
+#[derive(Clone, Copy)]
 pub struct Stamp {
     pub date: Date,
     pub hour: u8,

@@ -1,4 +1,6 @@
 // What the head says: every command, built in a lent buffer of at least 64 bytes, or refused with nothing written.
+#![tactic(auto)]
+
 ghost use Rattle.std.specs.Prelude.{◌≡◌, true, ◌&&◌, [], ◌∷◌, ◌++◌, ◌+◌, ◌≤◌, length};
 ghost use Rattle.line.specs.Quoted.{chars};
 ghost use Rattle.clock.specs.Seconds.{real_clock};
@@ -47,7 +49,7 @@ const SENT_STX: u8 = 0x82;
 
 const SENT_CLOSE: u8 = 0xA9;
 
-#[derive(Drop)]
+#[derive(Clone, Copy)]
 pub struct Built {
     pub number: u8,
     pub length: usize,

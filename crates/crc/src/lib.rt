@@ -1,4 +1,6 @@
 // The CRC of the Modbus serial line, without a table, and the test of a message that ends with it.
+#![tactic(auto)]
+
 ghost use Rattle.std.specs.Prelude.{◌≡◌, ◌+◌, ◌*◌};
 ghost use Rattle.crc.specs.Crc.{joined, crc_of, checks};
 ghost use Rattle.crc.specs.Splitting.{BARE, evened};

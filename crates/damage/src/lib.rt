@@ -1,4 +1,6 @@
 // Where a run of bytes was damaged.
+#![tactic(auto)]
+
 ghost use Rattle.std.specs.Prelude.{◌≡◌};
 ghost use Rattle.damage.specs.First.{first_damaged};
 

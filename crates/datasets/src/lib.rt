@@ -1,5 +1,7 @@
 // Data sets: each value that a meter shows as its line, `address(value)` CR LF, put into a lent buffer.
 // Each function gives the place after its line.
+#![tactic(auto)]
+
 ghost use Rattle.std.specs.Prelude.{◌≡◌, ◌++◌, ◌+◌, ◌≤◌, length, take, drop};
 ghost use Rattle.line.specs.Quoted.{chars};
 ghost use Rattle.text.specs.Writing.{stored};

@@ -1,4 +1,6 @@
 // Deciding a frame: from the held characters, the mark and the BCC to what the meter does, or the number of its refusal.
+#![tactic(auto)]
+
 ghost use Rattle.std.specs.Prelude.{◌≡◌};
 ghost use Rattle.deciding.specs.Shape.{bare_shape, framed_shape, content};
 ghost use Rattle.deciding.specs.Asking.{table_asked, energy_named, energy_at, energy_asked, asked};
@@ -14,7 +16,7 @@ mod shape;
 mod telling;
 
 // What a whole frame comes to.
-#[derive(Drop)]
+#[derive(Clone, Copy)]
 pub enum Verdict {
     Refuse(u8),
     // B0

@@ -1,4 +1,6 @@
 // The delivery of a post: its export, fed byte by byte to a meter.
+#![tactic(auto)]
+
 ghost use Rattle.std.specs.Prelude.{◌≡◌, ◌+◌, ◌<◌};
 ghost use Rattle.state.specs.Sizes.{reply_room};
 ghost use Rattle.meter.specs.Outcomes.{answer_of};
@@ -11,14 +13,14 @@ use meter::Answer;
 use state::{Meter, REPLY_ROOM};
 
 // How many bytes were answered 1, and the state after them.
-#[derive(Drop)]
+#[derive(Clone, Copy)]
 pub struct Fed {
     pub acknowledged: usize,
     pub next: Meter,
 }
 
 // What became of a text: 1 with the acknowledgements, or 20 with the place.
-#[derive(Drop)]
+#[derive(Clone, Copy)]
 pub struct Delivered {
     pub number: u8,
     pub place: usize,

@@ -25,7 +25,6 @@ use Rattle.values.proofs.Rules.{digits_long, account-long, row-long, zone-most}
 use Rattle.frames.specs.Frames.{frame_of, on_wire}
 use Rattle.frames.specs.Commands.{P1, R1, bracketed, ask_export, set_account, set_table}
 use Rattle.frames.specs.Session.{password_data}
-use Rattle.state.specs.Sizes.{row_length}
 use Rattle.state.specs.declared.Registers.{Registers}
 use Rattle.state.specs.WellFormed.{tables_in, family_in}
 use Rattle.state.specs.Setting.{with_account, with_tables, with_row}

@@ -1,4 +1,6 @@
 // Eight characters as one number: a form tested on all of them at once, the numbers of two digits in it, parity and BCC.
+#![tactic(auto)]
+
 ghost use Rattle.std.specs.Prelude.{◌≡◌, ◌+◌, ◌-◌, ◌*◌, ◌^◌, ◌<◌, ◌≤◌, true, [], ◌∷◌, map, length, take, drop};
 ghost use Rattle.line.specs.Runs.{every};
 ghost use Rattle.line.specs.Characters.{sent};

@@ -1,4 +1,6 @@
 // The export of a post: one frame a line, which sets the line's table.
+#![tactic(auto)]
+
 ghost use Rattle.std.specs.Prelude.{◌≡◌, ◌+◌, ◌*◌, ◌<◌, ◌≤◌, length, take, drop};
 ghost use Rattle.text.specs.Writing.{stored};
 ghost use Rattle.export.specs.Frames.{ExportedAs, ExportedFor};
@@ -10,7 +12,7 @@ const LINE: [u8; 36] = *b"131.0.00(111111111111111111111111)\r\n";
 const FRAME: [u8; 36] = *b"\x01W1\x02Z(00;111111111111111111111111)\x03\n";
 
 // The export's answer: 1 with the length, 20 with the place, or 21, or 16.
-#[derive(Drop)]
+#[derive(Clone, Copy)]
 pub struct Exported {
     pub number: u8,
     pub length: usize,

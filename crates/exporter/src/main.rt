@@ -1,16 +1,18 @@
 // The exporter: a post from standard input, its frames to standard output; for any other text `20`, a space, the place and LF.
 // It reads to the end and keeps 4,096 bytes: a longer text is shown as that beginning is, the theorem long-showing of `exporting`.
 // It may be started with the edition, 1 or 2; another word gives `16`, a space, 0 and LF.
-fn main() {
-    let mut text = io::buffer();
-    let input = streams::read_all(&mut text);
+#![tactic(auto)]
+
+fn main(rt: HostRuntime) {
+    let mut text = [0u8; 4096];
+    let input = streams::read_all(&rt, &mut text);
     if !input.ended {
-        streams::complain();
+        streams::complain(&rt);
         return;
     }
     let n = input.length;
     let mut out = [0u8; 900];
-    let shown = exporting::show(streams::edition_told(), &text[..n], &mut out);
+    let shown = exporting::show(streams::edition_told(&rt), &text[..n], &mut out);
     let length = shown.length;
-    streams::write_once(&out[..length], shown.number == 1);
+    streams::write_once(&rt, &out[..length], shown.number == 1);
 }

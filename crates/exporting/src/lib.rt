@@ -1,4 +1,6 @@
 // All that the exporter writes, made in a lent buffer: the frames of a post; for any other text `20`, a space, the place and LF.
+#![tactic(auto)]
+
 ghost use Rattle.std.specs.Prelude.{◌≡◌, ◌+◌, ◌*◌, ◌<◌, ◌≤◌, length, take};
 ghost use Rattle.exporting.specs.Shown.{ShowsExport, ShownFor};
 
@@ -6,7 +8,7 @@ ghost use Rattle.exporting.specs.Shown.{ShowsExport, ShownFor};
 pub const ROOM: usize = 900;
 
 // Whether a post was shown, 1, 20 or 16, and how many bytes of the buffer are to be written.
-#[derive(Drop)]
+#[derive(Clone, Copy)]
 pub struct Shown {
     pub number: u8,
     pub length: usize,

@@ -1,4 +1,6 @@
 // One register out of a long block: the first data set with an address, and nothing read behind it.
+#![tactic(auto)]
+
 ghost use Rattle.std.specs.Prelude.{◌≡◌, cond, ◌+◌, ◌≤◌, eqb};
 ghost use Rattle.finding.specs.Finding.{matched_at, malformed_after, missing_after, lookup};
 
@@ -8,7 +10,7 @@ use reading::SetRead;
 pub const MISSING: u8 = 27;
 
 // The answer: how many sets were read, the place of a malformed one, and where the address and the value of the match stand.
-#[derive(Drop)]
+#[derive(Clone, Copy)]
 pub struct Lookup {
     pub number: u8,
     pub count: usize,

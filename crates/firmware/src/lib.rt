@@ -1,5 +1,7 @@
 // The meter as firmware holds it: the state lies in the host's record and is changed in place.
 // A reference to a record is walked by hand, so these functions pass values on, and store what is small.
+#![tactic(auto)]
+
 ghost use Rattle.std.specs.Prelude.{◌≡◌, eqb, length};
 ghost use Rattle.text.specs.Writing.{holding};
 ghost use Rattle.frames.specs.Frames.{on_wire};

@@ -1,4 +1,6 @@
 // What the forum server calls: the post check and the export, on numbers and byte buffers. The header is include/dirgemist.h.
+#![tactic(auto)]
+
 ghost use Rattle.post.specs.Place.{CheckedFor};
 ghost use Rattle.export.specs.Frames.{ExportedFor};
 

@@ -1,4 +1,6 @@
 // Frames and blocks: the characters from a start on, closed by ETX and BCC, with parity.
+#![tactic(auto)]
+
 ghost use Rattle.std.specs.Prelude.{◌≡◌, ◌++◌, ◌+◌, ◌≤◌, length, take, drop};
 ghost use Rattle.line.specs.Checksum.{bcc_of};
 ghost use Rattle.text.specs.Writing.{holding};

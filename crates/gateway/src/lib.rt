@@ -1,5 +1,7 @@
 // For a gateway that delivers complete frames: the state lies in the host's record and is changed in place. A library of its own, since firmware that hears
 // characters one by one does without it. A reference to a record is walked by hand, so these functions pass values on, and store what is small.
+#![tactic(auto)]
+
 ghost use Rattle.std.specs.Prelude.{◌≡◌, not, eqb, length};
 ghost use Rattle.text.specs.Writing.{holding};
 ghost use Rattle.frames.specs.Frames.{on_wire};

@@ -148,7 +148,7 @@ pub extern "C" fn dirgemist_head_value_counter(value: &[u8], wh: &mut u32) -> u8
 }
 
 // What is told of an EQM meter's counter.
-#[derive(Drop)]
+#[derive(Clone, Copy)]
 pub struct Counted {
     pub number: u8,
     pub count: u32,

@@ -1,4 +1,6 @@
 // A meter's reply judged by the head: whether it is the right one for the message that was sent.
+#![tactic(auto)]
+
 ghost use Rattle.std.specs.Prelude.{◌≡◌, map, ◌≤◌, length};
 ghost use Rattle.line.specs.Characters.{seven};
 ghost use Rattle.judging.specs.Lines.{is_line, value_in};

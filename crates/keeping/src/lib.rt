@@ -1,4 +1,6 @@
 // A meter's record as a host keeps it: made new, and its total for a display.
+#![tactic(auto)]
+
 ghost use Rattle.std.specs.Prelude.{◌≡◌};
 ghost use Rattle.state.specs.Making.{facts_of, made_of};
 ghost use Rattle.keeping.specs.Making.{clock_of};
@@ -9,7 +11,7 @@ use state::Meter;
 mod making;
 
 // What a display shows of a record: the total with 1, or 0 with 14.
-#[derive(Drop)]
+#[derive(Clone, Copy)]
 pub struct Shown {
     pub number: u8,
     pub total: u32,

@@ -1,5 +1,7 @@
 // Characters and checksum: what a wire byte carries, and the BCC over many.
 // Everything above cites these promises and never looks inside.
+#![tactic(auto)]
+
 ghost use Rattle.std.specs.Prelude.{◌≡◌, map, length, take, drop};
 ghost use Rattle.line.specs.Characters.{damaged_at, seven, sent, undamaged_all};
 ghost use Rattle.line.specs.Balance.{balance_of};

@@ -19,14 +19,14 @@ const DATA: usize = 19;
 const STATUS: usize = 4;
 
 // A quantity of energy: four bytes of ones are no number.
-#[derive(Drop)]
+#[derive(Clone, Copy)]
 pub enum Quantity {
     Measured(u32),
     NotMeasured,
 }
 
 // The four quantities in the order of the answer: active energy in and out, reactive energy in and out.
-#[derive(Drop)]
+#[derive(Clone, Copy)]
 pub struct Energy {
     pub active_in: Quantity,
     pub active_out: Quantity,
@@ -35,7 +35,7 @@ pub struct Energy {
 }
 
 // What an answer is: read, a status, or not taken.
-#[derive(Drop)]
+#[derive(Clone, Copy)]
 pub enum Answer {
     Data(Energy),
     Status(u8),

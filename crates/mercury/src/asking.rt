@@ -14,7 +14,7 @@ const ENERGY: u8 = 5;
 
 pub const LENGTH: usize = 6;
 
-#[derive(Drop)]
+#[derive(Clone, Copy)]
 pub struct Asked {
     pub number: u8,
     pub length: usize,

@@ -1,4 +1,6 @@
 // The Mercury family for C: the request built, an answer read, and the CRC by itself.
+#![tactic(auto)]
+
 ghost use Rattle.std.specs.Prelude.{◌≡◌};
 ghost use Rattle.crc.specs.Crc.{crc_of};
 ghost use Rattle.mercury.specs.Asking.{good_fields, request_of, Asks};
@@ -8,7 +10,7 @@ ghost use Rattle.mercurylink.specs.Telling.{flag_of, count_of, told_energy, told
 use mercury::answering::{Answer, Energy, Quantity};
 
 // What C is told of an answer: its number, the code of a status, which quantities were measured, and their numbers.
-#[derive(Drop)]
+#[derive(Clone, Copy)]
 pub struct Told {
     pub number: u8,
     pub status: u8,

@@ -1,15 +1,17 @@
 // A captured exchange with a Mercury meter, wire bytes on standard input, the request and then the answer: each quantity on a line, `-` for
 // one that was not measured; for an answer without data its number, a space, the code of the status or 0, and LF.
-fn main() {
+#![tactic(auto)]
+
+fn main(rt: HostRuntime) {
     let mut capture = [0u8; 64];
-    let input = streams::read_all(&mut capture);
+    let input = streams::read_all(&rt, &mut capture);
     if !input.ended {
-        streams::complain();
+        streams::complain(&rt);
         return;
     }
     let n = input.length;
     let mut out = [0u8; 128];
     let shown = mercuryshow::show(&capture[..n], &mut out);
     let length = shown.length;
-    streams::write_once(&out[..length], shown.number == 1);
+    streams::write_once(&rt, &out[..length], shown.number == 1);
 }

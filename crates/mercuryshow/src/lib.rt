@@ -1,5 +1,7 @@
 // All that is shown of a captured exchange with a Mercury meter, made in a lent buffer: each quantity of its answer on a line, `-` for one
 // that was not measured; for an answer without data its number, a space, the code of the status or 0, and LF.
+#![tactic(auto)]
+
 ghost use Rattle.std.specs.Prelude.{◌≡◌, ◌+◌, ◌≤◌, length, take};
 ghost use Rattle.text.specs.Writing.{stored};
 ghost use Rattle.mercuryshow.specs.Shown.{quantity_text, quantity_line, energy_text, answer_text, Shows};
@@ -13,7 +15,7 @@ pub const ROOM: usize = 128;
 const REQUEST: usize = 6;
 
 // The number of the answer, and how many bytes of the buffer are to be written.
-#[derive(Drop)]
+#[derive(Clone, Copy)]
 pub struct Shown {
     pub number: u8,
     pub length: usize,

@@ -1,4 +1,6 @@
 // The meter: each event gives the answer, the reply and the next state that document 01 rules, for any byte, state and buffer.
+#![tactic(auto)]
+
 ghost use Rattle.std.specs.Prelude.{◌≡◌, true, ◌≤◌, length};
 ghost use Rattle.text.specs.Writing.{holding};
 ghost use Rattle.frames.specs.Frames.{on_wire};
@@ -26,7 +28,7 @@ pub mod passing;
 
 // What can happen: a byte from the line, eight seconds of silence, a second, a pulse of so many units that came in, power-up, one of so many that
 // went out; or nothing that a meter knows.
-#[derive(Drop)]
+#[derive(Clone, Copy)]
 pub enum Event {
     Character(u8),
     Silence,
@@ -38,7 +40,7 @@ pub enum Event {
 }
 
 // What an event with a reply buffer gives: the number, the reply's length, its speed, with 3 the place of the first damaged character, and the next state.
-#[derive(Drop)]
+#[derive(Clone, Copy)]
 pub struct Answer {
     pub number: u8,
     pub length: usize,
@@ -48,7 +50,7 @@ pub struct Answer {
 }
 
 // What decides of a meter, besides what it holds: its session, what is known of what it holds, and what it has for life.
-#[derive(Drop)]
+#[derive(Clone, Copy)]
 pub struct Standing {
     pub mode: u8,
     pub attempts: u8,
@@ -60,7 +62,7 @@ pub struct Standing {
 }
 
 // A meter but for its tables and its archive, which are long.
-#[derive(Drop)]
+#[derive(Clone, Copy)]
 pub struct Small {
     pub mode: u8,
     pub attempts: u8,
@@ -70,7 +72,7 @@ pub struct Small {
 }
 
 // What is said.
-#[derive(Drop)]
+#[derive(Clone, Copy)]
 pub enum Says {
     Nothing,
     Refusal,
@@ -82,7 +84,7 @@ pub enum Says {
 }
 
 // What is written of the registers; the account and the row are what the receiver holds of them.
-#[derive(Drop)]
+#[derive(Clone, Copy)]
 pub enum Writes {
     None,
     ClockSet(Clock),
@@ -94,7 +96,7 @@ pub enum Writes {
 
 // What an event comes to: the answer's number, place and speed; the session's mode, attempts and speed after it; whether the receiver is emptied; what is
 // said, with the closed periods where it is long, and what is written.
-#[derive(Drop)]
+#[derive(Clone, Copy)]
 pub struct Deed {
     pub number: u8,
     pub place: u8,
@@ -109,7 +111,7 @@ pub struct Deed {
 }
 
 // What is answered, and what is stored of a meter; the tables and the archive follow from what is written.
-#[derive(Drop)]
+#[derive(Clone, Copy)]
 pub struct Acted {
     pub number: u8,
     pub length: usize,

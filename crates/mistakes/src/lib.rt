@@ -1,1 +1,3 @@
 // For each public call two wrong answers, and the proof that its promise rules them out: specs/ says them, proofs/ has the proofs.
+
+#![tactic(auto)]

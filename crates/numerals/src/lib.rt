@@ -1,4 +1,6 @@
 // Numbers as a program shows them: in decimal, without leading zeros; and a line of two.
+#![tactic(auto)]
+
 ghost use Rattle.std.specs.Prelude.{◌≡◌, ◌+◌, ◌≤◌, length};
 ghost use Rattle.text.specs.Writing.{stored};
 ghost use Rattle.numerals.specs.Numerals.{width_of, digits_of, number_line};

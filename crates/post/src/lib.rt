@@ -1,5 +1,7 @@
 // Posts: whether a text is one, and where it leaves every post.
 // Whole lines are accepted at once; the place is looked for only in the line that failed. All is said over the number of tables.
+#![tactic(auto)]
+
 ghost use Rattle.std.specs.Prelude.{◌≡◌, ℕ, ◌+◌, ◌*◌, ◌<◌, ◌≤◌, true, false, length, drop, slice_index, slice_index_or};
 ghost use Rattle.text.specs.Beginnings.{Longest};
 ghost use Rattle.post.specs.Grammar.{last_line, IsPost};
@@ -13,14 +15,14 @@ const LOWEST: [u8; 36] = *b"131.0.00(111111111111111111111111)\r\n";
 const HIGHEST: [u8; 36] = *b"131.0.99(444444444444444444444444)\r\n";
 
 // The check's answer: 1, or 20 with the place, or 16.
-#[derive(Drop)]
+#[derive(Clone, Copy)]
 pub struct Checked {
     pub number: u8,
     pub place: usize,
 }
 
 // How far whole lines reach, the number of the last, and the first column that strays below it.
-#[derive(Drop)]
+#[derive(Clone, Copy)]
 pub struct Reached {
     pub at: usize,
     pub above: u8,

@@ -59,9 +59,9 @@ pub refuses-places : RefusesPlaces
 refuses-places = record { exactly = exactly }
 
 -- place 0 is one that any well-formed state may have
-first_good : (count mark : ℕ) → mark_good count mark ≡ true → hurt_good count mark 0 ≡ true
+first_good_lem : (count mark : ℕ) → mark_good count mark ≡ true → hurt_good count mark 0 ≡ true
 unfolding mark_good hurt_good
-first_good count mark h = go (eqb mark 1) refl
+first_good_lem count mark h = go (eqb mark 1) refl
   where
     some : eqb mark 1 ≡ true → (eqb count 0 ≡ true → ⊥)
     some e z =
@@ -87,7 +87,7 @@ placed-formed m h =
       attempts = f.attempts;
       speed = f.speed;
       receiver = receiver-good m.mode (placed (unplaced m) 0).receiver
-          (record { count = r.count; first = r.first; mark = r.mark; hurt = first_good m.receiver.count m.receiver.mark r.mark; held = r.held });
+          (record { count = r.count; first = r.first; mark = r.mark; hurt = first_good_lem m.receiver.count m.receiver.mark r.mark; held = r.held });
       registers = f.registers;
     })
 

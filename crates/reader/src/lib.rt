@@ -1,12 +1,14 @@
 // The reader: it keeps its place in the lent data and yields the data sets one by one.
 // A struct that holds a slice is walked by hand, so the functions over it only pass values on.
+#![tactic(auto)]
+
 ghost use Rattle.std.specs.Prelude.{◌≡◌};
 ghost use Rattle.reading.specs.Sets.{set_read};
 ghost use Rattle.reader.specs.Walking.{at_start, yields, moved, set_after};
 
 use reading::SetRead;
 
-#[derive(Drop)]
+#[derive(Clone, Copy)]
 pub struct Reader<'a> {
     pub data: &'a [u8],
     pub at: usize,
@@ -39,7 +41,7 @@ pub fn read_at(data: &[u8], at: usize) -> SetRead
 }
 
 // An answer, and the place that it was read at: its address starts there, its value after the address and '('.
-#[derive(Drop)]
+#[derive(Clone, Copy)]
 pub struct Placed {
     pub start: usize,
     pub set: SetRead,

@@ -1,4 +1,6 @@
 // Data sets read one by one from lent data, and the values in them.
+#![tactic(auto)]
+
 ghost use Rattle.std.specs.Prelude.{◌≡◌, true, ◌+◌, ◌-◌, ◌≤◌, length, take, drop, get_or};
 ghost use Rattle.line.specs.Runs.{every};
 ghost use Rattle.text.specs.Classes.{is_address, is_value};
@@ -103,7 +105,7 @@ fn value_run(s: &[u8], at: usize) -> usize
     run(s, at, from, true, 33)
 }
 
-#[derive(Drop)]
+#[derive(Clone, Copy)]
 pub struct SetRead {
     pub number: u8,
     pub address_length: usize,

@@ -1,4 +1,6 @@
 // Receiving: what one character means to the receiver, and the receiver after it.
+#![tactic(auto)]
+
 ghost use Rattle.std.specs.Prelude.{◌≡◌, cond, ◌<◌, ◌-◌, length, take, get_or, set};
 ghost use Rattle.receiving.specs.Hearing.{listening, confirming, framing, hearing};
 ghost use Rattle.receiving.specs.Receivers.{hurt_at, hurt_place, kept_receiver, restarted_receiver, last_held, held_after};
@@ -8,7 +10,7 @@ use state::setting::{empty_receiver, with_held, with_mark};
 use state::{HELD_PLACES, MOST_HELD, Receiver};
 
 // What becomes of the characters that are held: they stay, one more stands at a place, or all are 0 but for the first.
-#[derive(Drop)]
+#[derive(Clone, Copy)]
 pub enum Holding {
     Same,
     More(u8, u8),
@@ -16,7 +18,7 @@ pub enum Holding {
 }
 
 // What a character does to the receiver.
-#[derive(Drop)]
+#[derive(Clone, Copy)]
 pub enum Hearing {
     // It is dropped.
     Drop,

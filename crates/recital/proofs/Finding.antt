@@ -59,10 +59,10 @@ last-by false false g e = rw e (refl, refl)
 
 first_by : (two old : Bool) (g : Registers) (n : ℕ) → eqb (family_in g) 0 ≡ old → cond two 25 24 ≡ n → first_with (row_address n) (block_sets n g) ≡ table_set n (row_of g.tables n)
 unfolding first_with row_address import_name energy_name is_eqm same_text matching decimal layout_text table_text block_sets fact_sets in_and_out energy_sets table_sets
-first_by true true g n e f = rw (← f, e)
-first_by true false g n e f = rw (← f, e)
-first_by false true g n e f = rw (← f, e)
-first_by false false g n e f = rw (← f, e)
+first_by true true g n e f = rw (← f, e) refl
+first_by true false g n e f = rw (← f, e) refl
+first_by false true g n e f = rw (← f, e) refl
+first_by false false g n e f = rw (← f, e) refl
 
 total_first : (old : Bool) (g : Registers) (tables : ℕ) → eqb (family_in g) 0 ≡ old
     → first_with (total_address (family_in g)) (block_sets tables g) ≡ energy_set (family_in g) false 0 g.counters.total

@@ -96,9 +96,9 @@ module _ (family k : ℕ) where
     unfolding ReadsAs period_good
     closed-reads = (refl, stamp-reads-back p.closed (and_left (real_stamp p.closed) (both_below (counter_end family) (export_end family) p) good))
 
-    both_below : (zones_below (counter_end family) p.zones ≡ true) × (zones_below (export_end family) p.exported ≡ true)
+    both_small : (zones_below (counter_end family) p.zones ≡ true) × (zones_below (export_end family) p.exported ≡ true)
     unfolding period_good both_below
-    both_below =
+    both_small =
         let both = and_right (real_stamp p.closed) (both_below (counter_end family) (export_end family) p) good in
         let came = zones_below (counter_end family) p.zones in
         let went = zones_below (export_end family) p.exported in
@@ -109,8 +109,8 @@ module _ (family k : ℕ) where
     period-reads =
         and_then _ _ _ _ closed-reads
         (both-recite family (kept_sets family false k p.zones) (kept_sets family true k p.exported) (kept_say family false k p.zones) (kept_say family true k p.exported)
-        (four-read false (counter_end family) p.zones (counter-end-some family) (omega arith) both_below.0)
-        (four-read true (export_end family) p.exported (export-end-some family) (export-end-low family) both_below.1))
+        (four-read false (counter_end family) p.zones (counter-end-some family) (omega arith) both_small.0)
+        (four-read true (export_end family) p.exported (export-end-some family) (export-end-low family) both_small.1))
 
 -- the total that is shown is the one that is kept, and that is the sum
 module _ (family end : ℕ) (out : Bool) (c : Counters) (some : 1 ≤ end) (few : end ≤ counter_end family) (good : counters_good end c ≡ true) where

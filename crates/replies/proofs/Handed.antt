@@ -1,16 +1,11 @@
 -- What is handed over and lent, as registers: how long they are, and that no archive is looked at where none is lent. Assumes nothing.
-use mathlib.Core.Path.{◌≡◌, refl, sym, ◌∙◌}
+use mathlib.Core.Path.{◌≡◌, refl}
 use mathlib.Core.List.{List}
 use Prim.Native.Nat.{ℕ, ◌*◌, ◌≤◌}
 use native.Mathlib.Omega.{arith}
-use lib.ListN.{length, length-map}
-use mir.Val.{Val}
-use denote.Laws.{Is}
-use denote.Struct.Laws.{owed, vals}
+use lib.ListN.{length}
 use Rattle.state.specs.Sizes.{row_length, table_places}
 use Rattle.state.specs.declared.Archive.{Archive}
-use Rattle.state.specs.contracts.Facts as F
-use Rattle.state.proofs.Facts.TheLaws as F'
 use Rattle.replies.specs.declared.Ask.{Ask}
 use Rattle.replies.specs.declared.Ask.TheVariants as ask
 use Rattle.replies.specs.declared.Plain.{Plain}
@@ -19,21 +14,11 @@ use Rattle.replies.specs.Shown.{Lengths}
 use Rattle.replies.specs.Answers.{asked_sets, asked_data}
 use Rattle.replies.specs.Block.{block_sets, block_data}
 use Rattle.replies.specs.Periods.{long_start}
-use Rattle.replies.specs.contracts.Plain as S
-use Rattle.replies.proofs.Plain.TheLaws as S'
 
--- a serial and an account in memory have their ten characters
-pub serial-long : (p : Plain) (vs : List Val) → Is S.the_row p vs → length p.facts.serial ≡ 10
-serial-long p vs is =
-    sym (length-map p.facts.serial (λ v. v)) ∙ (owed F.the_type F'.the_laws p.facts _ (owed S.the_type S'.the_laws p vs is).0).0.1.0.1
-
-pub account-long : (p : Plain) (vs : List Val) → Is S.the_row p vs → length p.account ≡ 10
-account-long p vs is = sym (length-map p.account (λ v. v)) ∙ (owed S.the_type S'.the_laws p vs is).1.0.1.0.1
-
--- so the registers are as long as the writers' laws ask
-pub lengths-without : (p : Plain) (vs : List Val) (rows : List ℕ) (tables : ℕ) → Is S.the_row p vs → length rows ≡ table_places * row_length → tables ≤ table_places
+-- with a serial and an account of ten characters the registers are as long as the writers' laws ask
+pub lengths-without : (p : Plain) (rows : List ℕ) (tables : ℕ) → length p.facts.serial ≡ 10 → length p.account ≡ 10 → length rows ≡ table_places * row_length → tables ≤ table_places
     → Lengths tables (without_archive p rows)
-lengths-without p vs rows tables is long few = record { serial = serial-long p vs is; account = account-long p vs is; rows = long; few = few; places = refl; kept = omega arith }
+lengths-without p rows tables serial account long few = record { serial = serial; account = account; rows = long; few = few; places = refl; kept = omega arith }
 
 -- an answer, a block and the start of a long one are the same with any archive
 module _ (p : Plain) (rows : List ℕ) (archive : Archive) where

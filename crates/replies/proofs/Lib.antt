@@ -1,4 +1,3 @@
-pub mod Again
 pub mod Handed
 pub mod Sizes
 pub mod Tables

@@ -1,5 +1,7 @@
 // What the meter answers: the fixed sequences, the data that R1 asks for, and the data block.
 // Each is put into the reply buffer from its front on, with parity, and its length given.
+#![tactic(auto)]
+
 ghost use Rattle.std.specs.Prelude.{◌≡◌, ◌++◌, ◌+◌, ◌*◌, ◌≤◌, length, take};
 ghost use Rattle.line.specs.Quoted.{chars};
 ghost use Rattle.text.specs.Writing.{stored, holding};
@@ -22,7 +24,7 @@ mod answers;
 mod block;
 
 // The registers but for the tables and the archive, which are long and are lent.
-#[derive(Drop)]
+#[derive(Clone, Copy)]
 pub struct Plain {
     pub facts: Facts,
     pub account: [u8; 10],
@@ -32,7 +34,7 @@ pub struct Plain {
 }
 
 // What R1 asks for: an energy is that of what came in, an export that of what went out.
-#[derive(Drop)]
+#[derive(Clone, Copy)]
 pub enum Ask {
     Clock,
     Serial,

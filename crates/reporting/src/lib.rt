@@ -1,5 +1,7 @@
 // All that the delivery of a text to a new meter of an edition says, made in a lent buffer: `1`, a space and the acknowledgements, or for a text that is no post
 // `20`, a space and the place; then the meter's rows, a line each.
+#![tactic(auto)]
+
 ghost use Rattle.std.specs.Prelude.{◌≡◌, ◌++◌, ◌+◌, ◌*◌, ◌≤◌, length, take};
 ghost use Rattle.text.specs.Writing.{stored};
 ghost use Rattle.values.specs.Edition.{row_length, table_places};
@@ -11,7 +13,7 @@ use state::{ALL_ROWS, Facts, Meter};
 use values::ROW_LENGTH;
 
 // What is said: 1 or 20, and how many bytes of the buffer are to be written.
-#[derive(Drop)]
+#[derive(Clone, Copy)]
 pub struct Said {
     pub number: u8,
     pub length: usize,

@@ -1,5 +1,7 @@
 // The head's half of the conversation: a session that is told what to do, says one message after another, and stops at the first reply that is not right.
 // The work, a list of reads or a post, is lent with each call, and each message is made from the work of that call.
+#![tactic(auto)]
+
 ghost use Rattle.std.specs.Prelude.{◌≡◌, length};
 ghost use Rattle.text.specs.Writing.{holding};
 ghost use Rattle.frames.specs.Frames.{on_wire};
@@ -14,7 +16,7 @@ mod turning;
 // `work` 1 is a post, 0 reads; `count` messages of work; `sent` is the number of the message sent last; `fact` is 0 while it goes on;
 // `edition` is the meter's, and `decimals` its family.
 #[repr(C)]
-#[derive(Drop)]
+#[derive(Clone, Copy)]
 pub struct Session {
     pub serial: [u8; 10],
     pub password: [u8; 8],
@@ -30,7 +32,7 @@ pub struct Session {
 
 // What a reply, or silence, comes to: the fact is 0 (the next message, of that number and length), 1 done, 2 NAK, 3 a wrong reply, 4 silence,
 // the last four with the number of the message just answered.
-#[derive(Drop)]
+#[derive(Clone, Copy)]
 pub struct Step {
     pub number: u8,
     pub fact: u8,
@@ -40,7 +42,7 @@ pub struct Step {
 }
 
 // A start: the number, the place of a text that is no post, the sign-on's length, and the session.
-#[derive(Drop)]
+#[derive(Clone, Copy)]
 pub struct Started {
     pub number: u8,
     pub place: usize,

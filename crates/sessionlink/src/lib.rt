@@ -1,5 +1,7 @@
 // The head's session for C: it lies in the host's record and is changed in place.
 // A reference to a record is walked by hand, so the three functions of the header only pass values on.
+#![tactic(auto)]
+
 ghost use Rattle.std.specs.Prelude.{◌≡◌, length};
 ghost use Rattle.text.specs.Writing.{holding};
 ghost use Rattle.frames.specs.Frames.{on_wire};
@@ -9,7 +11,7 @@ ghost use Rattle.session.specs.Turns.{step_of, replied, silent};
 use session::Session;
 
 // What is left of an answer once its numbers are handed out.
-#[derive(Drop)]
+#[derive(Clone, Copy)]
 pub struct Left {
     pub number: u8,
     pub next: Session,

@@ -1,5 +1,7 @@
 // Most events have no reply and change little: a character the receiver, a second the clock, a pulse its counters; or they are refused. They are settled here
 // from what they ask of the state, so that none of it is copied for them but that. On the others the meter acts, with its tables lent on where they lie.
+#![tactic(auto)]
+
 ghost use Rattle.std.specs.Prelude.{◌≡◌, true, false, ◌≤◌, ◌<◌, length};
 ghost use Rattle.text.specs.Writing.{holding};
 ghost use Rattle.frames.specs.Frames.{on_wire};
@@ -17,7 +19,7 @@ use state::{ALL_ROWS, Counters, HELD_PLACES, Meter};
 use values::family;
 
 // What an event that is settled asks of a state, besides what the receiver holds and the tables: a state is too long to be handed on.
-#[derive(Drop)]
+#[derive(Clone, Copy)]
 pub struct Seen {
     pub mode: u8,
     pub speed: u8,
@@ -32,7 +34,7 @@ pub struct Seen {
 }
 
 // What becomes of clock and counters: they stay, the clock shows another time, or what came in or went out is counted.
-#[derive(Drop)]
+#[derive(Clone, Copy)]
 pub enum Change {
     Stay,
     Time(Clock),
@@ -42,7 +44,7 @@ pub enum Change {
 
 // What an event does: where it is settled, the answer's number and speed, the next receiver, and what becomes of clock and counters, with those of the
 // direction that is counted; otherwise the meter has to act.
-#[derive(Drop)]
+#[derive(Clone, Copy)]
 pub struct Heard {
     pub settled: bool,
     pub number: u8,
@@ -56,7 +58,7 @@ pub struct Heard {
 }
 
 // Whether an event is a pulse, its direction and its units.
-#[derive(Drop)]
+#[derive(Clone, Copy)]
 pub struct Told {
     pub pulse: bool,
     pub out: bool,

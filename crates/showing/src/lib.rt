@@ -1,5 +1,7 @@
 // All that is shown of a captured reply, made in a lent buffer: each data set of its block as `address value` on a line, or the first with an
 // address; for a refusal its number, a space, the place and LF.
+#![tactic(auto)]
+
 ghost use Rattle.std.specs.Prelude.{◌≡◌, ◌+◌, ◌≤◌, length, take, drop};
 ghost use Rattle.text.specs.Writing.{stored};
 ghost use Rattle.numerals.specs.Numerals.{number_line};
@@ -11,7 +13,7 @@ pub const LONGEST: usize = 4096;
 pub const ROOM: usize = 4138;
 
 // What is shown: 1 or the number of the refusal, and how many bytes of the buffer are to be written.
-#[derive(Drop)]
+#[derive(Clone, Copy)]
 pub struct Shown {
     pub number: u8,
     pub length: usize,

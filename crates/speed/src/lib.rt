@@ -1,4 +1,6 @@
 // What the benchmark links: each function hands its bytes to a proved one and adds nothing.
+#![tactic(auto)]
+
 ghost use Rattle.std.specs.Prelude.{◌≡◌, map};
 ghost use Rattle.line.specs.Characters.{sent};
 ghost use Rattle.line.specs.Checksum.{bcc_of};

@@ -4,6 +4,4 @@ pub mod Limits
 pub mod Totals
 pub mod Archives
 pub mod Places
-pub mod Elements
 pub mod Fours
-pub mod Forks

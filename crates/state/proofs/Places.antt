@@ -1,10 +1,6 @@
 -- The places of an archive, one after the other: a flag, with what is left of the places, says it of all twelve. Assumes nothing.
 use Rattle.std.proofs.Common.{◌≡◌, ℕ, zero, suc, ◌+◌, ◌<◌, ◌≤◌, Bool, true, false, ◌&&◌, ltb, leb, List, [], ◌∷◌, length, get_or, take, drop, sym, refl, ap, ◌∙◌, arith, drop_of_length-le, le-ltb, lt-ltb, eq-eqb}
 use mathlib.Core.Bool.{and-true}
-use lib.ListN.{length-map}
-use mir.Val.{Val}
-use denote.Laws.{Is}
-use denote.Struct.Laws.{owed}
 use Rattle.line.proofs.Runs.{and_assoc}
 use Rattle.clock.specs.Seconds.{real_stamp}
 use Rattle.values.specs.Family.{counter_end, export_end}
@@ -13,13 +9,6 @@ use Rattle.state.specs.declared.Archive.{Archive}
 use Rattle.state.specs.Sizes.{period_places}
 use Rattle.state.specs.WellFormed.{both_below, period_good, unused, place_good, every_period, archive_good}
 use Rattle.state.proofs.Archives.{period-next}
-use Rattle.state.specs.contracts.Archive as S
-use Rattle.state.proofs.Archive.TheLaws as S'
-use Rattle.state.specs.contracts.Period as P
-
--- an archive in memory has all its places
-pub all_there : (a : Archive) (vs : List Val) → Is S.the_row a vs → length a.periods ≡ period_places
-all_there a vs is = sym (length-map a.periods (P.the_field).into) ∙ (owed S.the_type S'.the_laws a vs is).0.1.0.1
 
 -- a place among the kept, and one behind them
 module _ (family count i : ℕ) (p : Period) (k : Bool) where

@@ -1,4 +1,6 @@
 // The meter's state: what it is made of, what is well-formed, and how a new one is made.
+#![tactic(auto)]
+
 ghost use Rattle.std.specs.Prelude.{◌≡◌, ◌+◌, ◌-◌, ◌*◌, ◌%◌, ◌<◌, ◌≤◌, true, ◌&&◌, length, take, drop};
 ghost use Rattle.line.specs.Runs.{every};
 ghost use Rattle.text.specs.Classes.{between};
@@ -39,7 +41,7 @@ pub const PERIODS: usize = 12;
 // What was received of a line or frame so far; the mark is 1 where damage was seen, else 0, and the place is that of the first damaged character, or 0.
 // The count comes first, so that a meter's held characters start at a whole word.
 #[repr(C)]
-#[derive(Drop)]
+#[derive(Clone, Copy)]
 pub struct Receiver {
     pub count: u8,
     pub held: [u8; HELD_PLACES as usize],
@@ -49,7 +51,7 @@ pub struct Receiver {
 
 // What a meter has for life. The decimals are those of its family, and 0 names document 01's.
 #[repr(C)]
-#[derive(Drop)]
+#[derive(Clone, Copy)]
 pub struct Facts {
     pub serial: [u8; 10],
     pub password: [u8; 8],
@@ -60,7 +62,7 @@ pub struct Facts {
 
 // The zones' counters of one direction, in units of the last place, and their sum, which rolls over where they do.
 #[repr(C)]
-#[derive(Drop)]
+#[derive(Clone, Copy)]
 pub struct Counters {
     pub zones: [u32; 4],
     pub total: u32,
@@ -68,7 +70,7 @@ pub struct Counters {
 
 // A closed period: when it was closed, and the zones' counters of both directions as they stood.
 #[repr(C)]
-#[derive(Drop)]
+#[derive(Clone, Copy)]
 pub struct Period {
     pub closed: Stamp,
     pub zones: [u32; 4],
@@ -77,7 +79,7 @@ pub struct Period {
 
 // The closed periods, the newest first; unused places are all 0.
 #[repr(C)]
-#[derive(Drop)]
+#[derive(Clone, Copy)]
 pub struct Archive {
     pub periods: [Period; PERIODS],
     pub count: u8,
@@ -85,7 +87,7 @@ pub struct Archive {
 
 // What a refused frame never changes. `counters` are those of what came in, `exported` of what went out.
 #[repr(C)]
-#[derive(Drop)]
+#[derive(Clone, Copy)]
 pub struct Registers {
     pub facts: Facts,
     pub account: [u8; 10],
@@ -98,7 +100,7 @@ pub struct Registers {
 
 // Mode: 0 listening, 1 confirmation, 2 password, 3 read-only, 4 programming. The speed identifier is that of the session, 0 or 5, as confirmed, or else that of the link.
 #[repr(C)]
-#[derive(Drop)]
+#[derive(Clone, Copy)]
 pub struct Meter {
     pub mode: u8,
     pub attempts: u8,
@@ -108,7 +110,7 @@ pub struct Meter {
 }
 
 // A meter that was made, with 1, or the blank one, with 15, 16 or 18.
-#[derive(Drop)]
+#[derive(Clone, Copy)]
 pub struct Made {
     pub number: u8,
     pub meter: Meter,

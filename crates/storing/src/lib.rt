@@ -1,5 +1,7 @@
 // What an event that a meter acts on leaves of it, stored where its record lies: for every library that holds a host's record.
 // A reference to a record is walked by hand, so these functions pass values on, and store what is small.
+#![tactic(auto)]
+
 ghost use Rattle.std.specs.Prelude.{◌≡◌, true, not, ◌≤◌, length, drop};
 ghost use Rattle.text.specs.Writing.{holding};
 ghost use Rattle.frames.specs.Frames.{on_wire};
@@ -15,7 +17,7 @@ use meter::{Acted, acting};
 use state::{ALL_ROWS, Archive, Counters, Meter, Receiver};
 
 // What is left of an answer once its next state lies in the record.
-#[derive(Drop)]
+#[derive(Clone, Copy)]
 pub struct Reply {
     pub number: u8,
     pub length: usize,
@@ -65,7 +67,8 @@ fn store(m: &mut Meter, a: Acted) -> Reply
     m.attempts = a.attempts;
     m.speed = a.rate;
     m.receiver = a.receiver;
-    m.registers.account = a.account;
+    let account = a.account;
+    m.registers.account = account;
     m.registers.clock = a.clock;
     if keeps(a) {
         return told;

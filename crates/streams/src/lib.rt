@@ -1,14 +1,22 @@
 // A program's streams: all of its input, its output in one go, and on standard error a word for the wrapper that gives the exit status.
-ghost use Rattle.std.specs.Prelude.{◌≡◌, ◌+◌, ◌-◌, ◌≤◌, length, take};
+#![tactic(auto)]
+
+ghost use Rattle.std.specs.Prelude.{◌≡◌, ◌+◌, ◌-◌, ◌≤◌, length, take, IfSome};
 ghost use Rattle.text.specs.Writing.{stored};
 
-use libc::{STDERR_FILENO, STDIN_FILENO, STDOUT_FILENO};
+use std::env::FillError;
+use std::io;
+use std::io::Read;
+use std::rt::Env;
+
+// What one read asks for: much, so that a long input takes few calls.
+const PIECE: usize = 65_536;
 
 // Nothing says that an input ends, and every loop must: no run reads so many pieces.
 const PIECES: u64 = 18_446_744_073_709_551_615;
 
 // Whether an input was read to its end, and how many bytes of it are kept.
-#[derive(Drop)]
+#[derive(Clone, Copy)]
 pub struct Input {
     pub ended: bool,
     pub length: usize,
@@ -26,7 +34,7 @@ fn keep(buf: &mut [u8], at: usize, piece: &[u8]) -> usize
 }
 
 // What one read gave: whether more may come, whether it ended, and how many bytes are kept then.
-#[derive(Drop)]
+#[derive(Clone, Copy)]
 pub struct Turn {
     pub more: bool,
     pub ended: bool,
@@ -34,36 +42,39 @@ pub struct Turn {
 }
 
 // Reads once, and keeps what there is room for.
-fn take_piece(buf: &mut [u8], held: usize) -> Turn
+fn take_piece<R: Read>(reader: &mut R, buf: &mut [u8], held: usize) -> Turn
     requires { held ≤ length buf.old }
     ensures { result.length ≤ length buf.old }
 {
-    let mut piece = io::large_buffer();
-    let got = libc::read(STDIN_FILENO, &mut piece);
-    if got <= 0 {
-        return Turn {
+    let mut piece = [0u8; PIECE];
+    match reader.read(&mut piece) {
+        Ok(0) => Turn {
             more: false,
-            ended: got == 0,
+            ended: true,
             length: held,
-        };
-    }
-    let n = io::count(got, &piece);
-    let kept = keep(buf, held, &piece[..n]);
-    Turn {
-        more: true,
-        ended: false,
-        length: kept,
+        },
+        Ok(n) => Turn {
+            more: true,
+            ended: false,
+            length: keep(buf, held, &piece[..n]),
+        },
+        Err(_) => Turn {
+            more: false,
+            ended: false,
+            length: held,
+        },
     }
 }
 
 // Reads standard input to its end and keeps as many of its first bytes as the buffer holds: whoever writes a longer input is not cut off.
-pub fn read_all(buf: &mut [u8]) -> Input
+pub fn read_all(rt: &impl io::Input, buf: &mut [u8]) -> Input
     ensures { (result.length ≤ length buf.new) × (result.length ≡ length (take result.length buf.new)) }
 {
+    let mut reader = rt.reader();
     let mut kept = 0;
     let mut pieces = PIECES;
     while 0 < pieces {
-        let turn = take_piece(buf, kept);
+        let turn = take_piece(&mut reader, buf, kept);
         kept = turn.length;
         if !turn.more {
             return Input {
@@ -79,35 +90,46 @@ pub fn read_all(buf: &mut [u8]) -> Input
     }
 }
 
+// The length of a word that a program is started with, which then lies at the start of the buffer:
+// 0 where it is longer than the buffer, none where there is no such word. Word 0 is the program's name.
+pub fn word_told(rt: &impl Env, at: usize, word: &mut [u8]) -> Option<usize>
+    ensures { IfSome result (λ n. n ≤ length word.new) }
+{
+    match rt.arg(at, word) {
+        Ok(n) => Some(n),
+        Err(FillError::TooLong) => Some(0),
+        Err(FillError::NotPresent) => None,
+    }
+}
+
 // The edition that a program is started with, as its one word: 1 without a word, 0 where the words name none.
-pub fn edition_told() -> u8 {
-    let words = os::arg_count();
-    if words < 2 {
-        return 1;
-    }
+pub fn edition_told(rt: &impl Env) -> u8 {
     let mut word = [0u8; 2];
-    let n = os::arg(1, &mut word);
-    if (words == 2) & text::same(&word[..n], b"1") {
+    let Some(n) = word_told(rt, 1, &mut word) else {
+        return 1;
+    };
+    let one = word_told(rt, 2, &mut [0u8; 2]).is_none();
+    if one & text::same(&word[..n], b"1") {
         return 1;
     }
-    if (words == 2) & text::same(&word[..n], b"2") {
+    if one & text::same(&word[..n], b"2") {
         return 2;
     }
     0
 }
 
-// Says that the input was not read.
-pub fn complain() {
-    io::write_all(STDERR_FILENO, b"the input can't be read\n");
+// Says that the input was not read. Where that can't be said either, nothing is left to do.
+pub fn complain(rt: &impl Eprint) {
+    let _ = rt.eprintln("the input can't be read");
 }
 
 // Writes all that a program has to say.
-pub fn write_once(s: &[u8], done: bool) {
-    if !io::write_all(STDOUT_FILENO, s) {
-        io::write_all(STDERR_FILENO, b"the output can't be written\n");
+pub fn write_once(rt: &(impl Print + Eprint), s: &[u8], done: bool) {
+    if rt.write_all(s).is_err() {
+        let _ = rt.eprintln("the output can't be written");
         return;
     }
     if !done {
-        io::write_all(STDERR_FILENO, b"refused\n");
+        let _ = rt.eprintln("refused");
     }
 }

@@ -1,4 +1,6 @@
 // The tariff: the day's table, the hour's zone, a counter after a pulse, and a month that starts.
+#![tactic(auto)]
+
 ghost use Rattle.std.specs.Prelude.{◌≡◌, true, ◌-◌, ◌≤◌, ◌<◌};
 ghost use Rattle.values.specs.Family.{counter_end, export_end};
 ghost use Rattle.state.specs.WellFormed.{family_in, counters_good, archive_good};

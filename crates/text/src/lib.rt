@@ -1,4 +1,6 @@
 // Text: characters put into a lent buffer, texts compared, and the form of a line with numbers in it.
+#![tactic(auto)]
+
 ghost use Rattle.std.specs.Prelude.{◌≡◌, ◌+◌, ◌-◌, ◌≤◌, min, length, take, drop, get_or};
 ghost use Rattle.line.specs.Runs.{every};
 ghost use Rattle.text.specs.Writing.{stored};

@@ -20,7 +20,7 @@ use Rattle.replies.specs.Shown.{row_of}
 use Rattle.meter.specs.declared.Event.{Event}
 use Rattle.meter.specs.declared.Event.TheVariants.{Character, Silence, Tick, Pulse, PowerUp, PulseOut, Unknown}
 use Rattle.promises.proofs.Choices as choice
-use Rattle.delivery.proofs.Rows.{row_here, row_apart}
+use Rattle.delivery.proofs.Rows.{row_here as row_there, row_apart}
 use Rattle.history.specs.Frames.{Write, clock, account, row, good_write, tells, data_in, is_frame, clock_here, account_here, row_here, write_of, write_in}
 use Rattle.history.specs.Standing.{standing, is_whole, frame_by, closes_period}
 use Rattle.history.specs.Deeds.{Deed, wrote_all, deeds_at, deeds, writes_of}
@@ -130,7 +130,7 @@ rows_told edition n good (row k r ∷ ws) h = go (eqb k n) refl (rows_told editi
     room = omega (arith, most, least, tables-long (new_rows edition) ws, rows-room edition)
 
     go : (p : Bool) → eqb k n ≡ p → row_of (tables_told (new_rows edition) ws) n ≡ row_told n ws → row_of (tables_told (new_rows edition) (row k r ∷ ws)) n ≡ cond p r (row_told n ws)
-    go true e before = ap (λ (i : ℕ). row_of (tables_told (new_rows edition) (row i r ∷ ws)) n) (eqb-true k n e) ∙ row_here (tables_told (new_rows edition) ws) n r long room
+    go true e before = ap (λ (i : ℕ). row_of (tables_told (new_rows edition) (row i r ∷ ws)) n) (eqb-true k n e) ∙ row_there (tables_told (new_rows edition) ws) n r long room
     go false e before = row_apart (tables_told (new_rows edition) ws) n k r long least low (eqb-false k n e) ∙ before
 rows_told edition n good (clock c ∷ ws) h = rows_told edition n good ws (and_right (good_write (tables_of edition) (clock c)) (all_good (tables_of edition) ws) h)
 rows_told edition n good (account a ∷ ws) h = rows_told edition n good ws (and_right (good_write (tables_of edition) (account a)) (all_good (tables_of edition) ws) h)

@@ -5,19 +5,19 @@ ghost use Rattle.text.specs.Layout.{pattern, fits};
 ghost use Rattle.eights.specs.Lanes.{lanes};
 ghost use Rattle.values.specs.Serials.{serial_form, no_serial, no_account, no_row, serial_read, account_read, row_read};
 
-#[derive(Drop)]
+#[derive(Clone, Copy)]
 pub struct SerialRead {
     pub ok: bool,
     pub serial: [u8; 10],
 }
 
-#[derive(Drop)]
+#[derive(Clone, Copy)]
 pub struct AccountRead {
     pub ok: bool,
     pub account: [u8; 10],
 }
 
-#[derive(Drop)]
+#[derive(Clone, Copy)]
 pub struct RowRead {
     pub ok: bool,
     pub row: [u8; crate::ROW_LENGTH],

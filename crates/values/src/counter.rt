@@ -5,7 +5,7 @@ ghost use Rattle.values.specs.Numbers.{Above};
 ghost use Rattle.values.specs.Counters.{keeps_form, first_form, last_form, upper_of, counter_of};
 
 // What eight characters of a form have in their lanes: the least characters, the bits that those of a lane share, and what a digit has to spare.
-#[derive(Drop)]
+#[derive(Clone, Copy)]
 pub struct Form {
     pub low: u64,
     pub bits: u64,

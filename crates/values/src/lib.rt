@@ -1,4 +1,6 @@
 // Values that both sides of the line share: what a register may hold, the text that shows it, and the text read back.
+#![tactic(auto)]
+
 ghost use Rattle.std.specs.Prelude.{◌≡◌, ◌+◌, ◌≤◌, length};
 ghost use Rattle.text.specs.Classes.{is_letter};
 ghost use Rattle.text.specs.Decimal.{value_of};
@@ -13,15 +15,15 @@ pub mod reading;
 pub mod writing;
 
 // A table's number, from 1.
-#[derive(Drop)]
+#[derive(Clone, Copy)]
 pub struct TableNo(pub u8);
 
 // A zone's number, 1 to 4.
-#[derive(Drop)]
+#[derive(Clone, Copy)]
 pub struct ZoneNo(pub u8);
 
 // An energy: the total, or a zone's.
-#[derive(Drop)]
+#[derive(Clone, Copy)]
 pub enum Energy {
     Total,
     Zone(ZoneNo),

@@ -22,7 +22,7 @@ pub fn two(s: &[u8], at: usize) -> u16
 }
 
 // Three numbers of two digits, each with a character between it and the next.
-#[derive(Drop)]
+#[derive(Clone, Copy)]
 pub struct Three {
     pub first: u8,
     pub second: u8,

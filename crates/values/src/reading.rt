@@ -36,37 +36,37 @@ fn three_above(w: u64, least: u64) -> Three
     }
 }
 
-#[derive(Drop)]
+#[derive(Clone, Copy)]
 pub struct DateRead {
     pub ok: bool,
     pub date: Date,
 }
 
-#[derive(Drop)]
+#[derive(Clone, Copy)]
 pub struct TimeRead {
     pub ok: bool,
     pub time: Time,
 }
 
-#[derive(Drop)]
+#[derive(Clone, Copy)]
 pub struct ClockRead {
     pub ok: bool,
     pub clock: Clock,
 }
 
-#[derive(Drop)]
+#[derive(Clone, Copy)]
 pub struct StampRead {
     pub ok: bool,
     pub stamp: Stamp,
 }
 
-#[derive(Drop)]
+#[derive(Clone, Copy)]
 pub struct CounterRead {
     pub ok: bool,
     pub number: u32,
 }
 
-#[derive(Drop)]
+#[derive(Clone, Copy)]
 pub struct TableRead {
     pub ok: bool,
     pub table: TableNo,

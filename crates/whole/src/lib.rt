@@ -1,5 +1,7 @@
 // A frame that comes whole, as a slice: the state is checked once, the slice is looked at as a whole, and the answer is that of the character engine
 // at its last byte.
+#![tactic(auto)]
+
 ghost use Rattle.std.specs.Prelude.{◌≡◌, true, map, ◌≤◌, ◌<◌, length};
 ghost use Rattle.line.specs.Runs.{every};
 ghost use Rattle.text.specs.Writing.{holding};
@@ -147,7 +149,7 @@ fn fill(run: &[u8]) -> Receiver
 }
 
 // What a look at a slice comes to: a refusal's number and its speed; or number 0, the last byte, and the receiver that holds what comes before it.
-#[derive(Drop)]
+#[derive(Clone, Copy)]
 pub struct Looked {
     pub number: u8,
     pub speed: u8,

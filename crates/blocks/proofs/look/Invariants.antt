@@ -1,0 +1,24 @@
+-- `blocks::look` meets its contract: the flag and the sum, each with what is left, say it of the whole. Assumes nothing.
+use mathlib.Core.Path.{◌≡◌, refl, ap₂, ◌∙◌}
+use mathlib.Core.Bool.{Bool, true, false, not, ◌&&◌}
+use Prim.Native.Nat.{ℕ, ◌≤◌, ◌-◌, max}
+use native.Mathlib.Omega.{arith}
+use borrow.Author.Rules.{rules}
+use borrow.Author.Tests.{le-leb, lt-leb, leb-true, leb-false}
+use lib.Bits.{bit_xor}
+use lib.Dec.{leb, eqb}
+use lib.ListN.{length, drop, get_or}
+use Rattle.line.specs.Characters.{seven}
+use Rattle.line.specs.Checksum.{bcc_of}
+use Rattle.line.specs.Runs.{every}
+use Rattle.line.proofs.Runs.{every-turn, every-end}
+use Rattle.line.proofs.Xor.{bcc-start, bcc-turn, bcc-end}
+use Rattle.blocks.specs.Parts.{is_content}
+use Rattle.blocks.proofs.look.Given as goal
+
+abbrev pub invariant-loop-i : goal.invariant-loop-i
+invariant-loop-i l =
+    (l.i ≤ length l.s) × (((leb l.most 127 && l.clear) && every is_content (drop l.i l.s)) ≡ every is_content l.s) × (bit_xor (seven l.sum) (bcc_of (drop l.i l.s)) ≡ bcc_of l.s)
+
+abbrev pub decreases-loop-i : goal.decreases-loop-i
+decreases-loop-i l = length l.s - l.i

@@ -1,0 +1,12 @@
+-- `card::check` meets its contract: 16, or the check for as many tables as the edition has. Assumes nothing.
+use mathlib.Core.Path.{refl}
+use borrow.Author.Rules.{rules}
+use Rattle.values.proofs.Editions.{is_one, is_none}
+use Rattle.card.proofs.check.Goals as goal
+
+pub returns-then-is_edition : goal.returns-then-is_edition
+returns-then-is_edition c =
+    record { none = λ e. absurd (is_one _ _ c.is_edition.ensures c.if-is_edition.true e); some = λ _. (rw (← c.tables_of.ensures.value) c.check_of.ensures) }
+
+pub returns : goal.returns
+returns c = record { none = λ _. (refl, refl); some = λ e. absurd (is_none _ _ c.is_edition.ensures c.if-is_edition.false e) }

@@ -1,0 +1,25 @@
+-- `card::table_column` meets its contract: each way out is the case of the definition that its test names. Assumes nothing.
+use Rattle.text.specs.Classes.{between}
+use Rattle.card.specs.Columns.{table_column}
+use borrow.Author.Tests.{eq-eqb, ne_eqb}
+use Rattle.card.proofs.table_column.Goals as goal
+
+pub returns-then-j-eq0 : goal.returns-then-j-eq0
+unfolding table_column
+returns-then-j-eq0 c = rw (eq-eqb _ _ c.if-j-eq0.true)
+
+pub returns-then-j-eq1 : goal.returns-then-j-eq1
+unfolding table_column
+returns-then-j-eq1 c = rw (ne_eqb _ _ c.if-j-eq0.false, eq-eqb _ _ c.if-j-eq1.true)
+
+pub returns-then-j-eq2 : goal.returns-then-j-eq2
+unfolding table_column
+returns-then-j-eq2 c = rw (ne_eqb _ _ c.if-j-eq0.false, ne_eqb _ _ c.if-j-eq1.false, eq-eqb _ _ c.if-j-eq2.true)
+
+pub returns-then-j-eq3 : goal.returns-then-j-eq3
+unfolding table_column
+returns-then-j-eq3 c = rw (ne_eqb _ _ c.if-j-eq0.false, ne_eqb _ _ c.if-j-eq1.false, ne_eqb _ _ c.if-j-eq2.false, eq-eqb _ _ c.if-j-eq3.true)
+
+pub returns : goal.returns
+unfolding table_column between
+returns c = rw (ne_eqb _ _ c.if-j-eq0.false, ne_eqb _ _ c.if-j-eq1.false, ne_eqb _ _ c.if-j-eq2.false, ne_eqb _ _ c.if-j-eq3.false)

@@ -1,0 +1,19 @@
+-- `commands::build` meets its contract: too short a buffer, a field outside its rule, or the command as it was made. Assumes nothing.
+use borrow.Author.Tests.{not-true, not-false}
+use borrow.Author.Rules.{rules}
+use Rattle.commands.proofs.Making.{too_short, built, field-refused}
+use Rattle.commands.proofs.build.Goals as goal
+
+pub returns-then-buf-lt-ROOM : goal.returns-then-buf-lt-ROOM
+returns-then-buf-lt-ROOM c = too_short _ _ _ _ c.if-buf-lt-ROOM.true c.short.ensures
+
+pub returns-then-not-good : goal.returns-then-not-good
+returns-then-not-good c = field-refused _ _ _ _ c.if-buf-lt-ROOM.false c.if-not-good.true c.refused.ensures
+
+pub frame-requires : goal.frame-requires
+frame-requires c =
+    let pre = c.requires in
+    record { room = c.if-buf-lt-ROOM.false; begun = pre.begun; small = pre.small c.if-not-good.false }
+
+pub returns : goal.returns
+returns c = built _ _ _ _ _ c.if-buf-lt-ROOM.false c.if-not-good.false c.frame.ensures

@@ -1,0 +1,10 @@
+-- `judging::is_ack` meets its contract: the byte string is ACK with its parity, by computing. Assumes nothing.
+use Rattle.judging.specs.Right.{accepts}
+use Rattle.line.specs.Characters.{seven, sent}
+use lib.Count.{ones}
+use borrow.Author.Rules.{rules}
+use Rattle.judging.proofs.is_ack.Goals as goal
+
+pub returns : goal.returns
+unfolding accepts sent seven ones
+returns c = c.same.ensures

@@ -1,0 +1,6 @@
+-- `keeping::making::make` meets its contract. Assumes nothing.
+use borrow.Author.Rules.{rules}
+use Rattle.keeping.proofs.making.make.Goals as goal
+
+pub returns : goal.returns
+returns c = rw (c.make_from.ensures, c.clock_of-clock.ensures)

@@ -1,0 +1,13 @@
+-- `keeping::show` meets its contract: each way out is the case of the definition that its test names. Assumes nothing.
+use borrow.Author.Tests.{not-true, not-false}
+use borrow.Author.Rules.{rules}
+use Rattle.keeping.proofs.show.Goals as goal
+
+pub returns-then-not-is_edition : goal.returns-then-not-is_edition
+returns-then-not-is_edition c = rw (← c.is_edition.ensures, c.if-not-is_edition.true)
+
+pub returns-then-formed : goal.returns-then-formed
+returns-then-formed c = rw (← c.is_edition.ensures, c.if-not-is_edition.false, c.if-formed.true)
+
+pub returns : goal.returns
+returns c = rw (← c.is_edition.ensures, c.if-not-is_edition.false, c.if-formed.false)

@@ -1,0 +1,34 @@
+-- `line::undamaged` meets its contract: whether no stray top bit is gathered, with what is left, says it of the whole. Assumes nothing.
+use mathlib.Core.Path.{◌≡◌, refl, sym, ap, ◌∙◌}
+use mathlib.Core.Bool.{Bool, ◌&&◌}
+use Prim.Native.Nat.{ℕ, ◌+◌, ◌/◌, ◌≤◌, ◌<◌, ◌-◌}
+use native.Mathlib.Omega.{arith}
+use lib.Bits.{bit_or, bit_xor}
+use lib.Dec.{eqb}
+use lib.ListN.{length, drop, get_or}
+use Rattle.line.specs.Runs.{every}
+use Rattle.line.specs.Characters.{undamaged_at, undamaged_all}
+use Rattle.line.proofs.Evening.{none-stray}
+use Rattle.line.proofs.Runs.{every-turn, every-end}
+use Rattle.line.proofs.undamaged.Goals as goal
+
+pub loop-at-init : goal.loop-at-init
+loop-at-init c = (omega arith, refl)
+
+pub loop-at-preserved : goal.loop-at-preserved
+loop-at-preserved c =
+    let s = c.args.s.now in
+    let at = c.loop-at.at in
+    let strays = c.loop-at.strays in
+    let byte = get_or s at 0 in
+    let small : byte < 256 = omega (arith, c.type_inv.s at) in (
+      omega arith,
+      rw (c.balance.ensures, none-stray strays byte small)
+          (every-turn undamaged_at s at (eqb (strays / 128) 0) _ (omega arith) c.loop-at.invariant.1),
+    )
+
+pub returns : goal.returns
+unfolding undamaged_all
+returns c =
+    let s = c.args.s.now in
+    every-end undamaged_at s c.loop-at.at (eqb (c.loop-at.strays / 128) 0) _ (omega arith) c.loop-at.invariant.1

@@ -1,0 +1,19 @@
+-- `line::undamaged` meets its contract: whether no stray top bit is gathered, with what is left, says it of the whole. Assumes nothing.
+use mathlib.Core.Path.{◌≡◌, refl, sym, ap, ◌∙◌}
+use mathlib.Core.Bool.{Bool, ◌&&◌}
+use Prim.Native.Nat.{ℕ, ◌+◌, ◌/◌, ◌≤◌, ◌<◌, ◌-◌}
+use native.Mathlib.Omega.{arith}
+use lib.Bits.{bit_or, bit_xor}
+use lib.Dec.{eqb}
+use lib.ListN.{length, drop, get_or}
+use Rattle.line.specs.Runs.{every}
+use Rattle.line.specs.Characters.{undamaged_at, undamaged_all}
+use Rattle.line.proofs.Evening.{none-stray}
+use Rattle.line.proofs.Runs.{every-turn, every-end}
+use Rattle.line.proofs.undamaged.Given as goal
+
+abbrev pub invariant-loop-at : goal.invariant-loop-at
+invariant-loop-at l = (l.at ≤ length l.s) × ((eqb (l.strays / 128) 0 && every undamaged_at (drop l.at l.s)) ≡ every undamaged_at l.s)
+
+abbrev pub decreases-loop-at : goal.decreases-loop-at
+decreases-loop-at l = length l.s - l.at

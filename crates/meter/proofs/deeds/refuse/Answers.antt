@@ -1,0 +1,6 @@
+-- `meter::deeds::refuse` meets its contract: each way out is the case of the definition that its tests name. Assumes nothing.
+use borrow.Author.Rules.{rules}
+use Rattle.meter.proofs.deeds.refuse.Goals as goal
+
+pub returns : goal.returns
+returns c = rw (c.speed_in.ensures, c.fall-mode.ensures)

@@ -1,0 +1,11 @@
+-- `post::first_stray` meets its contract: every column passed fits. Assumes nothing.
+use Rattle.std.proofs.Common.{◌≡◌, ℕ, suc, ◌+◌, ◌-◌, ◌*◌, ◌<◌, ◌≤◌, Bool, true, false, ◌&&◌, List, [], ◌∷◌, ◌++◌, length, sym, refl, ap, ◌∙◌, arith, below_more}
+use borrow.Author.Tests.{not-true, not-false}
+use Rattle.post.specs.Columns.{lowest, highest, column_fits, FirstStray}
+use Rattle.post.proofs.first_stray.Given as goal
+
+abbrev pub invariant-loop-j : goal.invariant-loop-j
+invariant-loop-j l = (l.low ≡ lowest) × (l.high ≡ highest) × (length l.s < 36) × (l.j ≤ length l.s) × ((i : ℕ) → i < l.j → column_fits l.s i ≡ true)
+
+abbrev pub decreases-loop-j : goal.decreases-loop-j
+decreases-loop-j l = length l.s - l.j

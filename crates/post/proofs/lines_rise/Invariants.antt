@@ -1,0 +1,12 @@
+-- `post::lines_rise` meets its contract: what is known of the lines gone through is kept in the flags. Assumes nothing.
+use Rattle.std.proofs.Common.{◌≡◌, ℕ, suc, ◌+◌, ◌-◌, ◌*◌, ◌<◌, ◌≤◌, Bool, true, false, ◌&&◌, List, [], ◌∷◌, ◌++◌, length, get_or, drop, sym, refl, ap, ◌∙◌, arith}
+use Rattle.line.proofs.Runs.{and_left, and_right}
+use Rattle.post.specs.Columns.{lowest, highest, raw_at, LineRises}
+use Rattle.post.proofs.Rise.{Rose, rose-none, rose-more, rose-end}
+use Rattle.post.proofs.lines_rise.Given as goal
+
+abbrev pub invariant-loop-l : goal.invariant-loop-l
+invariant-loop-l l = (l.low ≡ lowest) × (l.high ≡ highest) × (l.floor ≡ lowest) × (l.ceiling ≡ highest) × (l.top ≡ 528 + l.tables) × (l.l ≤ l.lines) × (Rose l.tables l.text l.l l.above l.rise l.fits)
+
+abbrev pub decreases-loop-l : goal.decreases-loop-l
+decreases-loop-l l = l.lines - l.l

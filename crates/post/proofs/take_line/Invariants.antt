@@ -1,0 +1,11 @@
+-- `post::take_line` meets its contract: the flags passed took the line in, the others are as they were. Assumes nothing.
+use Rattle.std.proofs.Common.{◌≡◌, ℕ, suc, ◌+◌, ◌-◌, ◌*◌, ◌<◌, ◌≤◌, Bool, true, false, ◌&&◌, List, [], ◌∷◌, ◌++◌, length, drop, sym, refl, ap, ◌∙◌, arith, length-set, rules}
+use Rattle.post.specs.Columns.{TookLine}
+use Rattle.post.proofs.Windows.{took-none, took_more}
+use Rattle.post.proofs.take_line.Given as goal
+
+abbrev pub invariant-loop-j : goal.invariant-loop-j
+invariant-loop-j l = (l.j ≤ 16) × (length l.fits ≡ 16) × (TookLine (drop l.at l.text) l.initial.fits l.fits l.j)
+
+abbrev pub decreases-loop-j : goal.decreases-loop-j
+decreases-loop-j l = 16 - l.j

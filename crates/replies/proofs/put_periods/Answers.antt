@@ -1,0 +1,55 @@
+-- `replies::put_periods` meets its contract: so far the lines of the first i periods are put in. Assumes nothing.
+use mathlib.Core.Path.{◌≡◌, refl, ◌∙◌}
+use Prim.Native.Nat.{◌+◌, ◌-◌, ◌*◌, ◌≤◌, ◌<◌}
+use native.Mathlib.Omega.{arith}
+use lib.ListN.{length, take}
+use Rattle.text.proofs.Writing.{length-stored}
+use Rattle.state.specs.Closing.{periods_of}
+use Rattle.datasets.proofs.Joined.{Lines}
+use Rattle.replies.specs.Periods.{archive_sets}
+use Rattle.replies.proofs.Periods.{period-within, no-period, next-period}
+use borrow.Author.Rules.{rules}
+use Rattle.replies.proofs.put_periods.Goals as goal
+
+pub loop-i-init : goal.loop-i-init
+loop-i-init c =
+    let a = c.args in
+    (omega arith, omega arith, refl, no-period a.family a.a.periods a.buf.now a.at)
+
+pub offset_bounds-a-i : goal.offset_bounds-a-i
+offset_bounds-a-i c = omega (arith, c.loop-i-test.true)
+
+pub bounds-a-i : goal.bounds-a-i
+bounds-a-i c = omega (arith, c.loop-i-test.true, c.requires.0)
+
+pub overflow_add-i : goal.overflow_add-i
+overflow_add-i c = omega (arith, c.loop-i-test.true)
+
+pub put_period-place-requires : goal.put_period-place-requires
+put_period-place-requires c =
+    let turn = c.loop-i in
+    omega (arith, c.requires.1, turn.invariant.1, turn.invariant.2, c.loop-i-test.true)
+
+pub loop-i-preserved : goal.loop-i-preserved
+loop-i-preserved c =
+    let a = c.args in
+    let turn = c.loop-i in
+    let taken = c.loop-i-test.true in
+    let put = c.put_period-place.ensures in
+    let all : length a.a.periods ≡ 12 = search rules in
+    let there : turn.i < length a.a.periods = omega (arith, all, c.requires.0, taken) in (
+      omega (arith, taken),
+      omega (arith, turn.invariant.1, period-within a.family a.a.periods _ turn.i turn.place _ put.next),
+      rw put.held (length-stored _ _ _ ∙ turn.invariant.2),
+      next-period a.family a.a.periods _ a.buf.now a.at turn.i turn.place turn.buf _ _ there turn.invariant.3 put.next put.held,
+    )
+
+pub shape_of-buf : goal.shape_of-buf
+shape_of-buf c = c.loop-i.invariant.2
+
+pub returns : goal.returns
+unfolding periods_of
+returns c =
+    let turn = c.loop-i in
+    let done : turn.i ≡ c.args.a.count = omega (arith, turn.invariant.0, c.loop-i-test.false) in
+    record { next = rw done at turn.invariant.3.next; held = rw done at turn.invariant.3.held }

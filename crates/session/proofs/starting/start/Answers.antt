@@ -1,0 +1,77 @@
+-- `session::starting::start` meets its contract: no edition, no family, a buffer that is too small, reads, no kind of work, a post, a text that is none. Assumes nothing.
+use mathlib.Core.Path.{◌≡◌, refl, sym, ap, ◌∙◌}
+use Prim.Native.Nat.{ℕ}
+use native.Mathlib.Omega.{arith}
+use borrow.Author.Tests.{not-true, not-false}
+use lib.ListN.{length}
+use Rattle.text.specs.Writing.{holding}
+use Rattle.values.specs.Edition.{tables_of}
+use Rattle.values.proofs.Editions.{tables-most}
+use Rattle.frames.specs.Frames.{on_wire}
+use Rattle.session.specs.Starting.{told_of, started_of, unopened, opened_reads, opened_post, unknown, strange, small, nothing, reads, posts, others}
+use Rattle.session.proofs.Checked.{not-post, a-post, lines-counted}
+use borrow.Author.Rules.{rules}
+use Rattle.session.proofs.starting.start.Goals as goal
+
+pub returns-then-not-is_edition : goal.returns-then-not-is_edition
+unfolding holding
+returns-then-not-is_edition c =
+    let none = sym c.is_edition.ensures ∙ c.if-not-is_edition.true in
+    record { opening = unopened 16 0; opens = unknown none refl; answer = c.refuse.ensures; held = refl }
+
+pub returns-then-not-is_family : goal.returns-then-not-is_family
+unfolding holding
+returns-then-not-is_family c =
+    let is = sym c.is_edition.ensures ∙ c.if-not-is_edition.false in
+    let none = sym c.is_family.ensures ∙ c.if-not-is_family.true in
+    record { opening = unopened 18 0; opens = strange is none refl; answer = c.refuse-then-not-is_family.ensures; held = refl }
+
+pub returns-then-buf-lt-ROOM : goal.returns-then-buf-lt-ROOM
+unfolding holding
+returns-then-buf-lt-ROOM c =
+    let is = sym c.is_edition.ensures ∙ c.if-not-is_edition.false in
+    let has = sym c.is_family.ensures ∙ c.if-not-is_family.false in
+    record { opening = unopened 19 0; opens = small (is, has) c.if-buf-lt-ROOM.true refl; answer = c.refuse-then-buf-lt-ROOM.ensures; held = refl }
+
+pub returns-then-kind-eq0 : goal.returns-then-kind-eq0
+returns-then-kind-eq0 c =
+    let a = c.args in
+    let is = sym c.is_edition.ensures ∙ c.if-not-is_edition.false in
+    let has = sym c.is_family.ensures ∙ c.if-not-is_family.false in
+    record { opening = opened_reads (told_of a.edition a.decimals a.named a.serial.now a.access a.password.now a.kind) a.work.now; opens = reads (is, has) c.if-buf-lt-ROOM.false c.if-kind-eq0.true refl; answer = c.open_reads.ensures.result; held = c.open_reads.ensures.held }
+
+pub returns-then-kind-ne1 : goal.returns-then-kind-ne1
+unfolding holding
+returns-then-kind-ne1 c =
+    let is = sym c.is_edition.ensures ∙ c.if-not-is_edition.false in
+    let has = sym c.is_family.ensures ∙ c.if-not-is_family.false in
+    record { opening = unopened 9 0; opens = nothing (is, has) c.if-buf-lt-ROOM.false c.if-kind-eq0.false c.if-kind-ne1.true refl; answer = c.refuse-then-kind-ne1.ensures; held = refl }
+
+pub returns-then-number-ne1 : goal.returns-then-number-ne1
+unfolding holding
+returns-then-number-ne1 c =
+    let a = c.args in
+    let is = sym c.is_edition.ensures ∙ c.if-not-is_edition.false in
+    let has = sym c.is_family.ensures ∙ c.if-not-is_family.false in
+    let r = not-post (tables_of a.edition) a.work.now _ _ (c.check-checked.ensures.some is) c.if-number-ne1.true in
+    record {
+      opening = unopened 20 c.check-checked.result.place;
+      opens = others (is, has) c.if-buf-lt-ROOM.false c.if-kind-ne1.false (record { no-post = r.no-post; longest = r.longest; refused = refl });
+      answer = c.refuse-then-number-ne1.ensures;
+      held = refl;
+    }
+
+pub returns : goal.returns
+returns c =
+    let a = c.args in
+    let is = sym c.is_edition.ensures ∙ c.if-not-is_edition.false in
+    let has = sym c.is_family.ensures ∙ c.if-not-is_family.false in
+    let p = a-post (tables_of a.edition) a.work.now _ _ (c.check-checked.ensures.some is) c.if-number-ne1.false in
+    let n = lines-counted (tables_of a.edition) a.work.now p (omega (arith, tables-most a.edition)) in
+    let t = told_of a.edition a.decimals a.named a.serial.now a.access a.password.now a.kind in
+    record {
+      opening = opened_post t (length p.entries);
+      opens = posts (is, has) c.if-buf-lt-ROOM.false c.if-kind-ne1.false (record { is-post = p; opens = refl });
+      answer = c.open_post.ensures.result ∙ ap (λ (k : ℕ). started_of (opened_post t k)) n;
+      held = c.open_post.ensures.held ∙ ap (λ (k : ℕ). holding a.buf.now (on_wire (opened_post t k).text)) n;
+    }

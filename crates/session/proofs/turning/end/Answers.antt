@@ -1,0 +1,6 @@
+-- `session::turning::end` meets its contract. Assumes nothing.
+use borrow.Author.Rules.{rules}
+use Rattle.session.proofs.turning.end.Goals as goal
+
+pub returns : goal.returns
+returns c = rw c.stand.ensures

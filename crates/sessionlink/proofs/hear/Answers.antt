@@ -1,0 +1,6 @@
+-- `sessionlink::hear` meets its contract: what the session's own call says, its numbers handed out. Assumes nothing.
+use borrow.Author.Rules.{rules}
+use Rattle.sessionlink.proofs.hear.Goals as goal
+
+pub returns : goal.returns
+returns c = c.hear-a.ensures

@@ -1,0 +1,41 @@
+-- `state::last_good` meets its contract: what is gathered, with what is left, says it of the whole, of both kinds. Assumes nothing.
+use Rattle.std.proofs.Common.{◌≡◌, ℕ, ◌+◌, ◌-◌, ◌%◌, ◌<◌, ◌≤◌, Bool, ◌&&◌, eqb, length, get_or, drop, sym, refl, ap, ◌∙◌, arith, rules}
+use Rattle.line.specs.Runs.{every}
+use Rattle.line.proofs.Runs.{every-end}
+use Rattle.text.specs.Classes.{between}
+use Rattle.state.specs.Sizes.{first_rows}
+use Rattle.state.specs.Fours.{in_row, last_good}
+use Rattle.state.proofs.Fours.{none-of-both, row-joins, row_word, none-word, four-turn}
+use Rattle.state.proofs.last_good.Goals as goal
+
+pub loop-i-init : goal.loop-i-init
+unfolding in_row
+loop-i-init c = (omega (arith, c.requires), omega arith, refl, refl)
+
+pub loop-i-preserved : goal.loop-i-preserved
+loop-i-preserved c =
+    let s = c.args.s.now in
+    let i = c.loop-i.i in
+    let byte = c.type_inv.s in
+    let fits : i + 4 ≤ length s = omega (arith, c.requires, c.loop-i-test.true, c.loop-i.invariant.1) in
+    let four = c.four-four.ensures in
+    let row =
+    row_word c.above_one-bad.result (get_or s i 0) (get_or s (i + 1) 0) (get_or s (i + 2) 0) (get_or s (i + 3) 0) (omega (arith, c.above_one-bad.type_inv))
+    (omega (arith, byte i)) (omega (arith, byte (i + 1))) (omega (arith, byte (i + 2))) (omega (arith, byte (i + 3))) (c.above_one-bad.ensures ∙ four) in
+    let none = ap (λ (n : ℕ). eqb n 0) four ∙ none-word (get_or s i 0) (get_or s (i + 1) 0) (get_or s (i + 2) 0) (get_or s (i + 3) 0) in (
+      fits,
+      omega (arith, c.loop-i.invariant.1),
+      four-turn (between 49 52) s in_row row-joins i c.loop-i.bad c.above_one-bad.result _ fits row c.loop-i.invariant.2,
+      four-turn (between 0 0) s (λ (n : ℕ). eqb n 0) none-of-both i c.loop-i.bits c.four-four.result _ fits none c.loop-i.invariant.3,
+    )
+
+pub returns-then-used : goal.returns-then-used
+unfolding last_good
+returns-then-used c =
+    rw (c.is_in_row.ensures, c.if-used.true)
+    (every-end (between 49 52) c.args.s.now c.loop-i.i (in_row c.loop-i.bad) _ (omega (arith, c.requires, c.loop-i-test.false)) c.loop-i.invariant.2)
+
+pub returns : goal.returns
+unfolding last_good
+returns c =
+    rw c.if-used.false (every-end (between 0 0) c.args.s.now c.loop-i.i (eqb c.loop-i.bits 0) _ (omega (arith, c.requires, c.loop-i-test.false)) c.loop-i.invariant.3)

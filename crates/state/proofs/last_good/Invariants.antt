@@ -1,0 +1,16 @@
+-- `state::last_good` meets its contract: what is gathered, with what is left, says it of the whole, of both kinds. Assumes nothing.
+use Rattle.std.proofs.Common.{◌≡◌, ℕ, ◌+◌, ◌-◌, ◌%◌, ◌<◌, ◌≤◌, Bool, ◌&&◌, eqb, length, get_or, drop, sym, refl, ap, ◌∙◌, arith, rules}
+use Rattle.line.specs.Runs.{every}
+use Rattle.line.proofs.Runs.{every-end}
+use Rattle.text.specs.Classes.{between}
+use Rattle.state.specs.Sizes.{first_rows}
+use Rattle.state.specs.Fours.{in_row, last_good}
+use Rattle.state.proofs.Fours.{none-of-both, row-joins, row_word, none-word, four-turn}
+use Rattle.state.proofs.last_good.Given as goal
+
+abbrev pub invariant-loop-i : goal.invariant-loop-i
+invariant-loop-i l =
+    (l.i ≤ length l.s) × (l.i % 4 ≡ 0) × ((in_row l.bad && every (between 49 52) (drop l.i l.s)) ≡ every (between 49 52) (drop first_rows l.s)) × ((eqb l.bits 0 && every (between 0 0) (drop l.i l.s)) ≡ every (between 0 0) (drop first_rows l.s))
+
+abbrev pub decreases-loop-i : goal.decreases-loop-i
+decreases-loop-i l = length l.s - l.i

@@ -1,0 +1,17 @@
+-- `state::words_held` meets its contract: what is gathered, with what is left, says it of the whole, of both. Assumes nothing.
+use Rattle.std.proofs.Common.{◌≡◌, ℕ, ◌+◌, ◌-◌, ◌%◌, ◌<◌, ◌≤◌, Bool, ◌&&◌, eqb, ltb, length, get_or, drop, sym, refl, ap, ◌∙◌, ap₂, arith}
+use mathlib.Core.Bool.{and-true}
+use Rattle.line.specs.Runs.{every}
+use Rattle.line.proofs.Runs.{every-end}
+use Rattle.text.specs.Classes.{between}
+use Rattle.state.specs.Sizes.{held_places}
+use Rattle.state.specs.Fours.{in_seven}
+use Rattle.state.proofs.Fours.{seven-joins, seven-word, none-word, four-turn, behind_from, behind-start, behind-turn, behind-end}
+use Rattle.state.proofs.words_held.Given as goal
+
+abbrev pub invariant-loop-i : goal.invariant-loop-i
+invariant-loop-i l =
+    (l.i ≤ length l.held) × (l.i % 4 ≡ 0) × ((in_seven l.all && every (between 0 127) (drop l.i l.held)) ≡ every (between 0 127) l.held) × ((eqb l.behind 0 && behind_from l.count l.i l.held) ≡ every (between 0 0) (drop (l.count - l.count % 4 + 4) l.held))
+
+abbrev pub decreases-loop-i : goal.decreases-loop-i
+decreases-loop-i l = length l.held - l.i

@@ -1,0 +1,10 @@
+-- `values::writing::put_time` meets its contract: what is put in is the text, digit by digit. Assumes nothing.
+use Rattle.values.specs.Texts.{time_text}
+use Rattle.text.specs.Layout.{layout_text}
+use Rattle.text.specs.Decimal.{decimal}
+use borrow.Author.Rules.{rules}
+use Rattle.values.proofs.writing.put_time.Goals as goal
+
+pub returns : goal.returns
+unfolding time_text layout_text decimal
+returns c = record { next = c.put.ensures.next; held = c.put.ensures.held }

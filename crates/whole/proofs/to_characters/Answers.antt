@@ -1,0 +1,36 @@
+-- `whole::to_characters` meets its contract. The invariant: the bytes passed are characters, the others are as they were.
+-- Assumes nothing.
+use mathlib.Core.Path.{◌≡◌, refl, sym, ap, ◌∙◌}
+use mathlib.Core.List.{List}
+use Prim.Native.Nat.{ℕ, ◌<◌, ◌≤◌, ◌-◌}
+use native.Mathlib.Omega.{arith}
+use lib.ListN.{length, get_or, set, length-set}
+use Rattle.meter.specs.Character.{symbol}
+use Rattle.line.proofs.Runs.{changed, changed-none, changed-more, changed-next, changed-all}
+use Rattle.whole.proofs.to_characters.Goals as goal
+
+pub loop-i-init : goal.loop-i-init
+loop-i-init c = (omega arith, refl, changed-none symbol _)
+
+pub loop-i-smaller : goal.loop-i-smaller
+loop-i-smaller c = simp length-set (omega arith)
+
+pub loop-i-preserved : goal.loop-i-preserved
+loop-i-preserved c =
+    let s₀ = c.args.s.now in
+    let i = c.loop-i.i in
+    let h : i < length s₀ = omega arith in
+    let e : c.loop-i.s ≡ changed symbol i s₀ = c.loop-i.invariant.2 in (
+      simp length-set (omega arith),
+      simp length-set c.loop-i.invariant.1,
+      ap (set c.loop-i.s i) c.symbol_of.ensures ∙ (rw (e, changed-next symbol i s₀ h) (changed-more symbol i s₀ h)),
+    )
+
+pub shape_of-s : goal.shape_of-s
+shape_of-s c = c.loop-i.invariant.1
+
+pub returns : goal.returns
+returns c =
+    let s₀ = c.args.s.now in
+    let h : length s₀ ≤ c.loop-i.i = omega arith in
+    c.loop-i.invariant.2 ∙ changed-all symbol c.loop-i.i s₀ h
