@@ -57,7 +57,7 @@ pub fn put_account_set(buf: &mut [u8], at: usize, s: &[u8]) -> usize
     text::put(buf, b, b")\r\n")
 }
 
-// A counter behind the bracket: its value, and what ends the line. What stands before it is put by each caller, of a fixed length: so the compiler moves it with no loop.
+// A counter behind the bracket: its value, and what ends the line.
 fn put_shown(buf: &mut [u8], at: usize, n: u32, family: u8) -> usize
     requires { at + 17 ≤ length buf.old }
     ensures next { result ≡ at + length (energy_text family n ++ chars ")\r\n") }
@@ -65,6 +65,16 @@ fn put_shown(buf: &mut [u8], at: usize, n: u32, family: u8) -> usize
 {
     let a = values::writing::put_counter(buf, at, n, family);
     text::put(buf, a, b")\r\n")
+}
+
+// A counter's line, whose opening is its address and the bracket.
+fn put_counter_set(buf: &mut [u8], at: usize, opening: &[u8], n: u32, family: u8) -> usize
+    requires { at + length opening.now + 17 ≤ length buf.old }
+    ensures next { result ≡ at + length (opening.now ++ (energy_text family n ++ chars ")\r\n")) }
+    ensures held { buf.new ≡ stored buf.old at (opening.now ++ (energy_text family n ++ chars ")\r\n")) }
+{
+    let a = text::put(buf, at, opening);
+    put_shown(buf, a, n, family)
 }
 
 // A counter as `15.8.n(eeeeee.eee*k_wh)`; of an EQM meter as `1.8.n`, or as `2.8.n` what went out.
@@ -76,17 +86,14 @@ pub fn put_energy_set(buf: &mut [u8], at: usize, e: Energy, n: u32, out: bool, f
     let digit = 48 + values::energy_no(e) % 10;
     if out {
         let opening = [b'2', b'.', b'8', b'.', digit, b'('];
-        let a = text::put(buf, at, &opening);
-        return put_shown(buf, a, n, family);
+        return put_counter_set(buf, at, &opening, n, family);
     }
     if family == 0 {
         let opening = [b'1', b'5', b'.', b'8', b'.', digit, b'('];
-        let a = text::put(buf, at, &opening);
-        return put_shown(buf, a, n, family);
+        return put_counter_set(buf, at, &opening, n, family);
     }
     let opening = [b'1', b'.', b'8', b'.', digit, b'('];
-    let a = text::put(buf, at, &opening);
-    put_shown(buf, a, n, family)
+    put_counter_set(buf, at, &opening, n, family)
 }
 
 // Eight characters of a row. They are copied out first: one move or two each way, as their number is fixed and a local array is apart from the buffer.
@@ -191,15 +198,12 @@ pub fn put_kept_set(
     let u = 48 + k % 10;
     if out {
         let opening = [b'2', b'.', b'8', b'.', d, b'*', t, u, b'('];
-        let a = text::put(buf, at, &opening);
-        return put_shown(buf, a, n, family);
+        return put_counter_set(buf, at, &opening, n, family);
     }
     if family == 0 {
         let opening = [b'1', b'5', b'.', b'8', b'.', d, b'*', t, u, b'('];
-        let a = text::put(buf, at, &opening);
-        return put_shown(buf, a, n, family);
+        return put_counter_set(buf, at, &opening, n, family);
     }
     let opening = [b'1', b'.', b'8', b'.', d, b'*', t, u, b'('];
-    let a = text::put(buf, at, &opening);
-    put_shown(buf, a, n, family)
+    put_counter_set(buf, at, &opening, n, family)
 }

@@ -1,22 +1,20 @@
 -- What the export answers, from what the check does; and any two right answers are equal, with every byte of the buffer.
 -- Assumes nothing.
 use mathlib.Core.Path.{◌≡◌, refl, sym, ap, ap₂, ◌∙◌}
-use mathlib.Core.Logic.{◌⊎◌, inl, inr, ⊎_elim}
-use mathlib.Core.Bool.{true}
-use mathlib.Core.List.{List, [], ◌∷◌, ◌++◌}
-use Prim.Native.Nat.{ℕ, ◌+◌, ◌-◌, ◌*◌, ◌/◌, ◌<◌, ◌≤◌}
+use mathlib.Core.Logic.{◌⊎◌, inl, inr}
+use mathlib.Core.List.{List}
+use Prim.Native.Nat.{ℕ, ◌+◌, ◌*◌, ◌/◌, ◌<◌, ◌≤◌}
 use native.Mathlib.Omega.{arith}
 use lib.ListN.{length, take}
 use lib.Seq.{length-take-le}
 use Rattle.text.specs.Writing.{stored, holding}
-use Rattle.text.specs.Beginnings.{Longest}
 use Rattle.text.proofs.Beginnings.{one-longest}
 use Rattle.text.proofs.Writing.{stored-holding}
-use Rattle.post.specs.Grammar.{Entry, post_text, rising, good_entries, IsPost}
-use Rattle.post.specs.Place.{Accepted, Refused, CheckedAs}
+use Rattle.post.specs.Grammar.{IsPost}
+use Rattle.post.specs.Place.{Refused, CheckedAs}
 use Rattle.post.proofs.Reading.{good-rising, one-reading, length-post, count_entries}
 use Rattle.post.proofs.Answers.{longest-text, long-answer}
-use Rattle.export.specs.Frames.{frames_of, Done, NoRoom, NoPost, ExportedAs}
+use Rattle.export.specs.Frames.{frames_of, ExportedAs}
 use Rattle.export.specs.Changed.{changed_lines}
 use Rattle.export.proofs.Lines.{length-lines, lines_are}
 

@@ -3,20 +3,18 @@
 use mathlib.Core.Path.{◌≡◌, refl, sym, ap, ap₂, ◌∙◌}
 use mathlib.Core.Bool.{true}
 use mathlib.Core.List.{List, [], ◌∷◌, ◌++◌, map, append_assoc}
-use Prim.Native.Nat.{ℕ, zero, suc, ◌+◌, ◌-◌, ◌*◌, ◌/◌, ◌%◌, ◌<◌, ◌≤◌}
+use Prim.Native.Nat.{ℕ, zero, suc, ◌+◌, ◌/◌, ◌%◌, ◌<◌, ◌≤◌}
 use native.Mathlib.Omega.{arith}
 use native.Mathlib.Numerals.{add-one}
 use native.Mathlib.Nat.{le_of_suc-le-suc}
 use lib.Bits.{bit_xor, xor_zero_r, xor_comm}
-use lib.ListN.{length, get_or, take, drop, set, replicate, length-append, length-map, get_or-append}
-use lib.Seq.{take-suc, take_all, take_at, take-append-le, set-set}
-use Rattle.line.proofs.Runs.{every-at}
+use lib.ListN.{length, get_or, take, set, replicate, length-append, length-map}
+use lib.Seq.{take-suc, take_at, set-set}
 use Rattle.line.specs.Characters.{sent, seven}
 use Rattle.line.specs.Checksum.{bcc_of}
 use Rattle.line.proofs.Xor.{xor_assoc, bcc-append}
 use Rattle.text.specs.Writing.{stored}
 use Rattle.text.proofs.Writing.{stored-append}
-use Rattle.text.specs.Classes.{between}
 use Rattle.text.specs.Decimal.{decimal}
 use Rattle.text.specs.Layout.{layout_text}
 use Rattle.values.specs.Registers.{good_row}
@@ -25,7 +23,7 @@ use Rattle.frames.specs.Frames.{frame_of, on_wire}
 use Rattle.frames.specs.Commands.{W1, set_table}
 use Rattle.frames.proofs.Table.{table_body, table-frame, length-body}
 use Rattle.post.specs.Grammar.{line_text}
-use Rattle.post.proofs.Lines.{line-columns, row-length, row-zones, length-line, between-high}
+use Rattle.post.proofs.Lines.{line-columns, row-length, length-line}
 use Rattle.export.specs.Changed.{differing, change, changed_to, changed_line}
 
 pub append-nil : (l : List ℕ) → l ++ [] ≡ l

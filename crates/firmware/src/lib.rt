@@ -10,7 +10,6 @@ ghost use Rattle.meter.specs.Life.{event_of, met};
 ghost use Rattle.settling.specs.Settling.{clock_after, counters_after, exported_after, settled_in};
 ghost use Rattle.storing.specs.Replies.{reply_of};
 ghost use Rattle.firmware.specs.Replies.{settled_reply};
-ghost use Rattle.firmware.specs.Checked.{checked_by, checked_as};
 
 use clock::Clock;
 use settling::{Change, Heard};
@@ -138,26 +137,4 @@ pub extern "C" fn dirgemist_meter_meet(
 {
     let r = meet_in_place(m, kind, value, reply);
     storing::tell(r, count, speed, place)
-}
-
-// What the test of a record answers, from its edition and from whether it is well-formed: a record is too long to be handed on.
-fn check(edition: u8, formed: bool) -> u8
-    ensures { result ≡ checked_by edition formed }
-{
-    if !values::is_edition(edition) {
-        return 16;
-    }
-    if formed {
-        return 1;
-    }
-    14
-}
-
-// Whether the record is well-formed.
-#[unsafe(no_mangle)]
-pub extern "C" fn dirgemist_meter_check(m: &Meter) -> u8
-    ensures { result ≡ checked_as m.now }
-{
-    let formed = lent::is_formed(m);
-    check(m.registers.facts.edition, formed)
 }

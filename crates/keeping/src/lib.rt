@@ -1,10 +1,11 @@
-// A meter's record as a host keeps it: made new, and its total for a display.
+// A meter's record as a host keeps it: made new, tested when it comes back from flash, its total for a display. Apart from `firmware`,
+// so that there the test of the state has one caller and is compiled into it.
 #![tactic(auto)]
 
 ghost use Rattle.std.specs.Prelude.{◌≡◌};
 ghost use Rattle.state.specs.Making.{facts_of, made_of};
 ghost use Rattle.keeping.specs.Making.{clock_of};
-ghost use Rattle.keeping.specs.Shown.{shown_by, shown_as};
+ghost use Rattle.keeping.specs.Shown.{checked_by, checked_as, shown_by, shown_as};
 
 use state::Meter;
 
@@ -42,6 +43,28 @@ pub extern "C" fn dirgemist_meter_make(
     );
     *m = making::meter_of(a);
     making::number_of(a)
+}
+
+// What the test of a record answers, from its edition and from whether it is well-formed: a record is too long to be handed on.
+fn check(edition: u8, formed: bool) -> u8
+    ensures { result ≡ checked_by edition formed }
+{
+    if !values::is_edition(edition) {
+        return 16;
+    }
+    if formed {
+        return 1;
+    }
+    14
+}
+
+// Whether the record is well-formed.
+#[unsafe(no_mangle)]
+pub extern "C" fn dirgemist_meter_check(m: &Meter) -> u8
+    ensures { result ≡ checked_as m.now }
+{
+    let formed = lent::is_formed(m);
+    check(m.registers.facts.edition, formed)
 }
 
 fn show(edition: u8, formed: bool, total: u32) -> Shown

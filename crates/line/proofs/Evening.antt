@@ -2,16 +2,16 @@
 -- Then what a loop gathers of it by bits. Assumes nothing.
 use mathlib.Core.Path.{◌≡◌, refl, sym, ap, ◌∙◌}
 use mathlib.Core.Bool.{Bool, true, false, not, ◌&&◌}
-use Prim.Native.Nat.{ℕ, zero, suc, ◌+◌, ◌*◌, ◌/◌, ◌%◌, ◌<◌, ◌≤◌}
+use Prim.Native.Nat.{ℕ, zero, suc, ◌*◌, ◌/◌, ◌%◌, ◌<◌, ◌≤◌}
 use native.Mathlib.Nat.{mul-le-mul_left}
 use native.Mathlib.Omega.{arith}
 use borrow.Author.Tests.{eqb-true, ne_eqb}
 use lib.Count.{ones}
-use lib.Bits.{bit_or, bit_and, bit_xor, xor_lt, or_shr, or_zero_l, or_add_and, and_le_r}
+use lib.Bits.{bit_or, bit_xor, xor_lt, or_shr, or_zero_l, or_add_and, and_le_r}
 use lib.Dec.{eqb, lit<}
 use Rattle.line.specs.Characters.{damaged_at, undamaged_at, seven}
 use Rattle.line.specs.Balance.{balance_of, turned, folded}
-use Rattle.line.proofs.Runs.{and_left, and_right, all_below, below_all}
+use Rattle.line.proofs.Runs.{and_left, and_right, below_all}
 
 -- the top bit evens the seven data bits; with the byte's own it says whether the ones of the byte are even
 evens : ℕ → Bool

@@ -46,8 +46,7 @@ use Rattle.meter.specs.Life.{event_of, met, refusal, happened}
 use Rattle.settling.specs.declared.Heard.{Heard}
 use Rattle.settling.specs.Settling.{heard_as, heard_by, ticked_by, heard_of, settles_by, clock_after, counters_after, exported_after}
 use Rattle.keeping.specs.declared.Shown.{Shown}
-use Rattle.firmware.specs.Checked.{checked_as}
-use Rattle.keeping.specs.Shown.{shown_as}
+use Rattle.keeping.specs.Shown.{checked_as, shown_as}
 use Rattle.storing.specs.declared.Reply.{Reply}
 use Rattle.mistakes.specs.Samples.{serial, account, password, twos, new_meter, new_eqm, held_in}
 use Rattle.mistakes.specs.Events.{told, told_all, told_met, short_password, short_tried, signed_on, slow_confirmed, odd_confirmed, slow_entered, fast_left, restarted, hurt, hurt_last, hurt_anew, clock_sent, clock_set, month_ends, no_edition, one_unit, Receiving, Passing, Happening, Settling, Lent, Kept}
@@ -117,10 +116,10 @@ events = (
     dirgemist-meter-meet-place = (number refl, number refl);
     always-says-9600 = seen (λ (r : Reply). r.speed) refl;
     dirgemist-meter-meet-lent = (seen (λ (m : Meter). get_or m.registers.tables 144 0) refl, byte 0 refl);
-    dirgemist_meter_check = (number refl, number refl);
   },
   record {
     dirgemist_meter_make = (number refl, byte 0 refl);
+    dirgemist_meter_check = (number refl, number refl);
     dirgemist_meter_total = (seen (λ (s : Shown). s.number) refl, seen (λ (s : Shown). s.number) refl);
   },
 )

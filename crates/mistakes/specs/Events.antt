@@ -22,8 +22,7 @@ use Rattle.meter.specs.Life.{event_of, met, refusal, happened}
 use Rattle.receiving.specs.declared.Holding.TheVariants.{Anew}
 use Rattle.settling.specs.declared.Change.TheVariants.{Time, In}
 use Rattle.settling.specs.Settling.{seen_in, standing, goes_on, refuses, moves_on, settles, settled_in}
-use Rattle.firmware.specs.Checked.{checked_as}
-use Rattle.keeping.specs.Shown.{shown_as}
+use Rattle.keeping.specs.Shown.{checked_as, shown_as}
 use Rattle.storing.specs.Replies.{reply_of}
 use Rattle.mistakes.specs.RuledOut.{RuledOut}
 use Rattle.mistakes.specs.Samples.{clock_at, serial, account, password, twos, new_meter, new_eqm, held_in}
@@ -226,14 +225,14 @@ pub record Lent : Type 0 where
   pub dirgemist-meter-meet-lent : RuledOut told_met.next (in_mode new_meter 4) × RuledOut (holding (replicate reply_room 9) (on_wire told_met.reply)) (replicate reply_room 9)
   -- the identification at 9600 baud
   pub always-says-9600 : RuledOut (reply_of signed_on) (record { number = 1; length = 19; speed = 5; place = 0 })
-  -- a speed of 5 passed in mode 0; a new one refused
-  pub dirgemist_meter_check : RuledOut (checked_as (with_speed new_meter 5)) 1 × RuledOut (checked_as new_meter) 14
 
 -- of `keeping`
 pub record Kept : Type 0 where
   -- a serial of nine digits taken; the account of bad facts kept
   pub dirgemist_meter_make : RuledOut (made_of (facts_of (take 9 serial) password 1 1 0) account (clock_at 2000 1 1 12 0 0)).number 1
       × RuledOut (made_of (facts_of serial (take 7 password) 1 1 0) account (clock_at 2000 1 1 12 0 0)).meter.registers.account account
+  -- a speed of 5 passed in mode 0; a new one refused
+  pub dirgemist_meter_check : RuledOut (checked_as (with_speed new_meter 5)) 1 × RuledOut (checked_as new_meter) 14
   -- the total of a malformed state shown; none shown of a good one
   pub dirgemist_meter_total : RuledOut (shown_as (with_registers new_meter (with_counters new_meter.registers (with_total no_counters 1)))) (record { number = 1; total = 1 })
       × RuledOut (shown_as new_meter) (record { number = 14; total = 0 })

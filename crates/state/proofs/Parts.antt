@@ -1,18 +1,16 @@
 -- A well-formed state taken apart into its parts, and put together again. Assumes nothing.
-use Rattle.std.proofs.Common.{◌≡◌, ℕ, zero, suc, ◌*◌, ◌<◌, ◌≤◌, Bool, true, false, cond, not, ◌&&◌, ◌||◌, eqb, ltb, leb, List, [], ◌∷◌, length, get_or, take, drop, refl, mod-lt, arith, ltb-true, eq-eqb, eqb-true, le-leb, leb-true}
+use Rattle.std.proofs.Common.{◌≡◌, ℕ, zero, suc, ◌*◌, ◌<◌, ◌≤◌, Bool, true, false, cond, ◌&&◌, ◌||◌, eqb, ltb, leb, List, [], ◌∷◌, length, get_or, take, drop, refl, mod-lt, arith, ltb-true, eq-eqb, eqb-true, le-leb, leb-true}
 use borrow.Author.Tests.{lt-leb}
 use Rattle.line.specs.Runs.{every}
 use Rattle.line.proofs.Runs.{and_left, and_right, and_assoc, chosen}
 use Rattle.text.specs.Classes.{between}
 use Rattle.clock.specs.Seconds.{real_clock}
-use Rattle.clock.specs.declared.Clock.{Clock}
 use Rattle.values.specs.Edition.{is_edition}
 use Rattle.values.specs.Family.{is_family, counter_end, export_end}
 use Rattle.values.specs.Registers.{good_digits, good_serial, good_account, good_password}
 use Rattle.state.specs.declared.Receiver.{Receiver}
 use Rattle.state.specs.declared.Facts.{Facts}
 use Rattle.state.specs.declared.Counters.{Counters}
-use Rattle.state.specs.declared.Archive.{Archive}
 use Rattle.state.specs.declared.Registers.{Registers}
 use Rattle.state.specs.declared.Meter.{Meter}
 use Rattle.state.specs.Sizes.{held_places, row_length, table_places}

@@ -1,5 +1,5 @@
 -- The places of an archive, one after the other: a flag, with what is left of the places, says it of all twelve. Assumes nothing.
-use Rattle.std.proofs.Common.{◌≡◌, ℕ, zero, suc, ◌+◌, ◌<◌, ◌≤◌, Bool, true, false, ◌&&◌, ltb, leb, List, [], ◌∷◌, length, get_or, take, drop, sym, refl, ap, ◌∙◌, arith, drop_of_length-le, le-ltb, lt-ltb, eq-eqb}
+use Rattle.std.proofs.Common.{◌≡◌, ℕ, zero, suc, ◌+◌, ◌<◌, ◌≤◌, Bool, true, ◌&&◌, leb, List, [], ◌∷◌, length, get_or, take, drop, sym, refl, ap, ◌∙◌, arith, drop_of_length-le, le-ltb, lt-ltb, eq-eqb}
 use mathlib.Core.Bool.{and-true}
 use Rattle.line.proofs.Runs.{and_assoc}
 use Rattle.clock.specs.Seconds.{real_stamp}

@@ -1,5 +1,5 @@
 -- A row written to a table that there is leaves good tables: what is held and what is unused are apart. Assumes nothing.
-use Rattle.std.proofs.Common.{◌≡◌, ℕ, ◌+◌, ◌-◌, ◌*◌, ◌≤◌, true, ◌&&◌, eqb, leb, List, [], ◌∷◌, length, take, drop, set, refl, ap, ◌∙◌, arith, drop-set-lt, eq-eqb, eqb-true, leb-true}
+use Rattle.std.proofs.Common.{◌≡◌, ℕ, ◌+◌, ◌*◌, ◌≤◌, true, ◌&&◌, eqb, leb, List, [], ◌∷◌, length, take, drop, set, refl, ap, ◌∙◌, arith, drop-set-lt, eq-eqb, eqb-true, leb-true}
 use lib.Seq.{take-set-lt}
 use Rattle.line.specs.Runs.{every}
 use Rattle.line.proofs.Runs.{and_left, and_right, and_both}

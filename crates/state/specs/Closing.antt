@@ -1,5 +1,5 @@
 -- [12], "Closed months": what an archive keeps, and a period closed.
-use Rattle.std.specs.Prelude.{ℕ, ◌+◌, ◌-◌, cond, List, [], ◌∷◌, ◌++◌, length, take, replicate, nat_lt}
+use Rattle.std.specs.Prelude.{ℕ, ◌+◌, ◌-◌, cond, List, ◌∷◌, ◌++◌, length, take, replicate, nat_lt}
 use Rattle.clock.specs.Seconds.{stamp_of}
 use Rattle.clock.specs.declared.Clock.{Clock}
 use Rattle.state.specs.declared.Counters.{Counters}

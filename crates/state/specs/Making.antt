@@ -1,5 +1,5 @@
 -- Document 01, "The state": a new state, and the blank one.
-use Rattle.std.specs.Prelude.{ℕ, ◌-◌, ◌*◌, true, false, cond, List, ◌++◌, replicate}
+use Rattle.std.specs.Prelude.{ℕ, ◌-◌, ◌*◌, cond, List, ◌++◌, replicate}
 use Rattle.clock.specs.Seconds.{date_of, time_of}
 use Rattle.clock.specs.declared.Clock.{Clock}
 use Rattle.values.specs.Edition.{is_edition, tables_of}
@@ -9,7 +9,6 @@ use Rattle.state.specs.declared.Facts.{Facts}
 use Rattle.state.specs.declared.Counters.{Counters}
 use Rattle.state.specs.declared.Period.{Period}
 use Rattle.state.specs.declared.Archive.{Archive}
-use Rattle.state.specs.declared.Registers.{Registers}
 use Rattle.state.specs.declared.Meter.{Meter}
 use Rattle.state.specs.declared.Made.{Made}
 use Rattle.state.specs.Link.{rest_speed}

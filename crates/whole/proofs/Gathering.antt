@@ -16,24 +16,6 @@ use Rattle.line.specs.Characters.{damaged_at, seven, sent}
 use Rattle.line.proofs.Parity.{sent-comes-back, sent-undamaged, undamaged-is-sent}
 use Rattle.whole.specs.Gathering.{is, is_not, held_next, held_after, held_at_last, held_over, held_in, front, last_of}
 
--- an undamaged control character is the wire byte of it
-same_test : (a b x y : ℕ) → (a ≡ b → x ≡ y) → (x ≡ y → a ≡ b) → eqb a b ≡ eqb x y
-same_test a b x y there back = go (eqb x y) refl
-  where
-    go : (t : Bool) → eqb x y ≡ t → eqb a b ≡ t
-    go true e = eq-eqb a b (back (eqb-true x y e))
-    go false e = ne_eqb a b (λ same. eqb-false x y e (there same))
-
-pub sent-tells : (c b : ℕ) → 1 ≤ c → c < 128 → b < 256 → eqb b (sent c) ≡ is c b
-unfolding is symbol
-sent-tells c b some few byte = go (damaged_at b) refl
-  where
-    go : (d : Bool) → damaged_at b ≡ d → eqb b (sent c) ≡ eqb (cond d 0 (seven b)) c
-    go true hurt =
-        ne_eqb b (sent c) (λ e. omega (arith, ap {B = ℕ} (λ (x : Bool). cond x 1 0) (sym hurt ∙ ap damaged_at e ∙ sent-undamaged c)))
-        ∙ sym (ne_eqb 0 c (λ e. omega (arith, some, e)))
-    go false good = same_test b (sent c) (seven b) c (λ e. ap seven e ∙ sent-comes-back c few) (λ e. sym (undamaged-is-sent b byte good) ∙ ap sent e)
-
 -- a turn of a walk over the run, and its end
 module _ (run : List ℕ) (i held whole : ℕ) where
   pub after_turn : i < length run → held_after held (get_or run (i - 1) 0) (drop i run) ≡ whole

@@ -19,17 +19,15 @@ use meter::Answer;
 use state::setting::{empty_receiver, with_held, with_mark, with_receiver};
 use state::{MOST_HELD, Meter, REPLY_ROOM, Receiver};
 
-// Whether a byte is this control character, undamaged: then it is the wire byte of it, and a damaged one is that of none.
+// Whether a byte is this control character, undamaged.
 fn is_control(c: u8, b: u8) -> bool
-    requires { (1 ≤ c) × (c < 128) }
     ensures { result ≡ is c b }
 {
-    b == line::wire(c)
+    meter::symbol_of(b) == c
 }
 
 // Whether no byte of a run is this control character.
 fn has_no(c: u8, s: &[u8]) -> bool
-    requires { (1 ≤ c) × (c < 128) }
     ensures { result ≡ every (is_not c) s.now }
 {
     let mut ok = true;

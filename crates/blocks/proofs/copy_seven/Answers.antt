@@ -1,7 +1,7 @@
 -- `blocks::copy_seven` meets its contract. The invariant: the seven bits of the bytes passed are stored from the front on. Assumes nothing.
 use mathlib.Core.Path.{◌≡◌, refl, ap, ◌∙◌}
 use mathlib.Core.List.{map}
-use Prim.Native.Nat.{◌≤◌, ◌-◌}
+use Prim.Native.Nat.{◌≤◌}
 use native.Mathlib.Omega.{arith}
 use lib.ListN.{length, take, length-set, length-map}
 use lib.Seq.{take_all}

@@ -1,14 +1,10 @@
 -- `blocks::copy_seven` meets its contract. The invariant: the seven bits of the bytes passed are stored from the front on. Assumes nothing.
-use mathlib.Core.Path.{◌≡◌, refl, ap, ◌∙◌}
+use mathlib.Core.Path.{◌≡◌}
 use mathlib.Core.List.{map}
 use Prim.Native.Nat.{◌≤◌, ◌-◌}
-use native.Mathlib.Omega.{arith}
-use lib.ListN.{length, take, length-set, length-map}
-use lib.Seq.{take_all}
+use lib.ListN.{length, take}
 use Rattle.line.specs.Characters.{seven}
 use Rattle.text.specs.Writing.{stored}
-use Rattle.text.proofs.Writing.{stored-holding}
-use Rattle.blocks.proofs.Copying.{mapped_next}
 use Rattle.blocks.proofs.copy_seven.Given as goal
 
 abbrev pub invariant-loop-i : goal.invariant-loop-i

@@ -1,8 +1,7 @@
 -- `blocks::find` meets its contract: too few characters, no block, a wrong BCC, or the part. Assumes nothing.
 use mathlib.Core.Bool.{true}
 use mathlib.Core.Path.{◌≡◌, ◌∙◌}
-use borrow.Author.Tests.{not-true, not-false, eq-eqb, ne_eqb}
-use borrow.Author.Rules.{rules}
+use borrow.Author.Tests.{eq-eqb, ne_eqb}
 use Rattle.blocks.proofs.Shape.{too_few, no_block, wrong-bcc, has_part, block-seen, bcc-seen}
 use Rattle.blocks.specs.Parts.{is_block}
 use Rattle.blocks.proofs.find.Goals as goal

@@ -1,18 +1,13 @@
 -- `blocks::look` meets its contract: the flag and the sum, each with what is left, say it of the whole. Assumes nothing.
-use mathlib.Core.Path.{◌≡◌, refl, ap₂, ◌∙◌}
-use mathlib.Core.Bool.{Bool, true, false, not, ◌&&◌}
-use Prim.Native.Nat.{ℕ, ◌≤◌, ◌-◌, max}
-use native.Mathlib.Omega.{arith}
-use borrow.Author.Rules.{rules}
-use borrow.Author.Tests.{le-leb, lt-leb, leb-true, leb-false}
+use mathlib.Core.Path.{◌≡◌}
+use mathlib.Core.Bool.{◌&&◌}
+use Prim.Native.Nat.{◌≤◌, ◌-◌}
 use lib.Bits.{bit_xor}
-use lib.Dec.{leb, eqb}
-use lib.ListN.{length, drop, get_or}
+use lib.Dec.{leb}
+use lib.ListN.{length, drop}
 use Rattle.line.specs.Characters.{seven}
 use Rattle.line.specs.Checksum.{bcc_of}
 use Rattle.line.specs.Runs.{every}
-use Rattle.line.proofs.Runs.{every-turn, every-end}
-use Rattle.line.proofs.Xor.{bcc-start, bcc-turn, bcc-end}
 use Rattle.blocks.specs.Parts.{is_content}
 use Rattle.blocks.proofs.look.Given as goal
 

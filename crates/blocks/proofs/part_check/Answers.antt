@@ -1,6 +1,5 @@
 -- `blocks::part_check` meets its contract: the number of the part that was found. Assumes nothing.
 use mathlib.Core.Path.{ap}
-use borrow.Author.Rules.{rules}
 use Rattle.blocks.specs.declared.PartAt.{PartAt}
 use Rattle.blocks.proofs.part_check.Goals as goal
 

@@ -1,7 +1,6 @@
 -- `blocks::strip` meets its contract: too short a buffer, a damaged byte, or the seven bits of each. Assumes nothing.
 use mathlib.Core.Path.{sym, ◌∙◌}
-use borrow.Author.Tests.{lt-ltb, le-ltb, not-true, not-false}
-use borrow.Author.Rules.{rules}
+use borrow.Author.Tests.{lt-ltb, le-ltb}
 use Rattle.blocks.specs.Stripping.{stripped_of, stripped_into}
 use Rattle.blocks.proofs.strip.Goals as goal
 

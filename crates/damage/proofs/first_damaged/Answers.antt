@@ -1,10 +1,6 @@
 -- `damage::first_damaged` meets its contract. The invariant: the places passed, and where what is left is damaged, are the whole's. Assumes nothing.
-use mathlib.Core.Path.{◌≡◌, refl, sym, ◌∙◌}
-use Prim.Native.Nat.{◌≤◌, ◌-◌, ◌+◌}
+use mathlib.Core.Path.{sym, ◌∙◌}
 use native.Mathlib.Omega.{arith}
-use borrow.Author.Rules.{rules}
-use lib.ListN.{length, drop}
-use Rattle.damage.specs.First.{first_damaged}
 use Rattle.damage.proofs.First.{first-here, first_next, first-none}
 use Rattle.damage.proofs.first_damaged.Goals as goal
 

@@ -1,11 +1,8 @@
 -- `damage::first_damaged` meets its contract. The invariant: the places passed, and where what is left is damaged, are the whole's. Assumes nothing.
-use mathlib.Core.Path.{◌≡◌, refl, sym, ◌∙◌}
+use mathlib.Core.Path.{◌≡◌}
 use Prim.Native.Nat.{◌≤◌, ◌-◌, ◌+◌}
-use native.Mathlib.Omega.{arith}
-use borrow.Author.Rules.{rules}
 use lib.ListN.{length, drop}
 use Rattle.damage.specs.First.{first_damaged}
-use Rattle.damage.proofs.First.{first-here, first_next, first-none}
 use Rattle.damage.proofs.first_damaged.Given as goal
 
 abbrev pub invariant-loop-i : goal.invariant-loop-i

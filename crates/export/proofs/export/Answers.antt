@@ -1,6 +1,5 @@
 -- `export::export` meets its contract: 16, or the export for as many tables as the edition has. Assumes nothing.
 use mathlib.Core.Path.{refl}
-use borrow.Author.Rules.{rules}
 use Rattle.values.proofs.Editions.{is_one, is_none}
 use Rattle.export.proofs.export.Goals as goal
 

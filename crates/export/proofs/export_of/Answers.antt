@@ -1,6 +1,5 @@
 -- `export::export_of` meets its contract: each way out is the answer that the check and the room name. Assumes nothing.
 use Rattle.export.proofs.Answers.{post-of, answers-20, answers-21, answers-1}
-use borrow.Author.Rules.{rules}
 use Rattle.export.proofs.export_of.Goals as goal
 
 pub returns-then-number-ne1 : goal.returns-then-number-ne1

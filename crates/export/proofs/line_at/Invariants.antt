@@ -1,12 +1,8 @@
 -- `export::line_at` meets its contract: the copy holds the line as far as it was gone through, and in the end is the line. Assumes nothing.
-use mathlib.Core.Path.{◌≡◌, refl, sym, ap, ap₂, ◌∙◌}
-use Prim.Native.Nat.{ℕ, ◌+◌, ◌-◌, ◌<◌, ◌≤◌}
-use native.Mathlib.Nat.{zero-add}
-use native.Mathlib.Omega.{arith}
-use lib.ListN.{length, get_or, take, drop, set, length-set, replicate, length-drop}
-use lib.Seq.{get_or-drop, length-take-le}
+use mathlib.Core.Path.{◌≡◌}
+use Prim.Native.Nat.{◌-◌, ◌≤◌}
+use lib.ListN.{length, take, drop, replicate}
 use Rattle.text.specs.Writing.{stored}
-use Rattle.text.proofs.Writing.{stored_next, filled}
 use Rattle.export.proofs.line_at.Given as goal
 
 abbrev pub invariant-loop-i : goal.invariant-loop-i

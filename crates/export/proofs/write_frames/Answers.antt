@@ -1,11 +1,11 @@
 -- `export::write_frames` meets its contract: what is written so far is the lines gone through, changed. Assumes nothing.
-use mathlib.Core.Path.{◌≡◌, refl, sym, ap, ◌∙◌}
-use Prim.Native.Nat.{ℕ, ◌+◌, ◌-◌, ◌*◌, ◌<◌, ◌≤◌}
+use mathlib.Core.Path.{◌≡◌, refl, ap, ◌∙◌}
+use Prim.Native.Nat.{ℕ, ◌*◌}
 use native.Mathlib.Omega.{arith}
 use lib.ListN.{length, drop}
 use Rattle.text.specs.Writing.{stored}
 use Rattle.text.proofs.Writing.{length-stored}
-use Rattle.export.specs.Changed.{change, changed_line, changed_lines}
+use Rattle.export.specs.Changed.{changed_line, changed_lines}
 use Rattle.export.proofs.Lines.{lines_next}
 use Rattle.export.proofs.write_frames.Goals as goal
 

@@ -1,12 +1,9 @@
 -- `export::write_frames` meets its contract: what is written so far is the lines gone through, changed. Assumes nothing.
-use mathlib.Core.Path.{◌≡◌, refl, sym, ap, ◌∙◌}
-use Prim.Native.Nat.{ℕ, ◌+◌, ◌-◌, ◌*◌, ◌<◌, ◌≤◌}
-use native.Mathlib.Omega.{arith}
-use lib.ListN.{length, drop}
+use mathlib.Core.Path.{◌≡◌}
+use Prim.Native.Nat.{◌-◌, ◌≤◌}
+use lib.ListN.{length}
 use Rattle.text.specs.Writing.{stored}
-use Rattle.text.proofs.Writing.{length-stored}
-use Rattle.export.specs.Changed.{change, changed_line, changed_lines}
-use Rattle.export.proofs.Lines.{lines_next}
+use Rattle.export.specs.Changed.{change, changed_lines}
 use Rattle.export.proofs.write_frames.Given as goal
 
 abbrev pub invariant-loop-i : goal.invariant-loop-i

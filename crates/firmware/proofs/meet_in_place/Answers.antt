@@ -28,8 +28,8 @@ returns-then-is_settled c =
 pub act_in_place-requires : goal.act_in_place-requires
 act_in_place-requires c =
     let left =
-        left_is c.args.m.now (length c.args.reply.now) (event_of c.args.kind c.args.value)
-        (ap (λ (x : Heard). x.settled) (sym c.look-heard.ensures) ∙ (sym c.is_settled.ensures ∙ c.if-is_settled.false)) in
+    left_is c.args.m.now (length c.args.reply.now) (event_of c.args.kind c.args.value)
+    (ap (λ (x : Heard). x.settled) (sym c.look-heard.ensures) ∙ (sym c.is_settled.ensures ∙ c.if-is_settled.false)) in
     (left.formed, left.unrefused)
 
 pub returns : goal.returns

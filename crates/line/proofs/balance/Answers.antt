@@ -1,7 +1,6 @@
 -- `line::balance` meets its contract: the product fits sixteen bits. Assumes nothing.
 use mathlib.Core.Path.{refl}
 use native.Mathlib.Omega.{arith}
-use borrow.Author.Rules.{rules}
 use Rattle.line.specs.Balance.{balance_of}
 use Rattle.line.proofs.Evening.{turned_lt, product_le}
 use Rattle.line.proofs.balance.Goals as goal

@@ -1,10 +1,9 @@
 -- `line::put_parity` meets its contract. The invariant: the bytes passed carry parity, the others are as they were.
 -- Assumes nothing.
-use mathlib.Core.Path.{◌≡◌, refl, sym, ap, ◌∙◌}
-use mathlib.Core.List.{List}
-use Prim.Native.Nat.{ℕ, ◌<◌, ◌≤◌, ◌-◌}
+use mathlib.Core.Path.{◌≡◌, refl, ap, ◌∙◌}
+use Prim.Native.Nat.{◌<◌, ◌≤◌}
 use native.Mathlib.Omega.{arith}
-use lib.ListN.{length, get_or, set, length-set}
+use lib.ListN.{length, set, length-set}
 use Rattle.line.specs.Characters.{sent}
 use Rattle.line.proofs.Runs.{changed, changed-none, changed-more, changed-next, changed-all}
 use Rattle.line.proofs.put_parity.Goals as goal

@@ -1,12 +1,10 @@
 -- `line::put_parity` meets its contract. The invariant: the bytes passed carry parity, the others are as they were.
 -- Assumes nothing.
-use mathlib.Core.Path.{◌≡◌, refl, sym, ap, ◌∙◌}
-use mathlib.Core.List.{List}
-use Prim.Native.Nat.{ℕ, ◌<◌, ◌≤◌, ◌-◌}
-use native.Mathlib.Omega.{arith}
-use lib.ListN.{length, get_or, set, length-set}
+use mathlib.Core.Path.{◌≡◌}
+use Prim.Native.Nat.{◌≤◌, ◌-◌}
+use lib.ListN.{length}
 use Rattle.line.specs.Characters.{sent}
-use Rattle.line.proofs.Runs.{changed, changed-none, changed-more, changed-next, changed-all}
+use Rattle.line.proofs.Runs.{changed}
 use Rattle.line.proofs.put_parity.Given as goal
 
 abbrev pub invariant-loop-i : goal.invariant-loop-i

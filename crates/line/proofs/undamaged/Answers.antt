@@ -1,12 +1,9 @@
 -- `line::undamaged` meets its contract: whether no stray top bit is gathered, with what is left, says it of the whole. Assumes nothing.
-use mathlib.Core.Path.{◌≡◌, refl, sym, ap, ◌∙◌}
-use mathlib.Core.Bool.{Bool, ◌&&◌}
-use Prim.Native.Nat.{ℕ, ◌+◌, ◌/◌, ◌≤◌, ◌<◌, ◌-◌}
+use mathlib.Core.Path.{refl}
+use Prim.Native.Nat.{◌/◌, ◌<◌}
 use native.Mathlib.Omega.{arith}
-use lib.Bits.{bit_or, bit_xor}
 use lib.Dec.{eqb}
-use lib.ListN.{length, drop, get_or}
-use Rattle.line.specs.Runs.{every}
+use lib.ListN.{get_or}
 use Rattle.line.specs.Characters.{undamaged_at, undamaged_all}
 use Rattle.line.proofs.Evening.{none-stray}
 use Rattle.line.proofs.Runs.{every-turn, every-end}

@@ -1,8 +1,7 @@
 -- `line::wire` meets its contract by the law of the balance. Assumes nothing.
-use mathlib.Core.Path.{◌≡◌, ap, ◌∙◌}
+use mathlib.Core.Path.{ap, ◌∙◌}
 use Prim.Native.Nat.{ℕ, ◌+◌, ◌*◌, ◌/◌, ◌%◌}
 use native.Mathlib.Omega.{arith}
-use borrow.Author.Rules.{rules}
 use Rattle.line.specs.Characters.{sent, seven}
 use Rattle.line.proofs.Evening.{balance-evens}
 use Rattle.line.proofs.wire.Goals as goal

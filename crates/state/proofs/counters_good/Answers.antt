@@ -1,5 +1,5 @@
 -- `state::counters_good` meets its contract: each way out is the case of the definition that its tests name. Assumes nothing.
-use Rattle.std.proofs.Common.{sym, ◌∙◌, rules}
+use Rattle.std.proofs.Common.{sym, ◌∙◌}
 use Rattle.state.proofs.counters_good.Goals as goal
 
 pub total_of-requires : goal.total_of-requires

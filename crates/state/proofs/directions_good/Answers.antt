@@ -1,5 +1,5 @@
 -- `state::directions_good` meets its contract: each direction by its own end. Assumes nothing.
-use Rattle.std.proofs.Common.{arith, rules}
+use Rattle.std.proofs.Common.{arith}
 use Rattle.state.proofs.directions_good.Goals as goal
 
 pub counters_good-requires : goal.counters_good-requires

@@ -1,6 +1,5 @@
 -- `state::factory_good` meets its contract: each way out is the case of the definition that its tests name. Assumes nothing.
 use Rattle.state.specs.WellFormed.{factory_good}
-use Rattle.std.proofs.Common.{rules}
 use Rattle.state.proofs.factory_good.Goals as goal
 
 pub returns-then-is_account : goal.returns-then-is_account

@@ -1,6 +1,5 @@
 -- `state::facts_good` meets its contract: each way out is the case of the definition that its tests name. Assumes nothing.
 use Rattle.state.specs.WellFormed.{facts_good}
-use Rattle.std.proofs.Common.{rules}
 use Rattle.state.proofs.facts_good.Goals as goal
 
 pub returns : goal.returns

@@ -1,6 +1,5 @@
 -- `state::facts_refused` meets its contract: each way out is the case of the definition that its tests name. Assumes nothing.
 use Rattle.state.specs.Making.{facts_refused}
-use Rattle.std.proofs.Common.{rules}
 use Rattle.state.proofs.facts_refused.Goals as goal
 
 pub returns-then-is_family : goal.returns-then-is_family

@@ -1,5 +1,4 @@
 -- `state::held_good` meets its contract: the words, and that of the count. Assumes nothing.
-use Rattle.std.proofs.Common.{rules}
 use Rattle.state.proofs.Fours.{held-split}
 use Rattle.state.proofs.held_good.Goals as goal
 

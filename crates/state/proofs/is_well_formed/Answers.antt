@@ -1,6 +1,5 @@
 -- `state::is_well_formed` meets its contract: its pieces make it well-formed. Assumes nothing.
 use Rattle.state.proofs.Parts.{pieces-formed}
-use Rattle.std.proofs.Common.{rules}
 use Rattle.state.proofs.is_well_formed.Goals as goal
 
 pub returns : goal.returns

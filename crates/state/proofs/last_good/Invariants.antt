@@ -1,11 +1,9 @@
 -- `state::last_good` meets its contract: what is gathered, with what is left, says it of the whole, of both kinds. Assumes nothing.
-use Rattle.std.proofs.Common.{◌≡◌, ℕ, ◌+◌, ◌-◌, ◌%◌, ◌<◌, ◌≤◌, Bool, ◌&&◌, eqb, length, get_or, drop, sym, refl, ap, ◌∙◌, arith, rules}
+use Rattle.std.proofs.Common.{◌≡◌, ◌-◌, ◌%◌, ◌≤◌, ◌&&◌, eqb, length, drop}
 use Rattle.line.specs.Runs.{every}
-use Rattle.line.proofs.Runs.{every-end}
 use Rattle.text.specs.Classes.{between}
 use Rattle.state.specs.Sizes.{first_rows}
-use Rattle.state.specs.Fours.{in_row, last_good}
-use Rattle.state.proofs.Fours.{none-of-both, row-joins, row_word, none-word, four-turn}
+use Rattle.state.specs.Fours.{in_row}
 use Rattle.state.proofs.last_good.Given as goal
 
 abbrev pub invariant-loop-i : goal.invariant-loop-i

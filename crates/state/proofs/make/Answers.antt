@@ -1,6 +1,5 @@
 -- `state::make` meets its contract: each way out is the case of the definition that its tests name. Assumes nothing.
 use Rattle.state.specs.Making.{made_of}
-use Rattle.std.proofs.Common.{rules}
 use Rattle.state.proofs.make.Goals as goal
 
 pub returns-then-factory_good : goal.returns-then-factory_good

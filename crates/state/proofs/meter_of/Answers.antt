@@ -1,5 +1,4 @@
 -- `state::meter_of` meets its contract: its speed is that of its link, its receiver and its archive are the empty ones. Assumes nothing.
-use Rattle.std.proofs.Common.{rules}
 use Rattle.state.proofs.meter_of.Goals as goal
 
 pub returns : goal.returns

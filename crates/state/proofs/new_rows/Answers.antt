@@ -1,5 +1,5 @@
 -- `state::new_rows` meets its contract: 25 rows of '1', or 24 and a row of 0. Assumes nothing.
-use Rattle.std.proofs.Common.{◌≡◌, ℕ, length, replicate, ◌∙◌, arith, rules, eq-eqb, ne_eqb}
+use Rattle.std.proofs.Common.{◌≡◌, ℕ, replicate, ◌∙◌, arith, eq-eqb, ne_eqb}
 use lib.ListN.{length-replicate}
 use Rattle.text.specs.Writing.{stored, holding}
 use Rattle.text.proofs.Writing.{stored-holding}

@@ -1,5 +1,4 @@
 -- `state::not_made` meets its contract. Assumes nothing.
-use Rattle.std.proofs.Common.{rules}
 use Rattle.state.proofs.not_made.Goals as goal
 
 pub returns : goal.returns

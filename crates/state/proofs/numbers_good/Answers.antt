@@ -1,5 +1,5 @@
 -- `state::numbers_good` meets its contract: what is gathered has no eighth bit just where all are digits. Assumes nothing.
-use Rattle.std.proofs.Common.{◌≡◌, ℕ, Bool, ◌&&◌, List, length, get_or, ap, ◌∙◌, ap₂, rules, eq-eqb}
+use Rattle.std.proofs.Common.{◌≡◌, ℕ, Bool, ◌&&◌, List, length, get_or, ◌∙◌, ap₂, rules, eq-eqb}
 use lib.Bits.{bit_or}
 use Rattle.text.specs.Classes.{is_digit}
 use Rattle.values.specs.Registers.{good_digits}

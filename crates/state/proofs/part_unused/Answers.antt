@@ -1,5 +1,5 @@
 -- `state::part_unused` meets its contract: the word with the first unused place, without what is held of it. Assumes nothing.
-use Rattle.std.proofs.Common.{◌≡◌, ℕ, ◌+◌, ◌-◌, ◌%◌, ◌≤◌, List, drop, sym, ap, ◌∙◌, arith, rules}
+use Rattle.std.proofs.Common.{ℕ, ◌-◌, ◌%◌, List, drop, sym, ap, ◌∙◌, arith}
 use Rattle.line.specs.Runs.{every}
 use Rattle.text.specs.Classes.{between}
 use Rattle.state.proofs.Fours.{take-four}

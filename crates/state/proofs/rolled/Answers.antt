@@ -1,5 +1,5 @@
 -- `state::rolled` meets its contract: below an end a number stays, and below twice the end it rolls over once. Assumes nothing.
-use Rattle.std.proofs.Common.{◌≡◌, sym, ◌∙◌, mod-eq_of_lt, arith}
+use Rattle.std.proofs.Common.{sym, ◌∙◌, mod-eq_of_lt, arith}
 use native.Mathlib.Nat.{mod-eq-sub-mod}
 use Rattle.state.proofs.rolled.Goals as goal
 

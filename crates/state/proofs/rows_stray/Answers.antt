@@ -1,6 +1,5 @@
 -- `state::rows_stray` meets its contract: what is gathered, with what is left, says it of the whole. Assumes nothing.
-use Rattle.std.proofs.Common.{◌≡◌, ℕ, ◌+◌, ◌-◌, ◌%◌, ◌<◌, ◌≤◌, Bool, ◌&&◌, length, get_or, take, drop, sym, refl, ap, ◌∙◌, arith, length-take-le, rules}
-use Rattle.line.specs.Runs.{every}
+use Rattle.std.proofs.Common.{◌+◌, ◌≤◌, length, take, refl, ◌∙◌, arith, length-take-le}
 use Rattle.line.proofs.Runs.{every-end}
 use Rattle.text.specs.Classes.{between}
 use Rattle.state.specs.Sizes.{first_rows}

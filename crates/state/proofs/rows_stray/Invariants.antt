@@ -1,11 +1,9 @@
 -- `state::rows_stray` meets its contract: what is gathered, with what is left, says it of the whole. Assumes nothing.
-use Rattle.std.proofs.Common.{◌≡◌, ℕ, ◌+◌, ◌-◌, ◌%◌, ◌<◌, ◌≤◌, Bool, ◌&&◌, length, get_or, take, drop, sym, refl, ap, ◌∙◌, arith, length-take-le, rules}
+use Rattle.std.proofs.Common.{◌≡◌, ◌-◌, ◌%◌, ◌≤◌, ◌&&◌, take, drop}
 use Rattle.line.specs.Runs.{every}
-use Rattle.line.proofs.Runs.{every-end}
 use Rattle.text.specs.Classes.{between}
 use Rattle.state.specs.Sizes.{first_rows}
 use Rattle.state.specs.Fours.{in_row}
-use Rattle.state.proofs.Fours.{row-turn}
 use Rattle.state.proofs.rows_stray.Given as goal
 
 abbrev pub invariant-loop-i : goal.invariant-loop-i

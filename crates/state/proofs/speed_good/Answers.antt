@@ -1,6 +1,5 @@
 -- `state::speed_good` meets its contract: the same tests, joined as the definition joins them. Assumes nothing.
 use Rattle.state.specs.WellFormed.{speed_good}
-use Rattle.std.proofs.Common.{rules}
 use Rattle.state.proofs.speed_good.Goals as goal
 
 pub returns : goal.returns

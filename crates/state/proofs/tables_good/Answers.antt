@@ -1,5 +1,4 @@
 -- `state::tables_good` meets its contract: the rows that every edition has, and the last. Assumes nothing.
-use Rattle.std.proofs.Common.{rules}
 use Rattle.state.proofs.Fours.{tables-split}
 use Rattle.state.proofs.tables_good.Goals as goal
 

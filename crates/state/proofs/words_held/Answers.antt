@@ -1,12 +1,10 @@
 -- `state::words_held` meets its contract: what is gathered, with what is left, says it of the whole, of both. Assumes nothing.
-use Rattle.std.proofs.Common.{◌≡◌, ℕ, ◌+◌, ◌-◌, ◌%◌, ◌<◌, ◌≤◌, Bool, ◌&&◌, eqb, ltb, length, get_or, drop, sym, refl, ap, ◌∙◌, ap₂, arith}
+use Rattle.std.proofs.Common.{ℕ, ◌+◌, ◌≤◌, Bool, ◌&&◌, eqb, length, get_or, sym, refl, ap, ◌∙◌, ap₂, arith}
 use mathlib.Core.Bool.{and-true}
-use Rattle.line.specs.Runs.{every}
 use Rattle.line.proofs.Runs.{every-end}
 use Rattle.text.specs.Classes.{between}
-use Rattle.state.specs.Sizes.{held_places}
 use Rattle.state.specs.Fours.{in_seven}
-use Rattle.state.proofs.Fours.{seven-joins, seven-word, none-word, four-turn, behind_from, behind-start, behind-turn, behind-end}
+use Rattle.state.proofs.Fours.{seven-joins, seven-word, none-word, four-turn, behind-start, behind-turn, behind-end}
 use Rattle.state.proofs.words_held.Goals as goal
 
 pub loop-i-init : goal.loop-i-init

@@ -13,9 +13,6 @@ use Rattle.whole.proofs.has_no.Goals as goal
 pub loop-i-init : goal.loop-i-init
 loop-i-init c = (omega arith, refl)
 
-pub is_control-requires : goal.is_control-requires
-is_control-requires c = c.requires
-
 pub loop-i-preserved : goal.loop-i-preserved
 loop-i-preserved c =
     let a = c.args in

@@ -1,8 +1,7 @@
 -- `state::closing::archive_good` meets its contract: the flag, with what is left of the places, says it of all twelve. Assumes nothing.
-use Rattle.std.proofs.Common.{◌≡◌, ◌-◌, ◌≤◌, Bool, ◌&&◌, length, drop, refl, ap, arith, rules}
+use Rattle.std.proofs.Common.{◌≡◌, Bool, ◌&&◌, length, refl, ap, arith, rules}
 use Rattle.state.specs.Sizes.{period_places}
-use Rattle.state.specs.WellFormed.{archive_good}
-use Rattle.state.proofs.Places.{places_good, places-start, places-turn, places-end}
+use Rattle.state.proofs.Places.{places-start, places-turn, places-end}
 use Rattle.state.proofs.closing.archive_good.Goals as goal
 
 pub loop-i-init : goal.loop-i-init

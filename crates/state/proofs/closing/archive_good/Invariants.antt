@@ -1,8 +1,8 @@
 -- `state::closing::archive_good` meets its contract: the flag, with what is left of the places, says it of all twelve. Assumes nothing.
-use Rattle.std.proofs.Common.{◌≡◌, ◌-◌, ◌≤◌, Bool, ◌&&◌, length, drop, refl, ap, arith, rules}
+use Rattle.std.proofs.Common.{◌≡◌, ◌-◌, ◌≤◌, ◌&&◌, length, drop}
 use Rattle.state.specs.Sizes.{period_places}
 use Rattle.state.specs.WellFormed.{archive_good}
-use Rattle.state.proofs.Places.{places_good, places-start, places-turn, places-end}
+use Rattle.state.proofs.Places.{places_good}
 use Rattle.state.proofs.closing.archive_good.Given as goal
 
 abbrev pub invariant-loop-i : goal.invariant-loop-i

@@ -1,6 +1,5 @@
 -- `state::closing::both_below` meets its contract: both tests are the definition's own. Assumes nothing.
 use Rattle.state.specs.WellFormed.{both_below}
-use Rattle.std.proofs.Common.{rules}
 use Rattle.state.proofs.closing.both_below.Goals as goal
 
 pub returns : goal.returns

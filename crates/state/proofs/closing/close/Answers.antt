@@ -1,5 +1,4 @@
 -- `state::closing::close` meets its contract: a well-formed archive has what closing asks. Assumes nothing.
-use Rattle.std.proofs.Common.{rules}
 use Rattle.state.proofs.Archives.{formed-archive}
 use Rattle.state.proofs.closing.close.Goals as goal
 

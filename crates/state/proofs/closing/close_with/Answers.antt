@@ -1,5 +1,4 @@
 -- `state::closing::close_with` meets its contract: the period is made of the clock and the counters. Assumes nothing.
-use Rattle.std.proofs.Common.{rules}
 use Rattle.state.proofs.closing.close_with.Goals as goal
 
 pub returns : goal.returns

@@ -1,5 +1,4 @@
 -- `state::closing::empty_archive` meets its contract: every place is the unused one. Assumes nothing.
-use Rattle.std.proofs.Common.{rules}
 use Rattle.state.proofs.closing.empty_archive.Goals as goal
 
 pub returns : goal.returns

@@ -1,5 +1,5 @@
 -- `state::closing::is_kept` meets its contract: its counters were asked first. Assumes nothing.
-use Rattle.std.proofs.Common.{◌≡◌, Bool, true, false, ◌&&◌, sym, refl, ap, ◌∙◌, rules}
+use Rattle.std.proofs.Common.{◌≡◌, Bool, true, false, ◌&&◌, sym, refl, ◌∙◌}
 use Rattle.clock.specs.Seconds.{real_stamp}
 use Rattle.state.proofs.closing.is_kept.Goals as goal
 

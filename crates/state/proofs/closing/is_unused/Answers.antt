@@ -1,6 +1,5 @@
 -- `state::closing::is_unused` meets its contract: both tests are the definition's own. Assumes nothing.
 use Rattle.state.specs.WellFormed.{unused}
-use Rattle.std.proofs.Common.{rules}
 use Rattle.state.proofs.closing.is_unused.Goals as goal
 
 pub returns : goal.returns

@@ -1,6 +1,6 @@
 -- `state::closing::one_more` meets its contract: each way out is the case of the definition that its tests name. Assumes nothing.
 use Rattle.state.specs.Closing.{one_more}
-use Rattle.std.proofs.Common.{rules, le-ltb, lt-ltb}
+use Rattle.std.proofs.Common.{le-ltb, lt-ltb}
 use Rattle.state.proofs.closing.one_more.Goals as goal
 
 pub returns-then-count : goal.returns-then-count

@@ -1,5 +1,4 @@
 -- `state::closing::place_good` meets its contract: the test is the definition's own. Assumes nothing.
-use Rattle.std.proofs.Common.{rules}
 use Rattle.state.proofs.Places.{place_kept, place-unused}
 use Rattle.state.proofs.closing.place_good.Goals as goal
 

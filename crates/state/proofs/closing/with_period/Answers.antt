@@ -1,5 +1,4 @@
 -- `state::closing::with_period` meets its contract: the places one by one are what the list says. Assumes nothing.
-use Rattle.std.proofs.Common.{rules}
 use Rattle.state.proofs.Archives.{first-eleven, one-more-is}
 use Rattle.state.proofs.closing.with_period.Goals as goal
 

@@ -1,6 +1,5 @@
 -- `state::link::rest_speed` meets its contract: each way out is the case of the definition that its test names. Assumes nothing.
 use Rattle.state.specs.Link.{rest_speed}
-use Rattle.std.proofs.Common.{rules}
 use Rattle.state.proofs.link.rest_speed.Goals as goal
 
 pub returns-then-is_wired : goal.returns-then-is_wired

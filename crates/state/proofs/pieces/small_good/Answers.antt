@@ -1,6 +1,5 @@
 -- `state::pieces::small_good` meets its contract: each way out is the case of the definition that its tests name. Assumes nothing.
 use Rattle.state.specs.Pieces.{small_good}
-use Rattle.std.proofs.Common.{rules}
 use Rattle.state.proofs.pieces.small_good.Goals as goal
 
 pub returns-then-factory_good : goal.returns-then-factory_good

@@ -1,5 +1,4 @@
 -- `state::setting::in_mode` meets its contract: each way out is the case of the definition that its tests name. Assumes nothing.
-use Rattle.std.proofs.Common.{rules}
 use Rattle.state.proofs.setting.in_mode.Goals as goal
 
 pub returns : goal.returns

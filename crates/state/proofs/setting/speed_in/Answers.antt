@@ -1,5 +1,5 @@
 -- `state::setting::speed_in` meets its contract: each way out is the case of the definition that its tests name. Assumes nothing.
-use Rattle.std.proofs.Common.{rules, le-leb}
+use Rattle.std.proofs.Common.{le-leb}
 use borrow.Author.Tests.{lt-leb}
 use Rattle.state.proofs.setting.speed_in.Goals as goal
 

@@ -1,5 +1,5 @@
 -- `state::setting::ten` meets its contract. Assumes nothing.
-use Rattle.std.proofs.Common.{◌≡◌, ℕ, ◌≤◌, List, [], ◌∷◌, length, get_or, drop, arith, drop_of_length-le, rules}
+use Rattle.std.proofs.Common.{◌≡◌, ℕ, ◌≤◌, List, [], ◌∷◌, length, get_or, drop, arith, drop_of_length-le}
 use Rattle.line.proofs.Runs.{left-next}
 use Rattle.state.proofs.setting.ten.Goals as goal
 

@@ -1,5 +1,5 @@
 -- `state::words::beside_digits` meets its contract: the law of four digits. Assumes nothing.
-use Rattle.std.proofs.Common.{◌≡◌, sym, ◌∙◌, arith, rules}
+use Rattle.std.proofs.Common.{sym, ◌∙◌, arith}
 use Rattle.state.proofs.Fours.{digits-word}
 use Rattle.state.proofs.words.beside_digits.Goals as goal
 

@@ -1,5 +1,5 @@
 -- `state::words::part` meets its contract: a character is eight bits. Assumes nothing.
-use Rattle.std.proofs.Common.{refl, arith, rules}
+use Rattle.std.proofs.Common.{refl, arith}
 use Rattle.state.proofs.Fours.{part_none}
 use Rattle.state.proofs.words.part.Goals as goal
 

@@ -1,7 +1,7 @@
--- `firmware::check` meets its contract: each way out is the case of the definition that its tests name. Assumes nothing.
+-- `keeping::check` meets its contract: each way out is the case of the definition that its tests name. Assumes nothing.
 use borrow.Author.Tests.{not-true, not-false}
 use borrow.Author.Rules.{rules}
-use Rattle.firmware.proofs.check.Goals as goal
+use Rattle.keeping.proofs.check.Goals as goal
 
 pub returns-then-not-is_edition : goal.returns-then-not-is_edition
 returns-then-not-is_edition c = rw (← c.is_edition.ensures, c.if-not-is_edition.true)
