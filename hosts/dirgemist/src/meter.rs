@@ -209,7 +209,6 @@ extern "C" {
         speed: *mut u8,
         place: *mut u8,
     ) -> u8;
-    fn dirgemist_meter_check(meter: *const Meter) -> u8;
 }
 
 #[link(name = "keeping", kind = "static")]
@@ -232,6 +231,7 @@ extern "C" {
         link: u8,
         decimals: u8,
     ) -> u8;
+    fn dirgemist_meter_check(meter: *const Meter) -> u8;
     fn dirgemist_meter_total(meter: *const Meter, total: *mut u32) -> u8;
 }
 
