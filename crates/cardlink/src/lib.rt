@@ -1,5 +1,5 @@
 // Cards for C: the check, the reader and the writer, on numbers, byte buffers and a lent record. The header is include/dirgemist_card.h.
-// The record is walked by hand, so its function only passes values on.
+// The function of the header only passes values on.
 #![tactic(auto)]
 
 ghost use Rattle.std.specs.Prelude.{◌≡◌};

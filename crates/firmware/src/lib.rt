@@ -1,5 +1,5 @@
 // The meter as firmware holds it: the state lies in the host's record and is changed in place.
-// A reference to a record is walked by hand, so these functions pass values on, and store what is small.
+// A record is too long to be handed on, so these functions pass values on, and store what is small.
 #![tactic(auto)]
 
 ghost use Rattle.std.specs.Prelude.{◌≡◌, eqb, length};

@@ -1,4 +1,4 @@
-// A record that is lent, looked at where it lies. A reference to a record is walked by hand, so this function hands its parts on and does nothing else.
+// A record that is lent, looked at where it lies: this function hands its parts on and does nothing else.
 #![tactic(auto)]
 
 ghost use Rattle.std.specs.Prelude.{◌≡◌};

@@ -1,5 +1,5 @@
 // The head's session for C: it lies in the host's record and is changed in place.
-// A reference to a record is walked by hand, so the three functions of the header only pass values on.
+// The three functions of the header only pass values on.
 #![tactic(auto)]
 
 ghost use Rattle.std.specs.Prelude.{◌≡◌, length};

@@ -1,5 +1,5 @@
 // What an event that a meter acts on leaves of it, stored where its record lies: for every library that holds a host's record.
-// A reference to a record is walked by hand, so these functions pass values on, and store what is small.
+// A record is too long to be handed on, so these functions pass values on, and store what is small.
 #![tactic(auto)]
 
 ghost use Rattle.std.specs.Prelude.{◌≡◌, true, not, ◌≤◌, length, drop};

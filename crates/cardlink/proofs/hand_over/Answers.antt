@@ -1,6 +1,5 @@
 -- `cardlink::hand_over` meets its contract: number and length are those of the writer's answer. Assumes nothing.
 use mathlib.Core.Path.{ap}
-use borrow.Author.Rules.{rules}
 use Rattle.cardwriting.specs.declared.Written.{Written}
 use Rattle.cardlink.proofs.hand_over.Goals as goal
 

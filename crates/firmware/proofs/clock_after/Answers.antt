@@ -1,6 +1,5 @@
 -- `firmware::clock_after` meets its contract: each way out is the case of the definition that its tests name. Assumes nothing.
 use Rattle.settling.specs.Settling.{clock_after}
-use borrow.Author.Rules.{rules}
 use Rattle.firmware.proofs.clock_after.Goals as goal
 
 pub returns-in-Stay : goal.returns-in-Stay

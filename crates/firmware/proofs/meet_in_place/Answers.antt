@@ -8,7 +8,7 @@ use Rattle.meter.specs.Deeds.{done}
 use Rattle.settling.specs.declared.Heard.{Heard}
 use Rattle.settling.specs.Settling.{settles, settled_in}
 use Rattle.settling.specs.Acting.{deed_of}
-use Rattle.settling.proofs.Laws.{settled_is, settled-apart, Left, left_is, left-done}
+use Rattle.settling.proofs.Laws.{settled_is, settled-apart, left_is, left-done}
 use Rattle.storing.specs.declared.Reply.{Reply}
 use Rattle.storing.proofs.Answers.{Answered, answered-as}
 use Rattle.firmware.specs.Replies.{settled_reply}

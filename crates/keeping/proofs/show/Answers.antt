@@ -1,6 +1,4 @@
 -- `keeping::show` meets its contract: each way out is the case of the definition that its test names. Assumes nothing.
-use borrow.Author.Tests.{not-true, not-false}
-use borrow.Author.Rules.{rules}
 use Rattle.keeping.proofs.show.Goals as goal
 
 pub returns-then-not-is_edition : goal.returns-then-not-is_edition

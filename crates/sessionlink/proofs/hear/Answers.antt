@@ -1,5 +1,4 @@
 -- `sessionlink::hear` meets its contract: what the session's own call says, its numbers handed out. Assumes nothing.
-use borrow.Author.Rules.{rules}
 use Rattle.sessionlink.proofs.hear.Goals as goal
 
 pub returns : goal.returns

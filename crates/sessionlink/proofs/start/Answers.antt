@@ -1,5 +1,4 @@
 -- `sessionlink::start` meets its contract: what the session's own call says, its numbers handed out. Assumes nothing.
-use borrow.Author.Rules.{rules}
 use Rattle.sessionlink.proofs.start.Goals as goal
 
 pub returns : goal.returns

@@ -1,5 +1,5 @@
 -- `settling::act` meets its contract: each call is asked what it finds, and what they leave is what the deed says. Assumes nothing.
-use Rattle.std.proofs.Common.{◌≡◌, true, false, length, sym, ◌∙◌}
+use Rattle.std.proofs.Common.{length, sym, ◌∙◌}
 use Rattle.meter.specs.Life.{event_of}
 use Rattle.settling.proofs.Acting.{deed-asks, short-asks, short-said, start-asks, periods-ask, end-asks, long-said}
 use Rattle.settling.proofs.act.Goals as goal

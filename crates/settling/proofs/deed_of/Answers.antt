@@ -1,5 +1,4 @@
 -- `settling::deed_of` meets its contract: the deed is that of the event that it names. Assumes nothing.
-use borrow.Author.Rules.{rules}
 use Rattle.settling.proofs.deed_of.Goals as goal
 
 pub returns : goal.returns

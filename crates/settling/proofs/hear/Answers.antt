@@ -4,7 +4,6 @@ use native.Mathlib.Omega.{arith}
 use Rattle.state.proofs.Limits.{limit-most}
 use Rattle.receiving.proofs.Laws.{hold-room}
 use Rattle.settling.specs.Settling.{heard_by, heard_as}
-use borrow.Author.Rules.{rules}
 use Rattle.settling.proofs.hear.Goals as goal
 
 pub keep-requires : goal.keep-requires

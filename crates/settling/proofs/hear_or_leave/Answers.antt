@@ -4,7 +4,6 @@ use mathlib.Core.Bool.{Bool, true, false}
 use Prim.Native.Nat.{ℕ}
 use native.Mathlib.Omega.{arith}
 use Rattle.settling.specs.Settling.{told_by, heard_of}
-use borrow.Author.Rules.{rules}
 use Rattle.settling.proofs.hear_or_leave.Goals as goal
 
 -- there is no pulse

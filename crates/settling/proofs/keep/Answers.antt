@@ -1,6 +1,5 @@
 -- `settling::keep` meets its contract: each field is the definition's. Assumes nothing.
 use Rattle.settling.specs.Settling.{heard_as}
-use borrow.Author.Rules.{rules}
 use Rattle.settling.proofs.keep.Goals as goal
 
 pub returns : goal.returns

@@ -1,7 +1,6 @@
 -- `settling::pulse` meets its contract: each way out is the case of the definition that its test names. Assumes nothing.
 use native.Mathlib.Omega.{arith}
 use Rattle.settling.specs.Settling.{pulsed_by}
-use borrow.Author.Rules.{rules}
 use Rattle.settling.proofs.pulse.Goals as goal
 
 pub count-x-requires : goal.count-x-requires

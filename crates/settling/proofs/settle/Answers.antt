@@ -1,5 +1,4 @@
 -- `settling::settle` meets its contract: the event that is named goes one way or the other, and either meets it. Assumes nothing.
-use borrow.Author.Rules.{rules}
 use Rattle.settling.proofs.settle.Goals as goal
 
 pub settle_pulse-requires : goal.settle_pulse-requires

@@ -1,7 +1,6 @@
 -- `settling::settle_other` meets its contract: each way out is the case of the definition that its tests name. Assumes nothing.
 use Rattle.settling.specs.Settling.{settles_by}
-use borrow.Author.Tests.{eq-eqb, ne_eqb, not-true, not-false}
-use borrow.Author.Rules.{rules}
+use borrow.Author.Tests.{eq-eqb, ne_eqb}
 use Rattle.settling.proofs.settle_other.Goals as goal
 
 pub returns-then-not-is_edition : goal.returns-then-not-is_edition

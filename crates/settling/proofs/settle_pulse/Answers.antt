@@ -2,8 +2,7 @@
 use mathlib.Core.Path.{sym, ◌∙◌}
 use Rattle.settling.specs.Settling.{settles_by}
 use Rattle.settling.proofs.Laws.{pulse-told}
-use borrow.Author.Tests.{eq-eqb, ne_eqb, not-true, not-false}
-use borrow.Author.Rules.{rules}
+use borrow.Author.Tests.{eq-eqb, ne_eqb}
 use Rattle.settling.proofs.settle_pulse.Goals as goal
 
 pub returns-then-not-is_edition : goal.returns-then-not-is_edition

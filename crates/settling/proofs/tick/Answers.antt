@@ -1,6 +1,5 @@
 -- `settling::tick` meets its contract: each way out is the case of the definition that its test names. Assumes nothing.
 use Rattle.settling.specs.Settling.{ticked_by}
-use borrow.Author.Rules.{rules}
 use Rattle.settling.proofs.tick.Goals as goal
 
 pub returns-then-month_starts : goal.returns-then-month_starts

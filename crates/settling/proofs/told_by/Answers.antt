@@ -1,6 +1,5 @@
 -- `settling::told_by` meets its contract: each way out is the case of the definition that its tests name. Assumes nothing.
 use Rattle.settling.specs.Settling.{told_by}
-use borrow.Author.Rules.{rules}
 use Rattle.settling.proofs.told_by.Goals as goal
 
 pub returns-in-Character : goal.returns-in-Character

@@ -8,9 +8,8 @@ use Rattle.storing.proofs.act_in_place.Goals as goal
 
 pub store-requires : goal.store-requires
 store-requires c =
-    let m = c.args.m.now in
-    (
+    let m = c.args.m.now in (
       c.requires.0,
       subst (λ (x : Acted). Writable x.writes) (sym c.act-a.ensures.0)
-      (left_writable (standing_of m) m.receiver.held m.registers.clock (event_of c.args.kind c.args.value)),
+          (left_writable (standing_of m) m.receiver.held m.registers.clock (event_of c.args.kind c.args.value)),
     )

@@ -1,7 +1,6 @@
 -- `storing::keeps` meets its contract: what its callee says, turned round. Assumes nothing.
 use mathlib.Core.Path.{ap}
 use mathlib.Core.Bool.{not}
-use borrow.Author.Rules.{rules}
 use Rattle.storing.proofs.keeps.Goals as goal
 
 pub returns : goal.returns

@@ -1,5 +1,4 @@
 -- `keeping::making::make` meets its contract. Assumes nothing.
-use borrow.Author.Rules.{rules}
 use Rattle.keeping.proofs.making.make.Goals as goal
 
 pub returns : goal.returns

@@ -1,6 +1,5 @@
 -- `keeping::making::make_from` meets its contract: where the lengths are right the arrays are the texts. Assumes nothing.
 use borrow.Author.Tests.{ne_eqb}
-use borrow.Author.Rules.{rules}
 use Rattle.keeping.proofs.Lengths.{serial-long, account-long, password-long}
 use Rattle.keeping.proofs.making.make_from.Goals as goal
 
