@@ -57,12 +57,16 @@ last-by true false g e = rw e (refl, refl)
 last-by false true g e = rw e (refl, refl)
 last-by false false g e = rw e (refl, refl)
 
-first_by : (two old : Bool) (g : Registers) (n : ℕ) → eqb (family_in g) 0 ≡ old → cond two 25 24 ≡ n → first_with (row_address n) (block_sets n g) ≡ table_set n (row_of g.tables n)
+first-at : (two old : Bool) (g : Registers) → eqb (family_in g) 0 ≡ old
+    → first_with (row_address (cond two 25 24)) (block_sets (cond two 25 24) g) ≡ table_set (cond two 25 24) (row_of g.tables (cond two 25 24))
 unfolding first_with row_address import_name energy_name is_eqm same_text matching decimal layout_text table_text block_sets fact_sets in_and_out energy_sets table_sets
-first_by true true g n e f = rw (← f, e) refl
-first_by true false g n e f = rw (← f, e) refl
-first_by false true g n e f = rw (← f, e) refl
-first_by false false g n e f = rw (← f, e) refl
+first-at true true g e = rw e refl
+first-at true false g e = rw e refl
+first-at false true g e = rw e refl
+first-at false false g e = rw e refl
+
+first_by : (two old : Bool) (g : Registers) (n : ℕ) → eqb (family_in g) 0 ≡ old → cond two 25 24 ≡ n → first_with (row_address n) (block_sets n g) ≡ table_set n (row_of g.tables n)
+first_by two old g n e f = subst (λ k. first_with (row_address k) (block_sets k g) ≡ table_set k (row_of g.tables k)) f (first-at two old g e)
 
 total_first : (old : Bool) (g : Registers) (tables : ℕ) → eqb (family_in g) 0 ≡ old
     → first_with (total_address (family_in g)) (block_sets tables g) ≡ energy_set (family_in g) false 0 g.counters.total
