@@ -3,7 +3,7 @@
  * A gateway that has a whole frame hands it over as a slice, in one call, where firmware gives its
  * characters one by one. Both work on the same record, and may take turns on it. What
  * dirgemist_meter.h says of records, pointers and threads goes for this call too. It takes some 1,000
- * bytes of stack (780 on a Cortex-M0), below DIRGEMIST_FRAME_STACK; hosts/stack and
+ * bytes of stack (740 on a Cortex-M0), below DIRGEMIST_FRAME_STACK; hosts/stack and
  * hosts/chip/count.c measure it.
  *
  * Link with libgateway.a; the record is made and tested by the calls of dirgemist_meter.h.

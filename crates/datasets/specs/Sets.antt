@@ -38,7 +38,7 @@ account_set s = record { address = chars "0.0.0"; value = s }
 unfoldable pub energy_name : ℕ → Bool → List ℕ
 energy_name family out = cond out export_name (import_name family)
 
--- 15.8.n(eeeeee.eee*k_wh); 1.8.n and 2.8.n of an EQM meter
+-- 15.8.n(eeeeee.eee*kWh); 1.8.n and 2.8.n of an EQM meter
 abbrev pub energy_set : ℕ → Bool → ℕ → ℕ → DataSet
 energy_set family out n count = record { address = energy_name family out ++ decimal 1 n; value = energy_text family count }
 
@@ -50,7 +50,7 @@ table_set n row = record { address = chars "131.0." ++ table_text n; value = row
 abbrev pub closed_set : ℕ → Stamp → DataSet
 closed_set k t = record { address = chars "0.1.2*" ++ decimal 2 k; value = stamp_text t }
 
--- 15.8.n*kk(eeeeee.eee*k_wh); 1.8.n*kk and 2.8.n*kk of an EQM meter
+-- 15.8.n*kk(eeeeee.eee*kWh); 1.8.n*kk and 2.8.n*kk of an EQM meter
 abbrev pub kept_set : ℕ → Bool → ℕ → ℕ → ℕ → DataSet
 kept_set family out k n count = record { address = energy_name family out ++ (decimal 1 n ++ (chars "*" ++ decimal 2 k)); value = energy_text family count }
 

@@ -77,7 +77,7 @@ fn put_counter_set(buf: &mut [u8], at: usize, opening: &[u8], n: u32, family: u8
     put_shown(buf, a, n, family)
 }
 
-// A counter as `15.8.n(eeeeee.eee*k_wh)`; of an EQM meter as `1.8.n`, or as `2.8.n` what went out.
+// A counter as `15.8.n(eeeeee.eee*kWh)`; of an EQM meter as `1.8.n`, or as `2.8.n` what went out.
 pub fn put_energy_set(buf: &mut [u8], at: usize, e: Energy, n: u32, out: bool, family: u8) -> usize
     requires { at + 24 ≤ length buf.old }
     ensures next { result ≡ at + length (line_of (energy_set family out (energy_no e) n)) }

@@ -48,7 +48,7 @@ pub record Facts : Type 0 where
   pub ones-01 : get_or (frame_of W1 (set_table 1 all_ones)) 35 0 ≡ 0x06
   pub ones-04 : get_or (frame_of W1 (set_table 4 all_ones)) 35 0 ≡ ETX
   pub ones-06 : get_or (frame_of W1 (set_table 6 all_ones)) 35 0 ≡ SOH
-  -- 1,500 Wh in T1, E1(): STX 15.8.1(000001.500*k_wh) CR LF ETX, BCC 6C
+  -- 1,500 Wh in T1, E1(): STX 15.8.1(000001.500*kWh) CR LF ETX, BCC 6C
   pub asks-first : (family : ℕ) → asked 24 family (chars "E1()") ≡ Read (Energy (zone_energy 1))
   pub energy-block : (g : Registers) → family_in g ≡ 0 → counter_of g.counters 1 ≡ 1500
       → block_of (asked_data g (Energy (zone_energy 1)))
@@ -72,7 +72,7 @@ pub record Facts : Type 0 where
   pub two-decimals : energy_text 2 12345678 ≡ chars "123456.78*kWh"
   pub three-decimals : energy_text 3 12345678 ≡ chars "12345.678*kWh"
   pub four-decimals : energy_text 4 12345678 ≡ chars "1234.5678*kWh"
-  -- 1.500 k_wh went out in T1, G1() of a meter with three: STX 2.8.1(00001.500*k_wh) CR LF ETX, BCC 6A; one of document 01's family refuses it with 9
+  -- 1.500 kWh went out in T1, G1() of a meter with three: STX 2.8.1(00001.500*kWh) CR LF ETX, BCC 6A; one of document 01's family refuses it with 9
   pub asks-out : asked 24 3 (chars "G1()") ≡ Read (Export (zone_energy 1))
   pub out-block : (g : Registers) → family_in g ≡ 3 → counter_of g.exported 1 ≡ 1500
       → block_of (asked_data g (Export (zone_energy 1)))

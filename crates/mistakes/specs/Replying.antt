@@ -119,7 +119,7 @@ pub record Fields : Type 0 where
   pub swaps-month-and-day : RuledOut (date_read (date_text (date_of 2001 2 3))).date (date_of 2001 3 2)
   -- 24:00:00 taken; its numbers handed out all the same
   pub dirgemist_head_value_time : RuledOut (value_number (time_read (time_text (time_of 24 0 0))).ok) 1 × RuledOut (time_read (time_text (time_of 24 0 0))).time (time_of 24 0 0)
-  -- 25 for a good counter; its k_wh and no decimals
+  -- 25 for a good counter; its kWh and no decimals
   pub dirgemist_head_value_counter : RuledOut (value_number (energy_read 0 (energy_text 0 1500)).ok) 25 × RuledOut (energy_read 0 (energy_text 0 1500)).number 1
   -- [10]: document 01's family read as an EQM one; 25 for decimals that no meter has
   pub dirgemist_head_value_eqm : RuledOut (eqm_told 0 (energy_text 0 1500)) (record { number = 1; count = 1500 }) × RuledOut (eqm_told 1 []) (record { number = 25; count = 0 })

@@ -85,7 +85,7 @@ pub record Sets : Type 0 where
   -- the serial's address; an account of spaces left empty
   pub put_account_set : RuledOut (stored (replicate 19 0) 0 (line_of (account_set account))) (data_set (serial_set serial).address account)
       × RuledOut (stored (replicate 19 0) 0 (line_of (account_set (replicate 10 32)))) (line_of (account_set []) ++ replicate 10 0)
-  -- the total's address for T1; Wh shown as k_wh
+  -- the total's address for T1; Wh shown as kWh
   pub put_energy_set : RuledOut (stored (replicate 24 0) 0 (line_of (energy_set 0 false (energy_no (zone_energy 1)) 1500))) (line_of (energy_set 0 false 0 1500))
       × RuledOut (stored (replicate 24 0) 0 (line_of (energy_set 0 false (energy_no (zone_energy 1)) 1500))) (line_of (energy_set 0 false 1 1500000))
   -- [10]: what went out under the name of what came in; that under document 01's name
@@ -97,7 +97,7 @@ pub record Sets : Type 0 where
   -- the number of the next period; an hour late
   pub put_closed_set : RuledOut (stored (replicate 26 0) 0 (line_of (closed_set 7 (stamp_at 2001 2 3 4 5)))) (line_of (closed_set 8 (stamp_at 2001 2 3 4 5)))
       × RuledOut (stored (replicate 26 0) 0 (line_of (closed_set 7 (stamp_at 2001 2 3 4 5)))) (line_of (closed_set 7 (stamp_at 2001 2 3 5 5)))
-  -- zone and period changed about; k_wh for Wh
+  -- zone and period changed about; kWh for Wh
   pub put_kept_set : RuledOut (stored (replicate 27 0) 0 (line_of (kept_set 0 false 2 1 1500))) (line_of (kept_set 0 false 1 2 1500))
       × RuledOut (stored (replicate 27 0) 0 (line_of (kept_set 0 false 2 1 1500))) (line_of (kept_set 0 false 2 1 1500000))
   -- [10]: the same two of what went out

@@ -131,7 +131,7 @@ pub record Writing : Type 0 where
   -- hour and minute changed about; a semicolon for the space, as a write of the clock has it
   pub put_stamp : RuledOut (stored (replicate 14 0) 0 (stamp_text (stamp_at 2001 2 3 4 5))) (stamp_text (stamp_at 2001 2 3 5 4))
       × RuledOut (stored (replicate 14 0) 0 (stamp_text (stamp_at 2001 2 3 4 5))) (date_text (date_of 2001 2 3) ++ (59 ∷ (decimal 2 4 ++ (58 ∷ decimal 2 5))))
-  -- Wh shown as k_wh; two decimals
+  -- Wh shown as kWh; two decimals
   pub put_counter : RuledOut (stored (replicate 14 0) 0 (energy_text 0 1500)) (energy_text 0 1500000)
       × RuledOut (stored (replicate 14 0) 0 (energy_text 0 1500)) (counter_text 9 2 150)
   -- [10]: of three decimals, the point in the column of two; nine digits

@@ -1,5 +1,5 @@
 // The reader: it keeps its place in the lent data and yields the data sets one by one.
-// A struct that holds a slice is walked by hand, so the functions over it only pass values on.
+// The functions over a struct that holds a slice only pass values on.
 #![tactic(auto)]
 
 ghost use Rattle.std.specs.Prelude.{◌≡◌};

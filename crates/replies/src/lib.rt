@@ -154,7 +154,7 @@ pub fn put_periods(buf: &mut [u8], at: usize, a: Archive, family: u8) -> usize
     place
 }
 
-// The same of an archive that is lent: each period is looked at where it lies. A reference to a record is walked by hand, so the rest is `put_numbered`'s.
+// The same of an archive that is lent: each period is looked at where it lies, and put by `put_numbered`.
 pub fn lent_periods(buf: &mut [u8], at: usize, a: &Archive, family: u8) -> usize
     requires { (a.now.count ≤ period_places) × (at + a.now.count * 226 + 16 ≤ length buf.old) }
     ensures { (result ≡ at + length (lines_of (archive_sets family 1 (periods_of a.now))))

@@ -13,7 +13,7 @@ form_of p = record { low = lanes (map least p); bits = lanes (map common p); spa
 abbrev pub keeps_form : Form → ℕ → Bool
 keeps_form f w = keeps f.low f.bits f.spare w
 
--- ######.###*k_wh, or as another family shows it
+-- ######.###*kWh, or as another family shows it
 abbrev pub counter_pattern : ℕ → List ℕ
 counter_pattern family = pattern (counter_form (counter_digits family) (counter_decimals family))
 

@@ -14,7 +14,7 @@ is_eqm family = not (eqb family 0)
 unfoldable pub counter_digits : ℕ → ℕ
 counter_digits family = cond (eqb family 0) 9 8
 
--- so many of them are decimals of a k_wh; there is no other family than these
+-- so many of them are decimals of a kWh; there is no other family than these
 unfoldable pub counter_decimals : ℕ → ℕ
 counter_decimals family = cond (eqb family 0) 3 (cond (eqb family 2) 2 (cond (eqb family 3) 3 4))
 

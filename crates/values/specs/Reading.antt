@@ -62,7 +62,7 @@ some_stamp t = cond (real_stamp t) (record { ok = true; stamp = t }) no_stamp
 unfoldable pub stamp_read : List ℕ → StampRead
 stamp_read s = cond (fits (pattern stamp_form) s) (some_stamp (stamp_in s)) no_stamp
 
--- eeeeee.eee*k_wh
+-- eeeeee.eee*kWh
 abbrev pub counter_in : ℕ → ℕ → List ℕ → ℕ
 counter_in all decimals s = number_at s 0 (all - decimals) * 10 ^ decimals + number_at s (all - decimals + 1) decimals
 

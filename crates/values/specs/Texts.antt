@@ -60,7 +60,7 @@ stamp_form = date_form ++ (fixed (chars " ") ∷ digits 2 ∷ fixed (chars ":") 
 unfoldable pub stamp_text : Stamp → List ℕ
 stamp_text t = layout_text stamp_form ((t.date.year - 2000) ∷ t.date.month ∷ t.date.day ∷ t.hour ∷ t.minute ∷ [])
 
--- eeeeee.eee*k_wh: so many digits in all, so many of them decimals
+-- eeeeee.eee*kWh: so many digits in all, so many of them decimals
 abbrev pub counter_form : ℕ → ℕ → List Piece
 counter_form all decimals = digits (all - decimals) ∷ fixed (chars ".") ∷ digits decimals ∷ fixed (chars "*kWh") ∷ []
 

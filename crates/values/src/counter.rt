@@ -37,7 +37,7 @@ fn first_of(family: u8) -> Form
     }
 }
 
-// The last eight: `.###*k_wh`, `#.##*k_wh` or `####*k_wh`.
+// The last eight: `.###*kWh`, `#.##*kWh` or `####*kWh`.
 fn last_of(family: u8) -> Form
     ensures { result ≡ last_form family }
 {

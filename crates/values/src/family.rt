@@ -26,7 +26,7 @@ pub fn counter_digits(family: u8) -> usize
     8
 }
 
-// How many of them are decimals of a k_wh.
+// How many of them are decimals of a kWh.
 pub fn counter_decimals(family: u8) -> usize
     ensures value { result ≡ counter_decimals family }
     ensures few { (2 ≤ result) × (result ≤ 4) }

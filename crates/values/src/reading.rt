@@ -312,7 +312,7 @@ fn no_counter() -> CounterRead
     }
 }
 
-// A counter from `eeeeee.eee*k_wh`, or as another family shows it. Its last eight characters are the unit and four before it.
+// A counter from `eeeeee.eee*kWh`, or as another family shows it. Its last eight characters are the unit and four before it.
 pub fn read_counter(s: &[u8], family: u8) -> CounterRead
     ensures { result ≡ energy_read family s.now }
 {

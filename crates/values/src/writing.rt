@@ -183,7 +183,7 @@ fn put_pointed(buf: &mut [u8], at: usize, nine: &[u8], first: usize, point: usiz
     text::put(buf, c, b"*kWh")
 }
 
-// A counter as `eeeeee.eee*k_wh`, or as another family shows it. Each family has its own call, with places that are constants: so the compiler moves its characters with no loop.
+// A counter as `eeeeee.eee*kWh`, or as another family shows it. Each family has its own call, with places that are constants: so the compiler moves its characters with no loop.
 pub fn put_counter(buf: &mut [u8], at: usize, n: u32, family: u8) -> usize
     requires { at + (counter_digits family + 5) ≤ length buf.old }
     ensures next { result ≡ at + (counter_digits family + 5) }
