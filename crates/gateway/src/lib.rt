@@ -1,5 +1,5 @@
-// For a gateway that delivers complete frames: the state lies in the host's record and is changed in place. A library of its own, since firmware that hears
-// characters one by one does without it. A record is too long to be handed on, so these functions pass values on, and store what is small.
+// For a gateway that delivers complete frames: the state lies in the host's record and is changed in place. A library of its own, so that in `firmware`
+// the test of the state goes on having one caller. A record is too long to be handed on, so these functions pass values on, and store what is small.
 #![tactic(auto)]
 
 ghost use Rattle.std.specs.Prelude.{◌≡◌, not, eqb, length};
