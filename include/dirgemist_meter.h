@@ -12,7 +12,7 @@
  * Each is proved, for all records, numbers and buffers, to do what its paragraph says. Pointers
  * must not be null, and what they point to must not overlap.
  *
- * Stack: an event takes some 1,600 bytes (64-bit Arm; 1,700 on a Cortex-M0), making up to 4,200
+ * Stack: an event takes some 1,600 bytes (64-bit Arm; 1,700 on a Cortex-M0), making up to 4,700
  * (x86-64), a test or the total up to 390; DIRGEMIST_STACK is above each, and hosts/stack and
  * hosts/chip/count.c measure them. The tables are never copied, and the archive only where a period is
  * closed.
