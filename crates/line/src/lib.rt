@@ -57,10 +57,8 @@ pub fn bcc(s: &[u8]) -> u8
     ensures { result ≡ bcc_of s.now }
 {
     let mut sum: u8 = 0;
-    let mut i = 0;
-    while i < s.len() {
-        sum = sum ^ s[i];
-        i += 1;
+    for b in s {
+        sum ^= *b;
     }
     sum % 128
 }
@@ -70,11 +68,8 @@ pub fn undamaged(s: &[u8]) -> bool
     ensures { result ≡ undamaged_all s.now }
 {
     let mut strays: u8 = 0;
-    let mut at = 0;
-    while at < s.len() {
-        let b = s[at];
-        strays = strays | (balance(b) ^ b);
-        at += 1;
+    for b in s {
+        strays |= balance(*b) ^ *b;
     }
     strays / 128 == 0
 }
@@ -83,9 +78,7 @@ pub fn undamaged(s: &[u8]) -> bool
 pub fn put_parity(s: &mut [u8])
     ensures { s.new ≡ map sent s.old }
 {
-    let mut i = 0;
-    while i < s.len() {
-        s[i] = wire(s[i]);
-        i += 1;
+    for b in s {
+        *b = wire(*b);
     }
 }

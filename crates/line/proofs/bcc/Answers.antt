@@ -5,14 +5,12 @@ use Rattle.line.specs.Characters.{seven}
 use Rattle.line.proofs.Xor.{bcc-start, bcc-turn, bcc-end}
 use Rattle.line.proofs.bcc.Goals as goal
 
-pub loop-i-init : goal.loop-i-init
-loop-i-init c = (omega arith, bcc-start _)
+pub loop-b-init : goal.loop-b-init
+loop-b-init c = bcc-start _
 
-pub loop-i-preserved : goal.loop-i-preserved
-loop-i-preserved c =
-    (omega arith, bcc-turn c.args.s.now c.loop-i.i c.loop-i.sum _ c.loop-i-test.true c.loop-i.invariant.1)
+pub loop-b-preserved : goal.loop-b-preserved
+loop-b-preserved c = bcc-turn c.args.s.now c.loop-b.b-index c.loop-b.sum _ (omega arith) c.loop-b.invariant
 
 pub returns : goal.returns
 unfolding seven
-returns c =
-    bcc-end c.args.s.now c.loop-i.i c.loop-i.sum _ c.loop-i-test.false c.loop-i.invariant.1
+returns c = bcc-end c.args.s.now c.loop-b.b-index c.loop-b.sum _ (omega arith) c.loop-b.invariant

@@ -1,15 +1,12 @@
 -- `line::undamaged` meets its contract: whether no stray top bit is gathered, with what is left, says it of the whole. Assumes nothing.
 use mathlib.Core.Path.{◌≡◌}
 use mathlib.Core.Bool.{◌&&◌}
-use Prim.Native.Nat.{◌/◌, ◌≤◌, ◌-◌}
+use Prim.Native.Nat.{◌/◌}
 use lib.Dec.{eqb}
-use lib.ListN.{length, drop}
+use lib.ListN.{drop}
 use Rattle.line.specs.Runs.{every}
 use Rattle.line.specs.Characters.{undamaged_at}
 use Rattle.line.proofs.undamaged.Given as goal
 
-abbrev pub invariant-loop-at : goal.invariant-loop-at
-invariant-loop-at l = (l.at ≤ length l.s) × ((eqb (l.strays / 128) 0 && every undamaged_at (drop l.at l.s)) ≡ every undamaged_at l.s)
-
-abbrev pub decreases-loop-at : goal.decreases-loop-at
-decreases-loop-at l = length l.s - l.at
+abbrev pub invariant-loop-b : goal.invariant-loop-b
+invariant-loop-b l = (eqb (l.strays / 128) 0 && every undamaged_at (drop l.b-index l.s)) ≡ every undamaged_at l.s
