@@ -8,12 +8,5 @@ ghost use Rattle.damage.specs.First.{first_damaged};
 pub fn first_damaged(s: &[u8]) -> usize
     ensures { result ≡ first_damaged s.now }
 {
-    let mut i = 0;
-    while i < s.len() {
-        if line::damaged(s[i]) {
-            return i;
-        }
-        i += 1;
-    }
-    i
+    s.iter().position(|b| line::damaged(*b)).unwrap_or(s.len())
 }

@@ -1,20 +1,17 @@
--- `damage::first_damaged` meets its contract. The invariant: the places passed, and where what is left is damaged, are the whole's. Assumes nothing.
-use mathlib.Core.Path.{sym, ◌∙◌}
-use native.Mathlib.Omega.{arith}
-use Rattle.damage.proofs.First.{first-here, first_next, first-none}
+-- `damage::first_damaged` meets its contract: the place at which the test is passed first, or the end. Assumes nothing.
+use mathlib.Core.Path.{◌≡◌, ap, ◌∙◌}
+use Rattle.std.specs.Prelude.{position, unwrap_or}
+use Rattle.std.proofs.lemmas.Iterator.{YieldsList-from_slice}
+use Rattle.std.proofs.lemmas.Iterator.Search.{position_from_yields_List}
+use Rattle.std.proofs.Common.{rules, tests}
+use lib.ListN.{length}
+use Rattle.line.specs.Characters.{damaged_at}
+use Rattle.damage.proofs.First.{first-position}
 use Rattle.damage.proofs.first_damaged.Goals as goal
 
-pub loop-i-init : goal.loop-i-init
-loop-i-init c = (omega arith, omega arith)
-
-pub returns-then-damaged : goal.returns-then-damaged
-returns-then-damaged c =
-    first-here c.args.s.now c.loop-i.i c.loop-i-test.true c.loop-i.invariant.1 (sym c.damaged.ensures ∙ c.if-damaged.true)
-
-pub loop-i-preserved : goal.loop-i-preserved
-loop-i-preserved c =
-    let test = c.loop-i-test.true in
-    (omega arith, first_next c.args.s.now c.loop-i.i test c.loop-i.invariant.1 (sym c.damaged.ensures ∙ c.if-damaged.false))
-
 pub returns : goal.returns
-returns c = first-none c.args.s.now c.loop-i.i c.loop-i-test.false c.loop-i.invariant.1
+returns c =
+    let s = c.args.s.now in
+    let found : c.position.result ≡ position damaged_at s =
+    position_from_yields_List damaged_at _ _ c.position.result c.position.ensures.ran (YieldsList-from_slice _ c.iter.ensures.rest) (λ x b q k. search (rules, tests)) in
+    c.unwrap_or.ensures ∙ ap (λ p. unwrap_or p (length s)) found ∙ first-position s
