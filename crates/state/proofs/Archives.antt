@@ -1,5 +1,5 @@
 -- The archive: what is said of its periods one by one, and what one more period makes of it. Assumes nothing.
-use Rattle.std.proofs.Common.{◌≡◌, ℕ, zero, suc, ◌+◌, ◌-◌, ◌<◌, ◌≤◌, Bool, true, false, cond, ◌&&◌, eqb, ltb, leb, List, [], ◌∷◌, ◌++◌, length, get_or, take, drop, replicate, sym, refl, ap, ◌∙◌, add-one, arith, drop_of_length-le, length-take-le, take_all, drop-cons, take-take, ltb-false, ltb-true, eqb-true, leb-true}
+use Rattle.std.proofs.Common.{min, ◌≡◌, ℕ, zero, suc, ◌+◌, ◌-◌, ◌<◌, ◌≤◌, Bool, true, false, cond, ◌&&◌, eqb, ltb, leb, List, [], ◌∷◌, ◌++◌, length, get_or, take, drop, replicate, sym, refl, ap, ◌∙◌, add-one, arith, drop_of_length-le, length-take-le, take_all, drop-cons, take-take, ltb-false, ltb-true, eqb-true, leb-true}
 use mathlib.Core.Bool.{and-true}
 use Rattle.line.specs.Runs.{every}
 use Rattle.line.proofs.Runs.{and_left, and_right}
@@ -146,6 +146,15 @@ more c ps l h = go (ltb c period_places) refl
     go false e =
         let full : 11 ≤ c = omega (arith, ltb-false c period_places e) in
         rw (take-take 11 c ps full, length-take-le 11 ps (omega (arith, l))) (omega arith)
+
+-- how many there are then, counted up to the end
+pub counted-on : (c : ℕ) → min (c + 1) period_places ≡ one_more c
+unfolding one_more
+counted-on c = go (ltb c period_places) refl
+  where
+    go : (b : Bool) → ltb c period_places ≡ b → min (c + 1) period_places ≡ cond b (c + 1) period_places
+    go true e = omega (arith, ltb-true c period_places e)
+    go false e = omega (arith, ltb-false c period_places e)
 
 -- the first eleven places, one by one
 pub first-eleven : (q : List Period) (d : Period) → length q ≡ period_places

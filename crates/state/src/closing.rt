@@ -2,8 +2,8 @@
 ghost use Rattle.std.specs.Prelude.{◌≡◌, ◌≤◌, true, cond, ◌&&◌, length, drop};
 ghost use Rattle.clock.specs.Seconds.{real_stamp};
 ghost use Rattle.state.specs.Sizes.{period_places};
-ghost use Rattle.state.specs.WellFormed.{both_below, no_time, unused, place_good, every_period, archive_good};
-ghost use Rattle.state.specs.Closing.{one_more, closed_with, period_of, closing};
+ghost use Rattle.state.specs.WellFormed.{both_below, no_time, unused, every_period, archive_good};
+ghost use Rattle.state.specs.Closing.{closed_with, period_of, closing};
 ghost use Rattle.state.specs.Making.{no_period, empty_archive};
 
 use crate::setting::with_archive;
@@ -46,26 +46,21 @@ pub fn empty_archive() -> Archive
 fn both_below(p: Period, end: u32, out: u32) -> bool
     ensures { result ≡ both_below end out p }
 {
-    let zones = p.zones;
-    let exported = p.exported;
-    crate::four_below(zones, end) & crate::four_below(exported, out)
+    crate::four_below(p.zones, end) & crate::four_below(p.exported, out)
 }
 
 fn has_no_time(s: Stamp) -> bool
     ensures { result ≡ no_time s }
 {
-    let d = s.date;
-    ((d.year == 0) & ((d.month == 0) & (d.day == 0))) & ((s.hour == 0) & (s.minute == 0))
+    ((s.date.year == 0) & ((s.date.month == 0) & (s.date.day == 0)))
+        & ((s.hour == 0) & (s.minute == 0))
 }
 
 // Whether a kept period has a real time, and counters below these ends. A small processor has no registers for them while it looks at the time: they come first.
 fn is_kept(p: Period, end: u32, out: u32) -> bool
     ensures { result ≡ (real_stamp p.closed && both_below end out p) }
 {
-    if both_below(p, end, out) {
-        return clock::is_stamp(p.closed);
-    }
-    false
+    both_below(p, end, out) && clock::is_stamp(p.closed)
 }
 
 fn is_unused(p: Period) -> bool
@@ -74,29 +69,11 @@ fn is_unused(p: Period) -> bool
     has_no_time(p.closed) & both_below(p, 1, 1)
 }
 
-// Whether a place is as it has to be, where so many periods are kept.
-fn place_good(p: Period, i: u32, count: u8, family: u8) -> bool
-    ensures { result ≡ place_good family count i p }
-{
-    if i < count as u32 {
-        return is_kept(p, family::counter_end(family), family::export_end(family));
-    }
-    is_unused(p)
-}
-
 // Whether an archive is well-formed: the first so many places hold good periods, and those behind them are unused.
 pub fn archive_good(a: Archive, family: u8) -> bool
     ensures { result ≡ archive_good family a }
 {
-    let count = a.count;
-    let mut ok = count as u32 <= PLACES;
-    let mut i: u32 = 0;
-    while i < PLACES {
-        let p = a.periods[i as usize];
-        ok = ok & place_good(p, i, count, family);
-        i += 1;
-    }
-    ok
+    lent_good(&a, family)
 }
 
 // The same of an archive that is lent: each place is looked at where it lies, up to the first that is not as it has to be. The ends are asked for once.
@@ -109,29 +86,17 @@ pub fn lent_good(a: &Archive, family: u8) -> bool
     }
     let end = family::counter_end(family);
     let out = family::export_end(family);
-    let mut i: u32 = 0;
-    while i < count {
+    for i in 0..count {
         if !is_kept(a.periods[i as usize], end, out) {
             return false;
         }
-        i += 1;
     }
-    while i < PLACES {
+    for i in count..PLACES {
         if !is_unused(a.periods[i as usize]) {
             return false;
         }
-        i += 1;
     }
     true
-}
-
-fn one_more(count: u8) -> u8
-    ensures { result ≡ one_more count }
-{
-    if count < PERIODS as u8 {
-        return count + 1;
-    }
-    PERIODS as u8
 }
 
 // An archive with one more period.
@@ -144,7 +109,7 @@ fn with_period(a: Archive, p: Period) -> Archive
         periods: [
             p, q[0], q[1], q[2], q[3], q[4], q[5], q[6], q[7], q[8], q[9], q[10],
         ],
-        count: one_more(a.count),
+        count: (a.count + 1).min(PERIODS as u8),
     }
 }
 

@@ -117,16 +117,15 @@ pub struct Made {
 }
 
 // How many characters are held at most.
+#[tactic(auto, unfolding(crate::specs::WellFormed::limit))]
 pub fn limit_of(mode: u8) -> u8
     ensures { result ≡ limit mode }
 {
-    if mode == 0 {
-        return 31;
+    match mode {
+        0 => 31,
+        1 => 5,
+        _ => MOST_HELD,
     }
-    if mode == 1 {
-        return 5;
-    }
-    MOST_HELD
 }
 
 // Whether the first held character is the one that the mode asks for.
@@ -150,8 +149,8 @@ fn hurt_good(count: u8, mark: u8, place: u8) -> bool
 }
 
 // Whether the places from the count on, up to a whole word, hold 0.
-fn part_unused(held: &[u8], count: u8) -> bool
-    requires { (length held.now ≡ held_places) × (count ≤ most_held) }
+fn part_unused(held: &[u8; HELD_PLACES as usize], count: u8) -> bool
+    requires { count ≤ most_held }
     ensures { result ≡ every (between 0 0) (drop (count % 4) (take 4 (drop (count - count % 4) held.now))) }
 {
     let used = count % 4;
@@ -166,20 +165,18 @@ fn words_held(held: &[u8], count: u8) -> bool
 {
     let mut all: u32 = 0;
     let mut behind: u32 = 0;
-    let mut i: u32 = 0;
-    while i < HELD_PLACES as u32 {
-        let at = i as usize;
+    for word in 0..HELD_PLACES as u32 / 4 {
+        let at = (word * 4) as usize;
         let four = words::four(held[at], held[at + 1], held[at + 2], held[at + 3]);
         all = all | four;
-        behind = behind | words::four_if((count as u32) < i, four);
-        i += 4;
+        behind = behind | words::four_if((count as u32) < word * 4, four);
     }
     words::is_seven(all) & (behind == 0)
 }
 
 // Whether 64 characters are within 0 to 127, and 0 from the count on.
-fn held_good(held: &[u8], count: u8) -> bool
-    requires { (length held.now ≡ held_places) × (count ≤ most_held) }
+fn held_good(held: &[u8; HELD_PLACES as usize], count: u8) -> bool
+    requires { count ≤ most_held }
     ensures { result ≡ held_good held.now count }
 {
     words_held(held, count) & part_unused(held, count)
@@ -217,21 +214,15 @@ fn counters_good(c: Counters, end: u32) -> bool
     requires { (1 ≤ end) × (end ≤ 1000000000) }
     ensures { result ≡ counters_good end c }
 {
-    let zones = c.zones;
-    if four_below(zones, end) {
-        return c.total == total_of(c, end);
-    }
-    false
+    four_below(c.zones, end) && c.total == total_of(c, end)
 }
 
 // Whether what came in and what went out is good.
 fn directions_good(counters: Counters, exported: Counters, family: u8) -> bool
     ensures { result ≡ directions_good family counters exported }
 {
-    if counters_good(counters, family::counter_end(family)) {
-        return counters_good(exported, family::export_end(family));
-    }
-    false
+    counters_good(counters, family::counter_end(family))
+        && counters_good(exported, family::export_end(family))
 }
 
 // What strays from '1' to '4' in the rows that every edition has, gathered four characters at a time.
@@ -240,11 +231,9 @@ fn rows_stray(s: &[u8]) -> u32
     ensures { in_row result ≡ every (between 49 52) (take first_rows s.now) }
 {
     let mut bad: u32 = 0;
-    let mut i: u32 = 0;
-    while i < FIRST_ROWS as u32 {
-        let at = i as usize;
+    for word in 0..FIRST_ROWS as u32 / 4 {
+        let at = (word * 4) as usize;
         bad = bad | words::above_one(words::four(s[at], s[at + 1], s[at + 2], s[at + 3]));
-        i += 4;
     }
     bad
 }
@@ -256,13 +245,11 @@ fn last_good(s: &[u8], used: bool) -> bool
 {
     let mut bad: u32 = 0;
     let mut bits: u32 = 0;
-    let mut i = FIRST_ROWS as u32;
-    while i < ALL_ROWS as u32 {
-        let at = i as usize;
+    for word in FIRST_ROWS as u32 / 4..ALL_ROWS as u32 / 4 {
+        let at = (word * 4) as usize;
         let four = words::four(s[at], s[at + 1], s[at + 2], s[at + 3]);
         bad = bad | words::above_one(four);
         bits = bits | four;
-        i += 4;
     }
     if used {
         return words::is_in_row(bad);
@@ -271,8 +258,8 @@ fn last_good(s: &[u8], used: bool) -> bool
 }
 
 // Whether so many rows hold '1' to '4', and the places behind them 0.
-fn tables_good(s: &[u8], tables: u8) -> bool
-    requires { (length s.now ≡ all_rows) × ((24 ≤ tables) × (tables ≤ 25)) }
+fn tables_good(s: &[u8; ALL_ROWS], tables: u8) -> bool
+    requires { (24 ≤ tables) × (tables ≤ 25) }
     ensures { result ≡ tables_good tables s.now }
 {
     let rows = words::is_in_row(rows_stray(s));
@@ -301,9 +288,7 @@ fn numbers_good(serial: [u8; 10], password: [u8; 8]) -> bool
 fn facts_good(f: Facts) -> bool
     ensures { result ≡ facts_good f }
 {
-    let serial = f.serial;
-    let password = f.password;
-    numbers_good(serial, password)
+    numbers_good(f.serial, f.password)
         & (values::is_edition(f.edition) & (link_good(f.link) & family::is_family(f.decimals)))
 }
 
@@ -330,26 +315,33 @@ fn speed_good(link: u8, mode: u8, speed: u8) -> bool
 pub fn has_edition(m: Meter) -> bool
     ensures { result ≡ is_edition (edition_of m) }
 {
-    let g = m.registers;
-    let f = g.facts;
-    values::is_edition(f.edition)
+    values::is_edition(m.registers.facts.edition)
 }
 
 // Whether a state is well-formed.
 pub fn is_well_formed(m: Meter) -> bool
     ensures { result ≡ well_formed m }
 {
-    let r = m.receiver;
-    let held = r.held;
-    let g = m.registers;
-    let account = g.account;
-    let tables = g.tables;
-    let f = g.facts;
     let small = pieces::small_good(
-        m.mode, m.attempts, m.speed, f, account, g.clock, g.counters, g.exported,
+        m.mode,
+        m.attempts,
+        m.speed,
+        m.registers.facts,
+        m.registers.account,
+        m.registers.clock,
+        m.registers.counters,
+        m.registers.exported,
     );
-    let runs = pieces::runs_good(m.mode, r.count, &held, r.mark, r.place, f.edition, &tables);
-    small & (runs & closing::archive_good(g.archive, f.decimals))
+    let runs = pieces::runs_good(
+        m.mode,
+        m.receiver.count,
+        &m.receiver.held,
+        m.receiver.mark,
+        m.receiver.place,
+        m.registers.facts.edition,
+        &m.registers.tables,
+    );
+    small & (runs & closing::lent_good(&m.registers.archive, m.registers.facts.decimals))
 }
 
 // A row of '1' for each table of an edition, and 0 in the places behind them.

@@ -7,9 +7,7 @@ use crate::Meter;
 pub fn link_of(m: Meter) -> u8
     ensures { result ≡ link_of m }
 {
-    let g = m.registers;
-    let f = g.facts;
-    f.link
+    m.registers.facts.link
 }
 
 pub fn is_wired(link: u8) -> bool

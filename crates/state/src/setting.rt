@@ -149,23 +149,14 @@ pub fn with_total(c: Counters, total: u32) -> Counters
 pub fn zone_place(z: ZoneNo) -> usize
     ensures { result ≡ zone_place z.0 }
 {
-    let n = z.0 as usize;
-    if n == 0 {
-        return 0;
-    }
-    n - 1
+    (z.0 as usize).saturating_sub(1)
 }
 
 // The counter of a zone; 0 where there is no such zone.
 pub fn counter_of(c: Counters, z: ZoneNo) -> u32
     ensures { result ≡ counter_of c z.0 }
 {
-    let zones = c.zones;
-    let i = zone_place(z);
-    if i < 4 {
-        return zones[i];
-    }
-    0
+    c.zones.get(zone_place(z)).copied().unwrap_or(0)
 }
 
 // Ten characters as an array.
@@ -173,16 +164,14 @@ pub fn ten(s: &[u8]) -> [u8; 10]
     requires { length s.now ≡ 10 }
     ensures { result ≡ s.now }
 {
-    [s[0], s[1], s[2], s[3], s[4], s[5], s[6], s[7], s[8], s[9]]
+    let mut ten = [0; 10];
+    ten.copy_from_slice(s);
+    ten
 }
 
 // Where a table's row starts. A product of longer numbers is a call on a small processor.
 pub fn row_start(t: TableNo) -> usize
     ensures { result ≡ row_start t.0 }
 {
-    let n = t.0 as u32;
-    if n == 0 {
-        return 0;
-    }
-    ((n - 1) * ROW_LENGTH as u32) as usize
+    ((t.0 as u32).saturating_sub(1) * ROW_LENGTH as u32) as usize
 }

@@ -15,7 +15,7 @@ pub fn four(a: u8, b: u8, c: u8, d: u8) -> u32
 pub fn above_one(four: u32) -> u32
     ensures { (result + ones) % 4294967296 ≡ four }
 {
-    std::num::wrapping_sub_u32(four, 0x3131_3131)
+    four.wrapping_sub(0x3131_3131)
 }
 
 // Whether none of four is further above '1' than '4'.
@@ -29,8 +29,8 @@ pub fn is_in_row(bad: u32) -> bool
 pub fn beside_digits(a: u8, b: u8, c: u8, d: u8) -> u32
     ensures { in_seven result ≡ (is_digit a && (is_digit b && (is_digit c && is_digit d))) }
 {
-    let above = std::num::wrapping_sub_u32(four(a, b, c, d), 0x3030_3030);
-    above | std::num::wrapping_add_u32(above, 0x7676_7676)
+    let above = four(a, b, c, d).wrapping_sub(0x3030_3030);
+    above | above.wrapping_add(0x7676_7676)
 }
 
 // Whether four have no eighth bit.
@@ -44,10 +44,7 @@ pub fn is_seven(all: u32) -> bool
 pub fn four_if(counts: bool, four: u32) -> u32
     ensures { result ≡ (if counts then four else 0) }
 {
-    if counts {
-        return four;
-    }
-    0
+    if counts { four } else { 0 }
 }
 
 // Four without the first so many.

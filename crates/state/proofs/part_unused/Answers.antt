@@ -1,7 +1,8 @@
 -- `state::part_unused` meets its contract: the word with the first unused place, without what is held of it. Assumes nothing.
-use Rattle.std.proofs.Common.{ℕ, ◌-◌, ◌%◌, List, drop, sym, ap, ◌∙◌, arith}
+use Rattle.std.proofs.Common.{◌≡◌, ℕ, ◌-◌, ◌%◌, List, length, drop, sym, ap, ◌∙◌, arith, rules}
 use Rattle.line.specs.Runs.{every}
 use Rattle.text.specs.Classes.{between}
+use Rattle.state.specs.Sizes.{held_places}
 use Rattle.state.proofs.Fours.{take-four}
 use Rattle.state.proofs.part_unused.Goals as goal
 
@@ -9,4 +10,5 @@ pub returns : goal.returns
 returns c =
     let s = c.args.held.now in
     let count = c.args.count in
-    c.part.ensures ∙ ap (λ (l : List ℕ). every (between 0 0) (drop (count % 4) l)) (sym (take-four s (count - count % 4) (omega (arith, c.requires.0, c.requires.1))))
+    let long : length s ≡ held_places = search rules in
+    c.part.ensures ∙ ap (λ (l : List ℕ). every (between 0 0) (drop (count % 4) l)) (sym (take-four s (count - count % 4) (omega (arith, long, c.requires))))

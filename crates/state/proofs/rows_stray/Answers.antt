@@ -1,5 +1,5 @@
 -- `state::rows_stray` meets its contract: what is gathered, with what is left, says it of the whole. Assumes nothing.
-use Rattle.std.proofs.Common.{◌+◌, ◌≤◌, length, take, refl, ◌∙◌, arith, length-take-le}
+use Rattle.std.proofs.Common.{◌≡◌, ◌+◌, ◌*◌, ◌≤◌, length, take, refl, ◌∙◌, arith, length-take-le}
 use Rattle.line.proofs.Runs.{every-end}
 use Rattle.text.specs.Classes.{between}
 use Rattle.state.specs.Sizes.{first_rows}
@@ -7,25 +7,26 @@ use Rattle.state.specs.Fours.{in_row}
 use Rattle.state.proofs.Fours.{row-turn}
 use Rattle.state.proofs.rows_stray.Goals as goal
 
-pub loop-i-init : goal.loop-i-init
+pub loop-word-init : goal.loop-word-init
 unfolding in_row
-loop-i-init c = (omega arith, omega arith, refl)
+loop-word-init c = (c.requires, refl)
 
-pub loop-i-preserved : goal.loop-i-preserved
-loop-i-preserved c =
+pub loop-word-preserved : goal.loop-word-preserved
+loop-word-preserved c =
     let s = c.args.s.now in
-    let i = c.loop-i.i in
+    let w = c.loop-word.word in
+    let i = w * 4 in
+    let next : (w + 1) * 4 ≡ i + 4 = omega arith in
     let byte = c.type_inv.s in
-    let fits : i + 4 ≤ first_rows = omega (arith, c.loop-i-test.true, c.loop-i.invariant.1) in (
-      fits,
-      omega (arith, c.loop-i.invariant.1),
-      row-turn first_rows s i c.loop-i.bad c.above_one-bad.result _ fits (omega (arith, c.requires)) (omega (arith, c.above_one-bad.type_inv))
+    let fits : i + 4 ≤ first_rows = omega (arith, c.loop-word-test.true) in (
+      c.loop-word.invariant.0,
+      rw next (row-turn first_rows s i c.loop-word.bad c.above_one-bad.result _ fits (omega (arith, c.loop-word.invariant.0)) (omega (arith, c.above_one-bad.type_inv))
           (omega (arith, byte i)) (omega (arith, byte (i + 1))) (omega (arith, byte (i + 2))) (omega (arith, byte (i + 3)))
-          (c.above_one-bad.ensures ∙ c.four.ensures) c.loop-i.invariant.2,
+          (c.above_one-bad.ensures ∙ c.four.ensures) c.loop-word.invariant.1),
     )
 
 pub returns : goal.returns
 returns c =
     let s = c.args.s.now in
-    let long : first_rows ≤ length s = omega (arith, c.requires) in
-    every-end (between 49 52) (take first_rows s) c.loop-i.i (in_row c.loop-i.bad) _ (rw (length-take-le first_rows s long) c.loop-i-test.false) c.loop-i.invariant.2
+    let long : first_rows ≤ length s = omega (arith, c.loop-word.invariant.0) in
+    every-end (between 49 52) (take first_rows s) (c.loop-word.word * 4) (in_row c.loop-word.bad) _ (rw (length-take-le first_rows s long) (omega (arith, c.loop-word-test.false))) c.loop-word.invariant.1

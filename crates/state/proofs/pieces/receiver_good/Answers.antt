@@ -1,6 +1,6 @@
 -- `state::pieces::receiver_good` meets its contract: each way out is the case of the definition that its tests name. Assumes nothing.
 use Rattle.state.specs.WellFormed.{receiver_good, mark_good}
-use Rattle.std.proofs.Common.{arith, rules, le-leb}
+use Rattle.std.proofs.Common.{arith, le-leb}
 use borrow.Author.Tests.{lt-leb}
 use Rattle.state.proofs.Limits.{limit-most}
 use Rattle.state.proofs.pieces.receiver_good.Goals as goal
@@ -8,7 +8,7 @@ use Rattle.state.proofs.pieces.receiver_good.Goals as goal
 pub held_good-requires : goal.held_good-requires
 held_good-requires c =
     let most = limit-most c.args.mode in
-    (search rules, omega (arith, c.if-count-limit_of.true, c.limit_of.ensures, most))
+    omega (arith, c.if-count-limit_of.true, c.limit_of.ensures, most)
 
 pub returns-then-marked-hurt_good : goal.returns-then-marked-hurt_good
 unfolding receiver_good mark_good

@@ -1,10 +1,9 @@
 -- `state::pieces::runs_good` meets its contract: each test is the definition's. Assumes nothing.
 use Rattle.state.specs.Pieces.{runs_good}
-use Rattle.std.proofs.Common.{rules}
 use Rattle.state.proofs.pieces.runs_good.Goals as goal
 
 pub tables_good-requires : goal.tables_good-requires
-tables_good-requires c = (search rules, c.tables_of.ensures.few)
+tables_good-requires c = c.tables_of.ensures.few
 
 pub returns : goal.returns
 unfolding runs_good
