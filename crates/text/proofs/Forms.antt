@@ -1,14 +1,14 @@
 -- Of any form: the text of numbers has it and reads back to them, and a text that has it is the text of the numbers read.
 -- Proved once over the form; each value cites it. Assumes nothing.
 use mathlib.Core.Path.{◌≡◌, refl, sym, ap, ap₂, ◌∙◌}
-use mathlib.Core.Bool.{Bool, true, false, not, ◌&&◌, ◌||◌, or-false}
+use mathlib.Core.Bool.{true, false, not, ◌&&◌, ◌||◌, or-false}
 use mathlib.Core.List.{List, [], ◌∷◌, ◌++◌, append_assoc}
-use Prim.Native.Nat.{ℕ, zero, suc, ◌+◌, ◌-◌, ◌*◌, ◌/◌, ◌%◌, ◌^◌, ◌<◌, ◌≤◌}
+use Prim.Native.Nat.{ℕ, zero, suc, ◌+◌, ◌^◌, ◌<◌}
 use native.Mathlib.Omega.{arith}
 use borrow.Author.Tests.{ltb-true, lt-ltb, eqb-true, eq-eqb, not-true}
 use lib.Dec.{eqb, ltb}
-use lib.ListN.{length, take, drop, get_or, replicate, length-append, length-replicate, length-take, length-drop, take-append-drop}
-use lib.Seq.{take-append_seam, drop-append_seam, drop-drop, take_at, drop_at, length-take-le}
+use lib.ListN.{length, take, drop, replicate, length-append, length-replicate, take-append-drop}
+use lib.Seq.{drop-append_seam, take_at, length-take-le}
 use Rattle.line.specs.Runs.{every}
 use Rattle.line.proofs.Runs.{and_left, and_right, and_both}
 use Rattle.text.specs.Classes.{is_digit, matching}

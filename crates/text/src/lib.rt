@@ -8,16 +8,15 @@ ghost use Rattle.text.specs.Classes.{between, same_text, is_digit};
 ghost use Rattle.text.specs.Decimal.{decimal, number_at};
 ghost use Rattle.text.specs.Layout.{agrees, fits};
 
-// Puts the characters of s into the buffer from a place on, and gives the place after them.
+// Puts the characters of s into the buffer from a place on, and gives the place after them. Most texts are short, and `copy_from_slice`
+// is a call, which takes longer than to copy them here.
 pub fn put(buf: &mut [u8], at: usize, s: &[u8]) -> usize
     requires { at + length s.now ≤ length buf.old }
     ensures next { result ≡ at + length s.now }
     ensures held { buf.new ≡ stored buf.old at s.now }
 {
-    let mut i = 0;
-    while i < s.len() {
-        buf[at + i] = s[i];
-        i += 1;
+    for (i, c) in s.iter().enumerate() {
+        buf[at + i] = *c;
     }
     at + s.len()
 }
@@ -27,11 +26,7 @@ pub fn rest(s: &[u8], n: usize) -> &[u8]
     ensures lies { result.ref_ptr ≡ (s.entry.ref_ptr.0, min n (length s.now) + s.entry.ref_ptr.1) }
     ensures result_value { result.now ≡ drop n s.now }
 {
-    if n <= s.len() {
-        return &s[n..];
-    }
-    let end = s.len();
-    &s[end..]
+    &s[n.min(s.len())..]
 }
 
 // The first n characters; all where there are no more.
@@ -39,17 +34,14 @@ pub fn first(s: &[u8], n: usize) -> &[u8]
     ensures lies { result.ref_ptr ≡ s.entry.ref_ptr }
     ensures result_value { result.now ≡ take n s.now }
 {
-    if n <= s.len() {
-        return &s[..n];
-    }
-    s
+    &s[..n.min(s.len())]
 }
 
 // The character at a place; 0 past the end.
 pub fn at(s: &[u8], i: usize) -> u8
     ensures { result ≡ get_or s.now i 0 }
 {
-    if i < s.len() { s[i] } else { 0 }
+    s.get(i).copied().unwrap_or(0)
 }
 
 // Whether two texts are the same.
@@ -60,10 +52,8 @@ pub fn same(s: &[u8], t: &[u8]) -> bool
         return false;
     }
     let mut equal = true;
-    let mut i = 0;
-    while i < s.len() {
-        equal = equal & (s[i] == t[i]);
-        i += 1;
+    for (a, b) in s.iter().zip(t) {
+        equal &= a == b;
     }
     equal
 }
@@ -73,10 +63,8 @@ pub fn all_between(s: &[u8], lo: u8, hi: u8) -> bool
     ensures { result ≡ every (between lo hi) s.now }
 {
     let mut ok = true;
-    let mut i = 0;
-    while i < s.len() {
-        ok = ok & ((lo <= s[i]) & (s[i] <= hi));
-        i += 1;
+    for c in s {
+        ok &= (lo <= *c) & (*c <= hi);
     }
     ok
 }
@@ -103,10 +91,8 @@ pub fn has_form(p: &[u8], s: &[u8]) -> bool
         return false;
     }
     let mut ok = true;
-    let mut i = 0;
-    while i < p.len() {
-        ok = ok & agree(p[i], s[i]);
-        i += 1;
+    for (mark, c) in p.iter().zip(s) {
+        ok &= agree(*mark, *c);
     }
     ok
 }

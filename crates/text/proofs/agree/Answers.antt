@@ -1,6 +1,5 @@
 -- `text::agree` meets its contract: the code is the definition. Assumes nothing.
 use Rattle.text.specs.Layout.{agrees}
-use borrow.Author.Rules.{rules}
 use Rattle.text.proofs.agree.Goals as goal
 
 pub returns : goal.returns

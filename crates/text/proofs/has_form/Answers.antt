@@ -1,33 +1,30 @@
--- `text::has_form` meets its contract: the flag, with what is left, says it of the whole. Assumes nothing.
-use mathlib.Core.Path.{◌≡◌, refl, sym, ap, ◌∙◌}
-use mathlib.Core.Bool.{◌&&◌}
-use Prim.Native.Nat.{◌+◌, ◌≤◌, ◌-◌}
+-- `text::has_form` meets its contract: the flag, with what is left of both, says it of the whole. Assumes nothing.
+use mathlib.Core.Path.{◌≡◌, refl, sym, ap}
+use mathlib.Core.Logic.{⊎_elim}
+use Prim.Native.Nat.{◌≤◌}
 use native.Mathlib.Omega.{arith}
-use lib.ListN.{length, drop}
-use Rattle.text.specs.Classes.{matching}
+use lib.ListN.{length}
 use Rattle.text.specs.Layout.{agrees, fits}
-use Rattle.text.proofs.Matching.{matching-length, matching-turn, matching-end}
+use Rattle.text.proofs.Matching.{matching-length, matching-more, matching-over}
 use Rattle.text.proofs.has_form.Goals as goal
 
 pub returns-then-p-s : goal.returns-then-p-s
 unfolding fits
-returns-then-p-s c =
-    let a = c.args in
-    sym (matching-length agrees a.p.now a.s.now c.if-p-s.true)
+returns-then-p-s c = sym (matching-length agrees c.args.p.now c.args.s.now c.if-p-s.true)
 
-pub loop-i-init : goal.loop-i-init
+pub loop-mark-init : goal.loop-mark-init
 unfolding fits
-loop-i-init c = (omega arith, omega arith, refl)
+loop-mark-init c =
+    let left : c.into_iter-mark-iterator.result.a.rest.now ≡ c.args.p.now = cc in
+    let others : c.into_iter-mark-iterator.result.b.rest.now ≡ c.args.s.now = cc in
+    rw (left, others) (omega arith, refl)
 
-pub loop-i-preserved : goal.loop-i-preserved
-loop-i-preserved c =
-    let a = c.args in
-    let h = c.loop-i-test.true in
-    let e : (c.loop-i.ok && agrees _ _ && matching agrees (drop (c.loop-i.i + 1) a.p.now) (drop (c.loop-i.i + 1) a.s.now)) ≡ fits a.p.now a.s.now =
-    matching-turn agrees a.p.now a.s.now c.loop-i.i c.loop-i.ok _ h (omega arith) c.loop-i.invariant.2 in
-    (omega arith, omega arith, rw c.agree-ok.ensures e)
+pub loop-mark-preserved : goal.loop-mark-preserved
+loop-mark-preserved c =
+    let more = c.in-Some.ensures.steps in
+    (omega (arith, ap length more.0, ap length more.1), rw c.agree-ok.ensures (matching-more agrees _ _ c.loop-mark.ok _ c.loop-mark.invariant.1 c.in-Some.mark.now c.in-Some.c.now _ _ more.0 more.1))
 
 pub returns : goal.returns
 returns c =
-    let a = c.args in
-    matching-end agrees a.p.now a.s.now c.loop-i.i c.loop-i.ok _ c.loop-i-test.false (omega arith) c.loop-i.invariant.2
+    let over : length c.loop-mark.mark-iterator.a.rest.now ≤ 0 = ⊎_elim (λ w. omega (arith, w.1.0)) (λ w. omega (arith, w.1.0)) c.in-None.ensures.steps in
+    matching-over agrees _ _ c.loop-mark.ok _ c.loop-mark.invariant.1 over (omega arith)
