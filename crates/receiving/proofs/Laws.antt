@@ -1,26 +1,16 @@
 -- What a held, restarting or emptying character leaves is well-formed again. Assumes nothing.
-use mathlib.Core.Path.{◌≡◌, refl, sym, ap, ◌∙◌}
+use mathlib.Core.Path.{◌≡◌, refl, ap}
 use mathlib.Core.Bool.{Bool, true, false, cond, not, ◌&&◌, ◌||◌}
 use mathlib.Core.Logic.{◌⊎◌, inl, inr}
 use mathlib.Core.List.{List, [], ◌∷◌}
-use Prim.Native.Nat.{ℕ, zero, suc, ◌+◌, ◌-◌, ◌<◌, ◌≤◌}
+use Prim.Native.Nat.{ℕ, zero, suc, ◌<◌, ◌≤◌}
 use native.Mathlib.Omega.{arith}
-use native.Mathlib.Numerals.{add-one}
-use borrow.Author.Tests.{leb-true, leb-false, eqb-true, eqb-false, eq-eqb, ne_eqb, le-leb, lt-ltb, le-ltb, ltb-true, ltb-false}
-use lib.Dec.{eqb, leb, ltb}
-use lib.ListN.{length, drop, get_or, set, replicate}
-use lib.Seq.{drop-set-lt, drop-drop, get_or-set_other, set-get_or}
-use Rattle.line.specs.Runs.{every}
-use Rattle.line.proofs.Runs.{and_left, and_right, and_both}
-use Rattle.text.specs.Classes.{between}
-use Rattle.state.specs.declared.Receiver.{Receiver}
-use Rattle.state.specs.WellFormed.{limit, first_good, mark_good, held_good, receiver_good}
-use Rattle.state.specs.Making.{empty_receiver}
-use Rattle.state.proofs.Parts.{FormedReceiver, formed-receiver, receiver-good}
-use Rattle.receiving.specs.declared.Hearing.{Hearing}
+use borrow.Author.Tests.{leb-false, eqb-true, eqb-false}
+use lib.Dec.{eqb, leb}
+use lib.ListN.{length, set}
+use Rattle.state.specs.WellFormed.{limit, first_good}
 use Rattle.receiving.specs.declared.Hearing.TheVariants.{Drop, Hold, Restart, Empty, Line, Confirm, Frame, TooLong}
 use Rattle.receiving.specs.Hearing.{listening, confirming, framing, hearing}
-use Rattle.receiving.specs.Receivers.{kept_receiver, restarted_receiver}
 
 -- a character is held only while there is room, and in modes other than 1 only after another
 pub record Room (mode count : ℕ) : Type 0 where

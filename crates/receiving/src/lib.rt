@@ -6,7 +6,7 @@ ghost use Rattle.receiving.specs.Hearing.{listening, confirming, framing, hearin
 ghost use Rattle.receiving.specs.Receivers.{hurt_at, hurt_place, kept_receiver, restarted_receiver, last_held, held_after};
 ghost use Rattle.state.specs.Sizes.{held_places};
 
-use state::setting::{empty_receiver, with_held, with_mark};
+use state::setting::empty_receiver;
 use state::{HELD_PLACES, MOST_HELD, Receiver};
 
 // What becomes of the characters that are held: they stay, one more stands at a place, or all are 0 but for the first.
@@ -88,58 +88,42 @@ fn frame(count: u8, last: u8, c: u8) -> Hearing
 }
 
 // What a character means in a mode, after so many held, the last of them given.
+#[tactic(auto, unfolding(crate::specs::Hearing::hearing))]
 pub fn hear(mode: u8, count: u8, last: u8, c: u8) -> Hearing
     ensures { result ≡ hearing mode count last c }
 {
-    if mode == 0 {
-        return listen(count, c);
+    match mode {
+        0 => listen(count, c),
+        1 => confirm(count),
+        _ => frame(count, last, c),
     }
-    if mode == 1 {
-        return confirm(count);
-    }
-    frame(count, last, c)
 }
 
 // The last held character; 0 where none is held.
 pub fn last_held(r: Receiver) -> u8
     ensures { result ≡ last_held r }
 {
-    let held = r.held;
-    last_in(&held, r.count)
+    last_in(&r.held, r.count)
 }
 
 // The last of so many characters that are held.
 pub fn last_in(held: &[u8; HELD_PLACES as usize], count: u8) -> u8
     ensures { result ≡ get_or held.now (count - 1) 0 }
 {
-    if count == 0 {
-        return held[0];
-    }
-    text::at(held, (count - 1) as usize)
-}
-
-fn chosen(first: bool, a: u8, b: u8) -> u8
-    ensures { result ≡ cond first a b }
-{
-    if first { a } else { b }
-}
-
-// Puts a character in a place, if there is one.
-fn put_at(held: &mut [u8], at: u8, c: u8)
-    ensures { held.new ≡ set held.old at c }
-{
-    let i = at as usize;
-    if i < held.len() {
-        held[i] = c;
-    }
+    text::at(held, count.saturating_sub(1) as usize)
 }
 
 // The place of the first damaged character: that of the mark, else this one's, behind the last held one.
 pub fn hurt_at(count: u8, mark: u8, place: u8, damaged: bool) -> u8
     ensures { result ≡ hurt_at count mark place damaged }
 {
-    let here = chosen(damaged, count, 0);
-    chosen(mark == 1, place, here)
+    if mark == 1 {
+        place
+    } else if damaged {
+        count
+    } else {
+        0
+    }
 }
 
 pub fn hurt_place(r: Receiver, damaged: bool) -> u8
@@ -152,7 +136,7 @@ pub fn hurt_place(r: Receiver, damaged: bool) -> u8
 pub fn mark_after(mark: u8, damaged: bool) -> u8
     ensures { result ≡ cond damaged 1 mark }
 {
-    chosen(damaged, 1, mark)
+    if damaged { 1 } else { mark }
 }
 
 // The receiver with one character more.
@@ -160,20 +144,22 @@ pub fn keep(r: Receiver, c: u8, damaged: bool) -> Receiver
     requires { r.count < held_places }
     ensures { result ≡ kept_receiver r c damaged }
 {
-    let mut held = r.held;
-    put_at(&mut held, r.count, c);
-    let next = with_held(r, held, r.count + 1);
-    with_mark(next, mark_after(r.mark, damaged), hurt_place(r, damaged))
+    let mut next = r;
+    next.held[r.count as usize] = c;
+    next.count = r.count + 1;
+    next.mark = mark_after(r.mark, damaged);
+    next.place = hurt_place(r, damaged);
+    next
 }
 
 // The receiver with this character alone.
 pub fn restart(c: u8) -> Receiver
     ensures { result ≡ restarted_receiver c }
 {
-    let r = empty_receiver();
-    let mut held = r.held;
-    held[0] = c;
-    with_held(r, held, 1)
+    let mut next = empty_receiver();
+    next.held[0] = c;
+    next.count = 1;
+    next
 }
 
 // The characters after a character, where they lie.
@@ -181,8 +167,13 @@ pub fn hold(held: &mut [u8; HELD_PLACES as usize], h: Holding)
     ensures { held.new ≡ held_after h held.old }
 {
     match h {
-        Holding::Same => {},
-        Holding::More(at, c) => put_at(held, at, c),
+        Holding::Same => {}
+        Holding::More(at, c) => {
+            // Stays: tried with `get_mut`, whose promise says nothing of what the characters are then, so that `held_after` doesn't follow.
+            if at < HELD_PLACES {
+                held[at as usize] = c;
+            }
+        }
         Holding::Anew(c) => {
             *held = [0; HELD_PLACES as usize];
             held[0] = c;
