@@ -3,13 +3,12 @@
 use mathlib.Core.Path.{◌≡◌, refl}
 use mathlib.Core.Bool.{Bool, true, false, not, ◌&&◌, ◌||◌}
 use mathlib.Core.List.{List, [], ◌∷◌}
-use Prim.Native.Nat.{ℕ, zero, suc, ◌<◌, ◌≤◌}
+use Prim.Native.Nat.{ℕ, ◌<◌, ◌≤◌}
 use native.Mathlib.Omega.{arith}
 use borrow.Author.Tests.{leb-true, eqb-true}
 use lib.Dec.{eqb, leb}
-use lib.ListN.{take, drop}
 use Rattle.line.specs.Runs.{every}
-use Rattle.line.proofs.Runs.{and_left, and_right, and_both, every_append, all_below, below_all, every-weaker}
+use Rattle.line.proofs.Runs.{and_left, and_right, every_append, all_below, below_all, every-weaker}
 use Rattle.text.specs.Classes.{between, is_digit, is_letter, is_printable, is_address, is_value}
 use Rattle.text.specs.Layout.{Piece, digits, fixed, layout_text}
 use Rattle.text.specs.Decimal.{decimal}

@@ -103,11 +103,7 @@ fn put_eight(buf: &mut [u8], at: usize, row: &[u8], from: usize) -> usize
     ensures held { buf.new ≡ stored buf.old at (take 8 (drop from row.now)) }
 {
     let mut copy = [0u8; 8];
-    let mut i = 0;
-    while i < 8 {
-        copy[i] = row[from + i];
-        i += 1;
-    }
+    copy.copy_from_slice(&row[from..from + 8]);
     text::put(buf, at, &copy)
 }
 

@@ -1,5 +1,5 @@
 -- [12], "Closed months": a second, and the period that it closes.
-use Rattle.std.specs.Prelude.{Bool, cond, ◌&&◌, ℕ, eqb}
+use Rattle.std.specs.Prelude.{Bool, cond, ◌&&◌, eqb}
 use Rattle.clock.specs.Seconds.{next_second}
 use Rattle.clock.specs.declared.Clock.{Clock}
 use Rattle.state.specs.declared.Registers.{Registers}

@@ -12,45 +12,32 @@ use state::{Counters, Registers};
 use values::{TableNo, ZoneNo, family};
 
 // The day's table: the month's, that of Saturdays, or that of the month's other days.
+#[tactic(auto, unfolding(crate::specs::Zones::table_for, crate::specs::Zones::own_day))]
 pub fn table_for(edition: u8, d: Date) -> TableNo
     requires { d.month ≤ 12 }
     ensures { result.0 ≡ table_for edition d }
 {
-    let day = clock::day_of_week(d);
-    if day < 5 {
-        return TableNo(d.month);
+    match clock::day_of_week(d) {
+        0..=4 => TableNo(d.month),
+        5 if edition == 2 => TableNo(25),
+        _ => TableNo(12 + d.month),
     }
-    if (edition == 2) & (day == 5) {
-        return TableNo(25);
-    }
-    TableNo(12 + d.month)
 }
 
-// What a digit stands for; a character below '0' stands for nothing.
-fn digit(c: u8) -> u8
-    ensures { result ≡ c - 48 }
-{
-    if c < 48 { 0 } else { c - 48 }
-}
-
-// The zone that the day's table names for the hour.
+// The zone that the day's table names for the hour; a character below '0' stands for none.
 pub fn zone_at(rows: &[u8], edition: u8, c: Clock) -> ZoneNo
     requires { c.date.month ≤ 12 }
     ensures { result.0 ≡ zone_at rows.now edition c }
 {
-    let d = c.date;
-    let t = c.time;
-    let at = state::setting::row_start(table_for(edition, d)) + t.hour as usize;
-    ZoneNo(digit(text::at(rows, at)))
+    let at = state::setting::row_start(table_for(edition, c.date)) + c.time.hour as usize;
+    ZoneNo(text::at(rows, at).saturating_sub(b'0'))
 }
 
 pub fn zone_in(g: Registers) -> ZoneNo
     requires { g.clock.date.month ≤ 12 }
     ensures { result.0 ≡ zone_in g }
 {
-    let rows = g.tables;
-    let f = g.facts;
-    zone_at(&rows, f.edition, g.clock)
+    zone_at(&g.tables, g.facts.edition, g.clock)
 }
 
 // A counter some units of the last place on; it rolls over at an end. It is seldom there, so a pulse seldom divides.
@@ -70,14 +57,13 @@ pub fn count(c: Counters, zone: ZoneNo, units: u32, end: u32) -> Counters
     requires { ((1 ≤ end) × (end ≤ 1000000000)) × ((counters_good end c ≡ true) × (units ≤ 1000000)) }
     ensures { result ≡ counted end c zone.0 units }
 {
-    let mut zones = c.zones;
+    let mut next = c;
     let i = state::setting::zone_place(zone);
     if i < 4 {
-        zones[i] = grow(zones[i], units, end);
-        let next = state::setting::with_zones(c, zones);
-        return state::setting::with_total(next, grow(c.total, units, end));
+        next.zones[i] = grow(c.zones[i], units, end);
+        next.total = grow(c.total, units, end);
     }
-    c
+    next
 }
 
 // The registers after a pulse of what comes in.
@@ -85,9 +71,12 @@ pub fn count_in(g: Registers, units: u32) -> Registers
     requires { ((g.clock.date.month ≤ 12) × (counters_good (counter_end (family_in g)) g.counters ≡ true)) × (units ≤ 1000000) }
     ensures { result ≡ counted_in g units }
 {
-    let f = g.facts;
-    let c = g.counters;
-    let next = count(c, zone_in(g), units, family::counter_end(f.decimals));
+    let next = count(
+        g.counters,
+        zone_in(g),
+        units,
+        family::counter_end(g.facts.decimals),
+    );
     state::setting::with_counters(g, next)
 }
 
@@ -96,9 +85,12 @@ pub fn count_out(g: Registers, units: u32) -> Registers
     requires { ((g.clock.date.month ≤ 12) × (counters_good (export_end (family_in g)) g.exported ≡ true)) × (units ≤ 1000000) }
     ensures { result ≡ counted_out g units }
 {
-    let f = g.facts;
-    let c = g.exported;
-    let next = count(c, zone_in(g), units, family::export_end(f.decimals));
+    let next = count(
+        g.exported,
+        zone_in(g),
+        units,
+        family::export_end(g.facts.decimals),
+    );
     state::setting::with_exported(g, next)
 }
 
@@ -106,9 +98,7 @@ pub fn count_out(g: Registers, units: u32) -> Registers
 pub fn month_starts(c: Clock) -> bool
     ensures { result ≡ month_starts c }
 {
-    let d = c.date;
-    let t = c.time;
-    (d.day == 1) & ((t.hour == 0) & ((t.minute == 0) & (t.second == 0)))
+    (c.date.day == 1) & ((c.time.hour == 0) & ((c.time.minute == 0) & (c.time.second == 0)))
 }
 
 // A month that starts closes a period.

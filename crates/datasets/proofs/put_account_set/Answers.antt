@@ -4,7 +4,6 @@ use lib.ListN.{length}
 use native.Mathlib.Omega.{arith}
 use Rattle.datasets.specs.Sets.{account_set}
 use Rattle.datasets.proofs.Joined.{one_line}
-use borrow.Author.Rules.{rules}
 use Rattle.datasets.proofs.put_account_set.Goals as goal
 
 pub returns : goal.returns

@@ -4,7 +4,6 @@ use Rattle.text.specs.Decimal.{decimal}
 use Rattle.datasets.specs.Sets.{closed_set}
 use Rattle.datasets.proofs.Lengths.{stamp-long}
 use Rattle.datasets.proofs.Joined.{one_line}
-use borrow.Author.Rules.{rules}
 use Rattle.datasets.proofs.put_closed_set.Goals as goal
 
 pub returns : goal.returns

@@ -3,7 +3,6 @@ use borrow.Author.Tests.{eq-eqb, ne_eqb}
 use Rattle.text.specs.Decimal.{decimal}
 use Rattle.values.specs.Family.{import_name}
 use Rattle.datasets.specs.Sets.{data_set, energy_name}
-use borrow.Author.Rules.{rules}
 use Rattle.datasets.proofs.put_energy_set.Goals as goal
 
 pub returns-then-out : goal.returns-then-out

@@ -3,7 +3,6 @@ use native.Mathlib.Omega.{arith}
 use Rattle.datasets.specs.Sets.{serial_set}
 use Rattle.datasets.proofs.Lengths.{serial-long}
 use Rattle.datasets.proofs.Joined.{one_line}
-use borrow.Author.Rules.{rules}
 use Rattle.datasets.proofs.put_serial_set.Goals as goal
 
 pub returns : goal.returns

@@ -4,7 +4,6 @@ use native.Mathlib.Omega.{arith}
 use Rattle.values.specs.Texts.{energy_text}
 use Rattle.values.proofs.Families.{shown, energy-long}
 use Rattle.datasets.proofs.Joined.{both}
-use borrow.Author.Rules.{rules}
 use Rattle.datasets.proofs.put_shown.Goals as goal
 
 pub put_counter-a-requires : goal.put_counter-a-requires

@@ -7,7 +7,6 @@ use Rattle.text.specs.Decimal.{decimal}
 use Rattle.values.specs.Texts.{table_text}
 use Rattle.datasets.specs.Sets.{table_set}
 use Rattle.datasets.proofs.Joined.{one_line}
-use borrow.Author.Rules.{rules}
 use Rattle.datasets.proofs.put_table_set.Goals as goal
 
 pub returns : goal.returns

@@ -7,7 +7,6 @@ use lib.ListN.{length, take, drop, length-append, length-drop}
 use lib.Seq.{take-add, take_all, length-take-le}
 use Rattle.text.specs.Writing.{stored}
 use Rattle.text.proofs.Writing.{and_then}
-use borrow.Author.Rules.{rules}
 use Rattle.datasets.proofs.put_whole_row.Goals as goal
 
 three : (row : List ℕ) → length row ≡ 24 → take 8 row ++ take 8 (drop 8 row) ++ take 8 (drop 16 row) ≡ row

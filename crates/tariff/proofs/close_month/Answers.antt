@@ -1,6 +1,5 @@
 -- `tariff::close_month` meets its contract: each way out is the case of the definition that its tests name. Assumes nothing.
 use Rattle.tariff.specs.Months.{month_closed}
-use borrow.Author.Rules.{rules}
 use Rattle.tariff.proofs.close_month.Goals as goal
 
 pub returns-then-month_starts : goal.returns-then-month_starts

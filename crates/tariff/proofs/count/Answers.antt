@@ -1,5 +1,4 @@
 -- `tariff::count` meets its contract: one counter grows and the total with it; beyond the four zones nothing does. Assumes nothing.
-use borrow.Author.Rules.{rules}
 use borrow.Author.Tests.{lt-ltb, le-ltb}
 use Rattle.state.proofs.Parts.{counter-small, total-small}
 use Rattle.tariff.specs.Zones.{counted}
@@ -21,16 +20,14 @@ unfolding counted
 returns-then-i-lt4 c =
     let zone = c.zone_place-i in
     rw (
-      c.with_total.ensures,
       c.grow-then-i-lt4.ensures,
-      c.with_zones-next.ensures,
       c.grow.ensures,
       ← zone.ensures,
       lt-ltb zone.result 4 c.if-i-lt4.true,
     )
 
-pub returns : goal.returns
+pub returns-else-i-lt4 : goal.returns-else-i-lt4
 unfolding counted
-returns c =
+returns-else-i-lt4 c =
     let zone = c.zone_place-i in
     rw (← zone.ensures, le-ltb zone.result 4 c.if-i-lt4.false)

@@ -1,6 +1,5 @@
 -- `tariff::count_out` meets its contract: counted in the zone of the hour, by the end of its family. Assumes nothing.
 use native.Mathlib.Omega.{arith}
-use borrow.Author.Rules.{rules}
 use Rattle.tariff.proofs.count_out.Goals as goal
 
 pub count-next-requires : goal.count-next-requires

@@ -1,5 +1,5 @@
 -- `tariff::grow` meets its contract: below an end a number stays as it is. Assumes nothing.
-use mathlib.Core.Path.{refl, sym}
+use mathlib.Core.Path.{sym}
 use native.Mathlib.Nat.{mod-eq_of_lt}
 use native.Mathlib.Omega.{arith}
 use Rattle.tariff.proofs.grow.Goals as goal

@@ -1,5 +1,4 @@
 -- `tariff::second_later` meets its contract: the clock a second on, and the month looked at. Assumes nothing.
-use borrow.Author.Rules.{rules}
 use Rattle.tariff.proofs.second_later.Goals as goal
 
 pub close_month-requires : goal.close_month-requires

@@ -1,7 +1,6 @@
 -- `tariff::zone_at` meets its contract: the place of the hour in the day's row, and the digit there. Assumes nothing.
-use borrow.Author.Rules.{rules}
 use Rattle.tariff.proofs.zone_at.Goals as goal
 
 pub returns : goal.returns
 returns c =
-    rw (c.digit.ensures, c.at.ensures, c.row_start.ensures, c.table_for.ensures)
+    rw (c.saturating_sub.ensures, c.at.ensures, c.row_start.ensures, c.table_for.ensures)

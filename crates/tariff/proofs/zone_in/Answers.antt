@@ -1,6 +1,5 @@
 -- `tariff::zone_in` meets its contract: the zone of its own rows, edition and clock. Assumes nothing.
 use Rattle.tariff.specs.Zones.{zone_in}
-use borrow.Author.Rules.{rules}
 use Rattle.tariff.proofs.zone_in.Goals as goal
 
 pub returns : goal.returns
