@@ -1,21 +1,19 @@
 -- Of well-formed registers: how long they are, that every answer is good data sets, and which characters it holds.
 -- Each line is good by its kind (`datasets`), and a row of the tables is a part of them. Assumes nothing.
-use mathlib.Core.Path.{◌≡◌, refl, sym, ap, ◌∙◌}
-use mathlib.Core.Bool.{Bool, true, false, cond, not, ◌&&◌, ◌||◌}
+use mathlib.Core.Path.{◌≡◌, refl, ◌∙◌}
+use mathlib.Core.Bool.{Bool, true, false, cond, not}
 use mathlib.Core.List.{List, [], ◌∷◌, ◌++◌}
-use Prim.Native.Nat.{ℕ, zero, suc, ◌+◌, ◌-◌, ◌*◌, ◌<◌, ◌≤◌}
+use Prim.Native.Nat.{ℕ, zero, suc, ◌+◌, ◌*◌, ◌<◌, ◌≤◌}
 use native.Mathlib.Omega.{arith}
 use borrow.Author.Tests.{eqb-true, leb-true, le-leb}
-use lib.Bits.{bit_xor}
-use lib.Count.{ones}
 use lib.Dec.{eqb, leb}
-use lib.ListN.{length, take, drop, get_or, length-append}
+use lib.ListN.{length, take, drop, length-append}
 use lib.Seq.{take-take}
 use Rattle.line.specs.Quoted.{chars}
 use Rattle.line.specs.Runs.{every}
 use Rattle.line.specs.Characters.{seven}
 use Rattle.line.specs.Checksum.{bcc_of}
-use Rattle.line.proofs.Runs.{and_left, and_right, and_both, every_append, every-weaker, every_take, every_drop}
+use Rattle.line.proofs.Runs.{and_left, and_right, every_append, every-weaker, every_take, every_drop}
 use Rattle.line.proofs.Xor.{bcc-lt}
 use Rattle.text.specs.Classes.{between, is_digit}
 use Rattle.values.specs.Registers.{good_digits, good_account, good_table, is_account_character, energy_no}
@@ -34,7 +32,7 @@ use Rattle.state.specs.declared.Counters.{Counters}
 use Rattle.state.specs.declared.Registers.{Registers}
 use Rattle.state.specs.Closing.{periods_of}
 use Rattle.datasets.specs.Sets.{DataSet, lines_of}
-use Rattle.datasets.specs.Good.{good_set, good_sets}
+use Rattle.datasets.specs.Good.{good_sets}
 use Rattle.datasets.proofs.Characters.{Within, within}
 use Rattle.datasets.proofs.Good.{time-good, date-good, serial-good, account-good, energy-good, table-good, closed-good, kept-good, good-append, lines-shown}
 use Rattle.replies.specs.declared.Ask.{Ask}

@@ -1,15 +1,14 @@
 -- One turn of the loop over the tables: the lines of tables 01 to i, and then that of the next. Assumes nothing.
-use mathlib.Core.Path.{◌≡◌, refl, sym, ap, ap₂, ◌∙◌}
-use mathlib.Core.List.{List, [], ◌∷◌, ◌++◌}
-use Prim.Native.Nat.{ℕ, zero, suc, ◌+◌, ◌-◌, ◌*◌, ◌≤◌, ◌<◌}
+use mathlib.Core.Path.{◌≡◌, refl, ap, ap₂, ◌∙◌}
+use mathlib.Core.List.{List, [], ◌∷◌}
+use Prim.Native.Nat.{ℕ, suc, ◌+◌, ◌-◌, ◌*◌, ◌≤◌}
 use native.Mathlib.Numerals.{add-one}
-use native.Mathlib.Nat.{add-zero}
 use native.Mathlib.Omega.{arith}
 use lib.ListN.{length, take, drop}
 use Rattle.text.specs.Writing.{stored}
 use Rattle.state.specs.Sizes.{row_length}
 use Rattle.state.specs.Setting.{row_start}
-use Rattle.datasets.specs.Sets.{DataSet, lines_of, line_of, table_set}
+use Rattle.datasets.specs.Sets.{lines_of, line_of, table_set}
 use Rattle.datasets.proofs.Lengths.{table-line}
 use Rattle.datasets.proofs.Joined.{Lines, single, joined}
 use Rattle.replies.specs.Shown.{row_of}

@@ -56,35 +56,17 @@ pub fn put_asked(buf: &mut [u8], at: usize, p: Plain, rows: &[u8; ALL_ROWS], a: 
     ensures held { buf.new ≡ stored buf.old at (asked_data (without_archive p rows.now) a) }
 {
     match a {
-        Ask::Clock => {
-            return put_clock_sets(buf, at, p.clock);
-        }
-        Ask::Serial => {
-            let f = p.facts;
-            let s = f.serial;
-            return datasets::put_serial_set(buf, at, &s);
-        }
-        Ask::Account => {
-            let s = p.account;
-            return datasets::put_account_set(buf, at, &s);
-        }
+        Ask::Clock => put_clock_sets(buf, at, p.clock),
+        Ask::Serial => datasets::put_serial_set(buf, at, &p.facts.serial),
+        Ask::Account => datasets::put_account_set(buf, at, &p.account),
         Ask::Energy(e) => {
-            let f = p.facts;
-            return datasets::put_energy_set(
-                buf,
-                at,
-                e,
-                energy_of(p.counters, e),
-                false,
-                f.decimals,
-            );
+            let n = energy_of(p.counters, e);
+            datasets::put_energy_set(buf, at, e, n, false, p.facts.decimals)
         }
         Ask::Export(e) => {
-            let f = p.facts;
-            return datasets::put_energy_set(buf, at, e, energy_of(p.exported, e), true, f.decimals);
+            let n = energy_of(p.exported, e);
+            datasets::put_energy_set(buf, at, e, n, true, p.facts.decimals)
         }
-        Ask::Table(t) => {
-            return put_asked_table(buf, at, rows, t);
-        }
+        Ask::Table(t) => put_asked_table(buf, at, rows, t),
     }
 }

@@ -65,18 +65,16 @@ fn put_directions(
 }
 
 // So many tables, from 01 on.
-fn put_tables(buf: &mut [u8], at: usize, rows: &[u8], tables: u8) -> usize
-    requires { (length rows.now ≡ table_places * row_length) × ((at + tables * 36 ≤ length buf.old) × (tables ≤ table_places)) }
+fn put_tables(buf: &mut [u8], at: usize, rows: &[u8; ALL_ROWS], tables: u8) -> usize
+    requires { (at + tables * 36 ≤ length buf.old) × (tables ≤ table_places) }
     ensures next { result ≡ at + tables * 36 }
     ensures held { buf.new ≡ stored buf.old at (lines_of (table_sets rows.now tables)) }
 {
-    let mut i: u8 = 0;
     let mut place = at;
-    while i < tables {
+    for i in 0..tables {
         let from = i as usize * ROW_LENGTH;
-        let to = from + ROW_LENGTH;
-        place = datasets::put_table_set(buf, place, TableNo(i + 1), &rows[from..to]);
-        i += 1;
+        let row = &rows[from..from + ROW_LENGTH];
+        place = datasets::put_table_set(buf, place, TableNo(i + 1), row);
     }
     place
 }
@@ -87,11 +85,8 @@ pub fn put_sets(buf: &mut [u8], at: usize, p: Plain, rows: &[u8; ALL_ROWS], tabl
     ensures next { result ≡ at + length (lines_of (block_sets tables (without_archive p rows.now))) }
     ensures held { buf.new ≡ stored buf.old at (lines_of (block_sets tables (without_archive p rows.now))) }
 {
-    let f = p.facts;
-    let serial = f.serial;
-    let account = p.account;
-    let a = put_facts(buf, at, &serial, p.clock, &account);
-    let b = put_directions(buf, a, p.counters, p.exported, f.decimals);
+    let a = put_facts(buf, at, &p.facts.serial, p.clock, &p.account);
+    let b = put_directions(buf, a, p.counters, p.exported, p.facts.decimals);
     put_tables(buf, b, rows, tables)
 }
 
@@ -123,21 +118,10 @@ pub fn put_period(buf: &mut [u8], at: usize, k: u8, p: Period, family: u8) -> us
     ensures next { result ≡ at + length (lines_of (period_sets family k p)) }
     ensures held { buf.new ≡ stored buf.old at (lines_of (period_sets family k p)) }
 {
-    let zones = p.zones;
-    let exported = p.exported;
     let a = datasets::put_closed_set(buf, at, k, p.closed);
-    let b = put_kept(buf, a, k, zones, false, family);
+    let b = put_kept(buf, a, k, p.zones, false, family);
     if is_eqm(family) {
-        return put_kept(buf, b, k, exported, true, family);
+        return put_kept(buf, b, k, p.exported, true, family);
     }
     b
-}
-
-// The period at place i of an archive, whose number is one more.
-pub fn put_numbered(buf: &mut [u8], at: usize, i: usize, p: Period, family: u8) -> usize
-    requires { (i < period_places) × (at + 242 ≤ length buf.old) }
-    ensures next { result ≡ at + length (lines_of (period_sets family (i + 1) p)) }
-    ensures held { buf.new ≡ stored buf.old at (lines_of (period_sets family (i + 1) p)) }
-{
-    put_period(buf, at, (i + 1) as u8, p, family)
 }

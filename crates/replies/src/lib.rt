@@ -143,29 +143,18 @@ pub fn put_periods(buf: &mut [u8], at: usize, a: Archive, family: u8) -> usize
     ensures next { result ≡ at + length (lines_of (archive_sets family 1 (periods_of a))) }
     ensures held { buf.new ≡ stored buf.old at (lines_of (archive_sets family 1 (periods_of a))) }
 {
-    let count = a.count;
-    let mut i: u8 = 0;
-    let mut place = at;
-    while i < count {
-        let p = a.periods[i as usize];
-        i += 1;
-        place = block::put_period(buf, place, i, p, family);
-    }
-    place
+    lent_periods(buf, at, &a, family)
 }
 
-// The same of an archive that is lent: each period is looked at where it lies, and put by `put_numbered`.
+// The same of an archive that is lent: each period is looked at where it lies.
 pub fn lent_periods(buf: &mut [u8], at: usize, a: &Archive, family: u8) -> usize
     requires { (a.now.count ≤ period_places) × (at + a.now.count * 226 + 16 ≤ length buf.old) }
     ensures { (result ≡ at + length (lines_of (archive_sets family 1 (periods_of a.now))))
         × (buf.new ≡ stored buf.old at (lines_of (archive_sets family 1 (periods_of a.now)))) }
 {
-    let count = a.count as usize;
     let mut place = at;
-    let mut i = 0;
-    while i < count {
-        place = block::put_numbered(buf, place, i, a.periods[i], family);
-        i += 1;
+    for i in 0..a.count {
+        place = block::put_period(buf, place, i + 1, a.periods[i as usize], family);
     }
     place
 }
@@ -192,8 +181,7 @@ pub fn long_block(
     ensures whole { result ≡ length (block_of (long_data tables (registers_of p rows.now archive))) }
     ensures held { buf.new ≡ holding buf.old (on_wire (block_of (long_data tables (registers_of p rows.now archive)))) }
 {
-    let f = p.facts;
     let a = long_start(buf, p, rows, tables);
-    let b = put_periods(buf, a, archive, f.decimals);
+    let b = put_periods(buf, a, archive, p.facts.decimals);
     long_end(buf, b)
 }

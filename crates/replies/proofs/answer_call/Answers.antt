@@ -1,7 +1,6 @@
 -- `replies::answer_call` meets its contract: the line of the wired link, sent. Assumes nothing.
 use mathlib.Core.Path.{◌∙◌}
 use Rattle.frames.proofs.Lines.{wired-line-long}
-use borrow.Author.Rules.{rules}
 use Rattle.replies.proofs.answer_call.Goals as goal
 
 pub returns : goal.returns

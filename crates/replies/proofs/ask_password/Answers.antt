@@ -1,13 +1,10 @@
 -- `replies::ask_password` meets its contract: put in front, then closed. Assumes nothing.
-use mathlib.Core.Path.{refl, sym, ap, ◌∙◌}
 use native.Mathlib.Omega.{arith}
-use Rattle.text.specs.Writing.{stored}
-use mathlib.Core.List.{List, [], ◌∷◌}
+use mathlib.Core.List.{[], ◌∷◌}
 use Rattle.frames.specs.Frames.{sealed, frame_of}
-use Rattle.frames.specs.Commands.{P0, bracketed}
+use Rattle.frames.specs.Commands.{bracketed}
 use Rattle.replies.specs.Fixed.{password_ask}
 use Rattle.frames.proofs.Sealing.{sealing}
-use borrow.Author.Rules.{rules}
 use Rattle.replies.proofs.ask_password.Goals as goal
 
 pub returns : goal.returns

@@ -1,7 +1,6 @@
 -- `replies::identify` meets its contract: each way out is the case of the definition that its tests name. Assumes nothing.
 use borrow.Author.Tests.{eq-eqb, ne_eqb}
 use Rattle.replies.specs.Fixed.{identification}
-use borrow.Author.Rules.{rules}
 use Rattle.replies.proofs.identify.Goals as goal
 
 pub returns-then-edition-eq2 : goal.returns-then-edition-eq2

@@ -12,25 +12,24 @@ use Rattle.replies.proofs.lent_periods.Goals as goal
 pub loop-i-init : goal.loop-i-init
 loop-i-init c =
     let a = c.args in
-    (omega arith, omega arith, refl, no-period a.family a.a.now.periods a.buf.now a.at)
+    (omega arith, refl, no-period a.family a.a.now.periods a.buf.now a.at)
 
 pub loop-i-preserved : goal.loop-i-preserved
 loop-i-preserved c =
     let a = c.args in
     let turn = c.loop-i in
     let taken = c.loop-i-test.true in
-    let put = c.put_numbered-place.ensures in
+    let put = c.put_period-place.ensures in
     let all : length a.a.now.periods ≡ 12 = search rules in
     let there : turn.i < length a.a.now.periods = omega (arith, all, c.requires.0, taken) in (
-      omega (arith, taken),
-      omega (arith, turn.invariant.1, period-within a.family a.a.now.periods _ turn.i turn.place _ put.next),
-      rw put.held (length-stored _ _ _ ∙ turn.invariant.2),
-      next-period a.family a.a.now.periods _ a.buf.now a.at turn.i turn.place turn.buf _ _ there turn.invariant.3 put.next put.held,
+      omega (arith, turn.invariant.0, period-within a.family a.a.now.periods _ turn.i turn.place _ put.next),
+      rw put.held (length-stored _ _ _ ∙ turn.invariant.1),
+      next-period a.family a.a.now.periods _ a.buf.now a.at turn.i turn.place turn.buf _ _ there turn.invariant.2 put.next put.held,
     )
 
 pub returns : goal.returns
 unfolding periods_of
 returns c =
     let turn = c.loop-i in
-    let done : turn.i ≡ c.args.a.now.count = omega (arith, turn.invariant.0, c.loop-i-test.false) in
-    (rw done at turn.invariant.3.next, rw done at turn.invariant.3.held)
+    let done : turn.i ≡ c.args.a.now.count = omega (arith, turn.auto.i-end, c.loop-i-test.false) in
+    (rw done at turn.invariant.2.next, rw done at turn.invariant.2.held)

@@ -1,7 +1,6 @@
 -- `replies::long_end` meets its contract: the line that ends the block, put behind it, and then closed. Assumes nothing.
 use native.Mathlib.Omega.{arith}
 use Rattle.replies.proofs.Long.{end-sealed}
-use borrow.Author.Rules.{rules}
 use Rattle.replies.proofs.long_end.Goals as goal
 
 pub returns : goal.returns

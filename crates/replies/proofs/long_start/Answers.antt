@@ -6,7 +6,6 @@ use Rattle.datasets.specs.Sets.{lines_of}
 use Rattle.replies.specs.Plain.{without_archive}
 use Rattle.replies.specs.Block.{block_sets}
 use Rattle.replies.specs.Periods.{long_start}
-use borrow.Author.Rules.{rules}
 use Rattle.replies.proofs.long_start.Goals as goal
 
 pub returns : goal.returns

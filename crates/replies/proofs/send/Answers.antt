@@ -1,11 +1,9 @@
 -- `replies::send` meets its contract: the part that was lent carries parity, and the rest came back as it was. Assumes nothing.
-use mathlib.Core.Path.{refl, sym, ap, ◌∙◌}
+use mathlib.Core.Path.{sym}
 use native.Mathlib.Omega.{arith}
-use lib.ListN.{length}
 use lib.Seq.{length-take-le}
 use Rattle.text.proofs.Writing.{length-stored}
 use Rattle.frames.proofs.Sealing.{sent_front}
-use borrow.Author.Rules.{rules}
 use Rattle.replies.proofs.send.Goals as goal
 
 pub slice_bounds-put_parity-end-2 : goal.slice_bounds-put_parity-end-2

@@ -1,6 +1,5 @@
 -- `replies::answers::energy_of` meets its contract: each way out is the case of the definition that its tests name. Assumes nothing.
 use Rattle.replies.specs.Shown.{energy}
-use borrow.Author.Rules.{rules}
 use Rattle.replies.proofs.answers.energy_of.Goals as goal
 
 pub returns-in-Total : goal.returns-in-Total

@@ -1,9 +1,7 @@
 -- `replies::answers::put_asked` meets its contract: each case is that of the definition. Assumes nothing.
-use mathlib.Core.Path.{refl, sym, ap, ◌∙◌}
+use mathlib.Core.Path.{sym, ap, ◌∙◌}
 use mathlib.Core.Bool.{true, false}
 use Prim.Native.Nat.{◌+◌}
-use native.Mathlib.Omega.{arith}
-use lib.ListN.{length}
 use Rattle.datasets.specs.Sets.{serial_set, account_set}
 use Rattle.datasets.proofs.Lengths.{serial-line, account-line}
 use Rattle.datasets.proofs.Joined.{single}
@@ -50,7 +48,7 @@ returns-in-Energy c =
     let a = c.args in
     let g = without_archive a.p a.rows.now in
     let e = c.put_energy_set.ensures in
-    let said = asked-energy g a.a a.buf.now a.at _ _ false _ _ _ (ap (asked_sets g) c.in-Energy.is) c.energy_of.ensures e.next e.held in
+    let said = asked-energy g a.a a.buf.now a.at _ _ false _ _ _ (ap (asked_sets g) c.in-Energy.is) c.energy_of-n.ensures e.next e.held in
     record { next = said.0; held = said.1 }
 
 pub returns-in-Export : goal.returns-in-Export
@@ -59,7 +57,7 @@ returns-in-Export c =
     let a = c.args in
     let g = without_archive a.p a.rows.now in
     let e = c.put_energy_set-in-Export.ensures in
-    let said = asked-energy g a.a a.buf.now a.at _ _ true _ _ _ (ap (asked_sets g) c.in-Export.is) c.energy_of-in-Export.ensures e.next e.held in
+    let said = asked-energy g a.a a.buf.now a.at _ _ true _ _ _ (ap (asked_sets g) c.in-Export.is) c.energy_of-n-in-Export.ensures e.next e.held in
     record { next = said.0; held = said.1 }
 
 pub returns-in-Table : goal.returns-in-Table

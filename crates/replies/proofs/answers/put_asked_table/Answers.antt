@@ -1,8 +1,6 @@
 -- `replies::answers::put_asked_table` meets its contract: the row, put into its line. Assumes nothing.
-use mathlib.Core.Path.{refl, sym, ap, ◌∙◌}
 use native.Mathlib.Omega.{arith}
 use Rattle.replies.proofs.Sizes.{row-short}
-use borrow.Author.Rules.{rules}
 use Rattle.replies.proofs.answers.put_asked_table.Goals as goal
 
 pub put_table_set-requires : goal.put_table_set-requires

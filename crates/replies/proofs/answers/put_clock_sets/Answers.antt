@@ -3,7 +3,6 @@ use native.Mathlib.Omega.{arith}
 use Rattle.datasets.specs.Sets.{time_set, date_set}
 use Rattle.datasets.proofs.Lengths.{time-line, date-line}
 use Rattle.datasets.proofs.Joined.{single, joined}
-use borrow.Author.Rules.{rules}
 use Rattle.replies.proofs.answers.put_clock_sets.Goals as goal
 
 pub returns : goal.returns

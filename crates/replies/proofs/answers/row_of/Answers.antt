@@ -1,7 +1,5 @@
 -- `replies::answers::row_of` meets its contract: what is dropped and what is taken. Assumes nothing.
 use Rattle.replies.specs.Shown.{row_of}
-use mathlib.Core.Path.{refl, sym, ap, ◌∙◌}
-use borrow.Author.Rules.{rules}
 use Rattle.replies.proofs.answers.row_of.Goals as goal
 
 pub returns : goal.returns

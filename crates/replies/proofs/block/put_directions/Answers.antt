@@ -2,10 +2,8 @@
 use mathlib.Core.Path.{sym, ◌∙◌}
 use mathlib.Core.Bool.{true, false}
 use native.Mathlib.Omega.{arith}
-use Rattle.datasets.proofs.Joined.{Lines}
 use Rattle.replies.specs.Block.{energy_sets}
 use Rattle.replies.proofs.Sizes.{energies-most, both-put, came-put}
-use borrow.Author.Rules.{rules}
 use Rattle.replies.proofs.block.put_directions.Goals as goal
 
 pub put_energies-requires : goal.put_energies-requires

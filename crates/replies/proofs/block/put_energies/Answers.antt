@@ -9,7 +9,6 @@ use Rattle.datasets.specs.Sets.{DataSet, line_of, energy_set}
 use Rattle.datasets.proofs.Lengths.{energy-most}
 use Rattle.datasets.proofs.Joined.{single, joined}
 use Rattle.replies.specs.Block.{energy_sets}
-use borrow.Author.Rules.{rules}
 use Rattle.replies.proofs.block.put_energies.Goals as goal
 
 pub put_energy_set-q-requires : goal.put_energy_set-q-requires

@@ -7,7 +7,6 @@ use Rattle.datasets.specs.Sets.{DataSet, line_of, kept_set}
 use Rattle.datasets.proofs.Lengths.{kept-most}
 use Rattle.datasets.proofs.Joined.{single, joined}
 use Rattle.replies.specs.Periods.{kept_in, kept_sets}
-use borrow.Author.Rules.{rules}
 use Rattle.replies.proofs.block.put_kept.Goals as goal
 
 pub put_kept_set-r-requires : goal.put_kept_set-r-requires

@@ -8,7 +8,6 @@ use Rattle.datasets.proofs.Joined.{single, joined}
 use Rattle.replies.specs.Periods.{kept_sets, period_sets}
 use Rattle.replies.proofs.Sizes.{both-put, came-put}
 use Rattle.replies.proofs.Periods.{kept-most-of}
-use borrow.Author.Rules.{rules}
 use Rattle.replies.proofs.block.put_period.Goals as goal
 
 pub put_kept-requires : goal.put_kept-requires

@@ -2,7 +2,6 @@
 use mathlib.Core.Path.{◌≡◌}
 use native.Mathlib.Omega.{arith}
 use lib.ListN.{length}
-use Rattle.state.specs.WellFormed.{family_in}
 use Rattle.replies.specs.Plain.{without_archive}
 use Rattle.replies.proofs.Handed.{lengths-without}
 use Rattle.replies.proofs.Sizes.{directions-long, directions-most, all-put}
@@ -13,8 +12,7 @@ pub put_tables-requires : goal.put_tables-requires
 put_tables-requires c =
     let p = c.args.p in
     let family = p.facts.decimals in
-    let rows : length c.args.rows.now ≡ 600 = search rules in
-    (rows, (omega (arith, c.requires.1, c.put_facts-a.ensures.next, c.put_directions-b.ensures.next, directions-long family p.counters p.exported, directions-most family), c.requires.0))
+    (omega (arith, c.requires.1, c.put_facts-a.ensures.next, c.put_directions-b.ensures.next, directions-long family p.counters p.exported, directions-most family), c.requires.0)
 
 pub returns : goal.returns
 returns c =
