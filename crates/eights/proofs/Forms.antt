@@ -1,7 +1,7 @@
 -- A form tested on all lanes at once is the form that the text has. Assumes nothing.
-use Rattle.std.proofs.Common.{◌≡◌, ℕ, zero, suc, ◌+◌, ◌*◌, ◌%◌, ◌^◌, ◌<◌, ◌≤◌, Bool, true, false, cond, not, ◌&&◌, ◌||◌, eqb, ltb, List, [], ◌∷◌, map, length, sym, refl, ap, ◌∙◌, ap₂, mod-eq_of_lt, arith, lit<, ltb-true, lt-ltb, eq-eqb, eqb-true}
+use Rattle.std.proofs.Common.{◌≡◌, ℕ, ◌+◌, ◌*◌, ◌%◌, ◌^◌, ◌<◌, Bool, true, false, cond, not, ◌&&◌, ◌||◌, eqb, ltb, List, [], ◌∷◌, map, length, sym, refl, ap, ◌∙◌, mod-eq_of_lt, arith, lit<, ltb-true, lt-ltb, eq-eqb, eqb-true}
 use lib.Bits.{bit_and, and_mask}
-use Rattle.line.proofs.Runs.{and_left, and_right, and_both, all_below, below_all}
+use Rattle.line.proofs.Runs.{and_left, and_right, and_both, below_all}
 use Rattle.text.specs.Classes.{between, is_digit, matching}
 use Rattle.text.specs.Layout.{agrees, fits}
 use Rattle.eights.specs.Lanes.{lanes, least, common, spare, keeps}

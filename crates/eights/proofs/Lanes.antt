@@ -1,5 +1,5 @@
 -- Lanes made by a function of two texts, place by place: their bound, and what `&` leaves of each. Assumes nothing.
-use Rattle.std.proofs.Common.{◌≡◌, ℕ, zero, suc, ◌+◌, ◌*◌, ◌^◌, ◌<◌, ◌≤◌, Bool, true, false, cond, ◌&&◌, eqb, ltb, List, [], ◌∷◌, map, length, get_or, sym, refl, ap, ◌∙◌, pow-suc, arith, lit<, ltb-true, lt-ltb, eq-eqb, eqb-true}
+use Rattle.std.proofs.Common.{◌≡◌, ℕ, ◌+◌, ◌*◌, ◌^◌, ◌<◌, Bool, true, false, ◌&&◌, eqb, ltb, List, [], ◌∷◌, map, length, sym, refl, ap, ◌∙◌, pow-suc, arith, lit<, ltb-true, eq-eqb, eqb-true}
 use lib.Bits.{bit_and, and_block, and_le_l}
 use Rattle.line.proofs.Runs.{and_left, and_right, and_both}
 use Rattle.text.specs.Classes.{matching}

@@ -1,13 +1,11 @@
 -- What stands above the least of a form, lane by lane, and the numbers of two digits that neighbours make. Assumes nothing.
-use Rattle.std.proofs.Common.{◌≡◌, ℕ, zero, suc, ◌+◌, ◌-◌, ◌*◌, ◌/◌, ◌%◌, ◌^◌, ◌<◌, ◌≤◌, Bool, true, false, cond, not, ◌&&◌, ◌||◌, eqb, ltb, leb, List, [], ◌∷◌, map, length, get_or, take, drop, sym, refl, ap, ◌∙◌, pow-suc, div-one, arith, lit<, length-take-le, get_or-drop, get_or-take, ltb-true, lt-ltb, eqb-true, le-leb, leb-true}
+use Rattle.std.proofs.Common.{◌≡◌, ℕ, zero, suc, ◌+◌, ◌-◌, ◌*◌, ◌/◌, ◌%◌, ◌^◌, ◌<◌, ◌≤◌, Bool, true, false, cond, not, ◌&&◌, ◌||◌, eqb, ltb, leb, List, [], ◌∷◌, map, length, get_or, sym, refl, ap, ◌∙◌, pow-suc, div-one, arith, lit<, ltb-true, lt-ltb, eqb-true, le-leb, leb-true}
 use native.Mathlib.Nat.{pow-succ', div-div-eq-div-mul}
 use lib.Arith.{digits_mod}
 use Rattle.line.proofs.Runs.{and_left, and_right, and_both}
 use Rattle.text.specs.Classes.{is_digit, matching}
-use Rattle.text.specs.Decimal.{number_at}
 use Rattle.text.specs.Layout.{agrees, fits}
-use Rattle.text.proofs.Decimal.{digit_low, digit-high, two_at}
-use Rattle.text.proofs.Matching.{matched-length}
+use Rattle.text.proofs.Decimal.{digit_low, digit-high}
 use Rattle.eights.specs.Lanes.{lanes, least, paired}
 use Rattle.eights.proofs.Lanes.{matched-weaker, lanes_by}
 

@@ -1,5 +1,5 @@
 -- Eight characters sent at once: parity on all lanes, the lanes taken apart, and their BCC by halves. Assumes nothing.
-use Rattle.std.proofs.Common.{◌≡◌, ℕ, zero, suc, ◌+◌, ◌*◌, ◌/◌, ◌%◌, ◌^◌, ◌<◌, ◌≤◌, Bool, true, ◌&&◌, ltb, List, [], ◌∷◌, ◌++◌, map, length, take, drop, replicate, sym, refl, ap, ◌∙◌, ap₂, mul_assoc, mul_comm, pow-suc, arith, lit<, length-drop, take-append-drop, length-take-le, ltb-true, lt-ltb}
+use Rattle.std.proofs.Common.{◌≡◌, ℕ, suc, ◌+◌, ◌*◌, ◌/◌, ◌%◌, ◌^◌, ◌<◌, ◌≤◌, true, ltb, List, [], ◌∷◌, ◌++◌, map, length, take, drop, replicate, sym, refl, ap, ◌∙◌, ap₂, mul_assoc, mul_comm, pow-suc, arith, lit<, length-drop, take-append-drop, length-take-le, ltb-true, lt-ltb}
 use native.Mathlib.Nat.{div-div-eq-div-mul}
 use lib.Bits.{bit_and, bit_xor, and_block, and_mask, and_le_l, xor_block, xor_shr, xor_mod, xor_lt, xor_comm, xor_zero_r}
 use lib.Count.{ones}

@@ -1,13 +1,15 @@
 -- Eight characters from a place of a text on: the form's test there, the numbers there, and a text that two such windows cover.
 -- Assumes nothing.
-use Rattle.std.proofs.Common.{◌≡◌, ℕ, zero, suc, ◌+◌, ◌-◌, ◌*◌, ◌/◌, ◌%◌, ◌^◌, ◌<◌, ◌≤◌, Bool, true, false, ◌&&◌, ltb, List, [], ◌∷◌, map, length, get_or, take, drop, sym, refl, ap, ◌∙◌, le_of_suc-le-suc, arith, length-drop, length-take-le, get_or-drop, get_or-take, ltb-true, lt-ltb}
+use Rattle.std.proofs.Common.{◌≡◌, ℕ, zero, suc, ◌+◌, ◌-◌, ◌*◌, ◌/◌, ◌%◌, ◌^◌, ◌<◌, ◌≤◌, Bool, true, ◌&&◌, ltb, List, [], ◌∷◌, map, length, get_or, take, drop, sym, refl, ap, ◌∙◌, le_of_suc-le-suc, ap₂, arith, div-one, pow-suc, length-drop, length-take-le, get_or-drop, get_or-take, lt-ltb}
+use native.Mathlib.Nat.{div-div-eq-div-mul}
+use Rattle.std.specs.Int.{byte_at, bytes_low_first}
 use Rattle.line.specs.Runs.{every}
 use Rattle.line.proofs.Runs.{and_left, and_right, and_both, and_assoc, every_take, every_drop, left-next}
 use Rattle.text.specs.Classes.{matching}
 use Rattle.text.specs.Decimal.{number_at}
-use Rattle.text.specs.Layout.{agrees, fits}
+use Rattle.text.specs.Layout.{fits}
 use Rattle.text.proofs.Decimal.{two_at}
-use Rattle.eights.specs.Lanes.{lanes, least, common, spare, keeps, paired, is_byte}
+use Rattle.eights.specs.Lanes.{lanes, least, common, spare, keeps, paired, is_byte, unlaned}
 use Rattle.eights.proofs.Lanes.{same_test, within}
 use Rattle.eights.proofs.Forms.{raw, form-kept}
 use Rattle.eights.proofs.Neighbours.{above, least-le, few, pair_of}
@@ -48,17 +50,28 @@ take-spelled (suc n) k at s h =
     let e : at + k + 1 ≡ at + suc k = omega arith in
     rw (left-next (at + k) s (omega arith), e) (ap (λ (l : List ℕ). get_or s (at + k) 0 ∷ l) (take-spelled n (suc k) at s (omega arith)))
 
--- eight of them in two numbers of four
-pub joined-fours : (s : List ℕ) (at low w : ℕ) → at + 8 ≤ length s
-    → low ≡ lanes (get_or s at 0 ∷ get_or s (at + 1) 0 ∷ get_or s (at + 2) 0 ∷ get_or s (at + 3) 0 ∷ [])
-    → w ≡ lanes (get_or s (at + 4) 0 ∷ get_or s (at + 5) 0 ∷ get_or s (at + 6) 0 ∷ get_or s (at + 7) 0 ∷ []) * 2 ^ 32 + low
+-- eight of them in a number of eight bytes, the lowest first
+pub eight-joined : (s : List ℕ) (at w : ℕ) → at + 8 ≤ length s
+    → w ≡ lanes (get_or s at 0 ∷ get_or s (at + 1) 0 ∷ get_or s (at + 2) 0 ∷ get_or s (at + 3) 0 ∷ get_or s (at + 4) 0 ∷ get_or s (at + 5) 0 ∷ get_or s (at + 6) 0 ∷ get_or s (at + 7) 0 ∷ [])
     → w ≡ lanes (take 8 (drop at s))
-unfolding spelled lanes
-joined-fours s at low w h e f =
+unfolding spelled
+eight-joined s at w h e =
     let z : at ≡ at + 0 = omega arith in
     let t : take 8 (drop at s) ≡ spelled 8 0 at s = ap (λ (k : ℕ). take 8 (drop k s)) z ∙ take-spelled 8 0 at s (omega arith) in
     let first : get_or s (at + 0) 0 ≡ get_or s at 0 = ap (λ (k : ℕ). get_or s k 0) (sym z) in
-    rw (t, first) (omega arith)
+    rw (t, first) e
+
+-- a number's bytes, the lowest first, are its lanes
+pub low-first : (i n w : ℕ) → bytes_low_first i n w ≡ unlaned n (w / 256 ^ i)
+unfolding unlaned
+low-first i zero w = refl
+low-first i (suc n) w =
+    let next : w / 256 ^ suc i ≡ w / 256 ^ i / 256 = ap (λ (k : ℕ). w / k) (pow-suc 256 i) ∙ sym (div-div-eq-div-mul w (256 ^ i) 256) in
+    ap₂ ◌∷◌ (byte i) (low-first (suc i) n w ∙ ap (unlaned n) next)
+  where
+    byte : (i : ℕ) → byte_at i w ≡ w / 256 ^ i % 256
+    byte zero = ap (λ (k : ℕ). k % 256) (sym (div-one w))
+    byte (suc i) = refl
 
 -- ---- a window
 

@@ -7,45 +7,28 @@ ghost use Rattle.line.specs.Characters.{sent};
 ghost use Rattle.line.specs.Checksum.{bcc_of};
 ghost use Rattle.eights.specs.Lanes.{is_byte, lanes, keeps, paired, evened, unlaned};
 
-fn wide(c: u8) -> u64
-    ensures { (result ≡ c) × (result < 256) }
-{
-    c as u64
-}
-
-// Four characters.
-fn four(a: u8, b: u8, c: u8, d: u8) -> u64
-    ensures value { result ≡ lanes (a ∷ b ∷ c ∷ d ∷ []) }
-    ensures small { result < 2 ^ 32 }
-{
-    wide(a) + wide(b) * 0x100 + wide(c) * 0x10000 + wide(d) * 0x1000000
-}
-
-// Four more on top of them: one sum, of which the compiler makes one load.
-fn four_on(low: u64, a: u8, b: u8, c: u8, d: u8) -> u64
-    requires { low < 2 ^ 32 }
-    ensures { result ≡ lanes (a ∷ b ∷ c ∷ d ∷ []) * 2 ^ 32 + low }
-{
-    low + wide(a) * 0x1_0000_0000
-        + wide(b) * 0x100_0000_0000
-        + wide(c) * 0x1_0000_0000_0000
-        + wide(d) * 0x100_0000_0000_0000
-}
-
 // The eight characters from a place on; and all of the text are bytes, which those who take the number apart need.
 pub fn eight(s: &[u8], at: usize) -> u64
     requires { at + 8 ≤ length s.now }
     ensures { (result ≡ lanes (take 8 (drop at s.now))) × (every is_byte s.now ≡ true) }
 {
-    let low = four(s[at], s[at + 1], s[at + 2], s[at + 3]);
-    four_on(low, s[at + 4], s[at + 5], s[at + 6], s[at + 7])
+    u64::from_le_bytes([
+        s[at],
+        s[at + 1],
+        s[at + 2],
+        s[at + 3],
+        s[at + 4],
+        s[at + 5],
+        s[at + 6],
+        s[at + 7],
+    ])
 }
 
 // Whether all eight lanes have these bits, as they are and raised.
 pub fn keeps_form(w: u64, low: u64, bits: u64, raise: u64) -> bool
     ensures { result ≡ keeps low bits raise w }
 {
-    (w & bits == low) & (std::num::wrapping_add_u64(w, raise) & bits == low)
+    (w & bits == low) & (w.wrapping_add(raise) & bits == low)
 }
 
 // What eight digits are above '0', each with the next as a number of two digits.
@@ -71,16 +54,7 @@ fn even(m: u64) -> u64
 pub fn apart(w: u64) -> [u8; 8]
     ensures { result ≡ unlaned 8 w }
 {
-    [
-        (w % 256) as u8,
-        (w / 256 % 256) as u8,
-        (w / 256 / 256 % 256) as u8,
-        (w / 256 / 256 / 256 % 256) as u8,
-        (w / 256 / 256 / 256 / 256 % 256) as u8,
-        (w / 256 / 256 / 256 / 256 / 256 % 256) as u8,
-        (w / 256 / 256 / 256 / 256 / 256 / 256 % 256) as u8,
-        (w / 256 / 256 / 256 / 256 / 256 / 256 / 256 % 256) as u8,
-    ]
+    w.to_le_bytes()
 }
 
 // The eight characters from a place on, as they are sent.

@@ -1,5 +1,5 @@
 -- `eights::bcc_eight` meets its contract: halves one upon the other leave the BCC. Assumes nothing.
-use Rattle.std.proofs.Common.{refl, rules}
+use Rattle.std.proofs.Common.{refl}
 use Rattle.eights.proofs.Sending.{window-bcc}
 use Rattle.eights.proofs.bcc_eight.Goals as goal
 

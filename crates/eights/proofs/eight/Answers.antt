@@ -1,11 +1,13 @@
--- `eights::eight` meets its contract: four characters and four more are those from the place on. Assumes nothing.
-use Rattle.std.proofs.Common.{arith, rules}
-use Rattle.eights.proofs.Windows.{all-bytes, joined-fours}
+-- `eights::eight` meets its contract: the bytes from the place on, the lowest first, are its lanes. Assumes nothing.
+use Rattle.std.proofs.Common.{arith}
+use Rattle.eights.specs.Lanes.{lanes}
+use Rattle.eights.proofs.Windows.{all-bytes, eight-joined}
 use Rattle.eights.proofs.eight.Goals as goal
 
 pub returns : goal.returns
+unfolding lanes
 returns c =
     let s = c.args.s.now in (
-      joined-fours s c.args.at _ _ c.requires c.four-low.ensures.value c.four_on.ensures,
+      eight-joined s c.args.at _ c.requires (omega (arith, c.from_le_bytes.ensures)),
       all-bytes s (λ i. omega (arith, c.type_inv.s i)),
     )

@@ -1,5 +1,5 @@
 -- `eights::even` meets its contract: a bit on top of every lane of seven bits is within eight lanes. Assumes nothing.
-use Rattle.std.proofs.Common.{◌≡◌, ℕ, ◌≤◌, refl, arith}
+use Rattle.std.proofs.Common.{ℕ, ◌≤◌, refl, arith}
 use lib.Bits.{bit_and, and_le_r}
 use Rattle.line.specs.Balance.{folded}
 use Rattle.eights.specs.Lanes.{evened}

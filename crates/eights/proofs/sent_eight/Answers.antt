@@ -1,5 +1,4 @@
 -- `eights::sent_eight` meets its contract: parity on all lanes is parity on each character. Assumes nothing.
-use Rattle.std.proofs.Common.{◌∙◌, arith, rules}
 use lib.Bits.{and_le_r}
 use Rattle.eights.proofs.Sending.{window-sent}
 use Rattle.eights.proofs.sent_eight.Goals as goal
