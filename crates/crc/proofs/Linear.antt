@@ -2,10 +2,10 @@
 -- just comes down. So what eight bits do to a register is done by its two bytes, each by itself. Assumes nothing.
 use mathlib.Core.Path.{◌≡◌, refl, sym, ap, ap₂, ◌∙◌}
 use mathlib.Core.List.{List, [], ◌∷◌, ◌++◌}
-use Prim.Native.Nat.{ℕ, zero, suc, ◌+◌, ◌*◌, ◌/◌, ◌%◌, ◌^◌, ◌<◌}
+use Prim.Native.Nat.{ℕ, zero, suc, ◌*◌, ◌/◌, ◌%◌, ◌^◌, ◌<◌}
 use native.Mathlib.Nat.{mod-lt, zero-lt-suc, div-add-mod', pow-suc, zero-mul, mul-one, mul_assoc}
 use native.Mathlib.Omega.{arith}
-use lib.Bits.{bit_xor, xor_shr, xor_mod, xor_lt, xor_self, xor_zero_l, xor_zero_r, xor_comm, xor_shifted}
+use lib.Bits.{bit_xor, xor_shr, xor_mod, xor_self, xor_zero_r, xor_comm, xor_shifted}
 use Rattle.line.proofs.Xor.{xor_assoc}
 use Rattle.crc.specs.Crc.{bit_out, out, joined, crc_from}
 

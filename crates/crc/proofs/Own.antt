@@ -1,12 +1,12 @@
 -- A message followed by its CRC, low byte first, checks, at any length; and so the CRC over both is 0. Assumes nothing.
-use mathlib.Core.Path.{◌≡◌, refl, sym, ap, ap₂, ◌∙◌}
-use mathlib.Core.Bool.{Bool, true, ◌&&◌}
+use mathlib.Core.Path.{◌≡◌, sym, ap, ap₂, ◌∙◌}
+use mathlib.Core.Bool.{true}
 use mathlib.Core.List.{List, [], ◌∷◌, ◌++◌}
 use Prim.Native.Nat.{ℕ, zero, suc, ◌+◌, ◌-◌, ◌*◌, ◌/◌, ◌%◌, ◌<◌, ◌≤◌}
 use native.Mathlib.Nat.{mod-lt, zero-lt-suc, div-add-mod', le_of_suc-le-suc}
 use native.Mathlib.Omega.{arith}
 use lib.Bits.{bit_xor, xor_self, xor_zero_r, xor_shifted}
-use lib.Dec.{eqb, leb, ltb, lit<}
+use lib.Dec.{eqb, leb}
 use lib.ListN.{length, get_or, take, drop, length-append, take-append-drop, drop_of_length-le}
 use lib.Seq.{take-append_seam, get_or-append_seam, get_or-append-add}
 use borrow.Author.Tests.{eq-eqb, eqb-true, le-leb, leb-true, ltb-true}

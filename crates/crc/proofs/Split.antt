@@ -1,17 +1,17 @@
 -- The register is the bare one, with ODD in it where an odd number of ones fell out; and that shows in the count of ones. Assumes nothing.
 use mathlib.Core.Path.{◌≡◌, refl, sym, ap, ap₂, ◌∙◌}
-use mathlib.Core.Bool.{Bool, true, false, not, cond}
+use mathlib.Core.Bool.{not, cond}
 use mathlib.Core.List.{List, [], ◌∷◌}
 use Prim.Native.Nat.{ℕ, zero, suc, ◌+◌, ◌*◌, ◌/◌, ◌%◌, ◌<◌}
-use native.Mathlib.Nat.{mod-lt, zero-lt-suc, div-add-mod', zero-mul}
+use native.Mathlib.Nat.{mod-lt, zero-lt-suc, div-add-mod'}
 use native.Mathlib.Omega.{arith}
 use lib.Count.{ones, ones_cat}
 use lib.Dec.{eqb}
 use lib.Bits.{bit_xor, xor_comm, xor_lt, xor_zero_r}
-use borrow.Author.Tests.{eqb-true, eqb-false}
+use borrow.Author.Tests.{eqb-true}
 use Rattle.line.specs.Characters.{damaged_at}
 use Rattle.line.proofs.Xor.{xor_assoc}
-use Rattle.line.proofs.Runs.{all_below, below_all}
+use Rattle.line.proofs.Runs.{below_all}
 use Rattle.crc.specs.Crc.{bit_out, out, joined, crc_from, POLYNOMIAL, crc_of}
 use Rattle.crc.specs.Splitting.{BARE, ODD, evened}
 use Rattle.crc.proofs.Linear.{bit-xor, digit-times}

@@ -18,8 +18,7 @@ fn join(c: u16, b: u8) -> u16
 fn even(c: u16, sum: u8) -> u16
     ensures { result ≡ evened c sum }
 {
-    let low = (c % 256) as u8;
-    let high = (c / 256) as u8;
+    let [low, high] = c.to_le_bytes();
     if line::damaged(sum ^ low ^ high) {
         return c ^ 0xC001;
     }
@@ -32,30 +31,19 @@ pub fn crc(s: &[u8]) -> u16
 {
     let mut c: u16 = 0xFFFF;
     let mut sum: u8 = 0;
-    let mut i = 0;
-    while i < s.len() {
-        let b = s[i];
-        c = join(c, b);
-        sum = sum ^ b;
-        i += 1;
+    for b in s {
+        c = join(c, *b);
+        sum ^= *b;
     }
     even(c, sum)
-}
-
-fn word(low: u8, high: u8) -> u16
-    ensures { result ≡ low + high * 256 }
-{
-    low as u16 + high as u16 * 256
 }
 
 // Whether the last two bytes of a message are the CRC of what stands before them, low byte first.
 pub fn check(s: &[u8]) -> bool
     ensures { result ≡ checks s.now }
 {
-    if s.len() < 2 {
+    let Some((message, last)) = s.split_last_chunk::<2>() else {
         return false;
-    }
-    let low = s.len() - 2;
-    let high = s.len() - 1;
-    word(s[low], s[high]) == crc(&s[..low])
+    };
+    u16::from_le_bytes(*last) == crc(message)
 }

@@ -1,10 +1,9 @@
 -- `crc::join` meets its contract: the high byte comes down, and the low one leaves what `bare-byte` says. Assumes nothing.
-use mathlib.Core.Path.{◌≡◌, sym, ap, ◌∙◌}
-use Prim.Native.Nat.{ℕ, ◌/◌, ◌%◌, ◌*◌, ◌<◌}
+use mathlib.Core.Path.{sym, ap, ◌∙◌}
+use Prim.Native.Nat.{◌/◌, ◌%◌}
 use native.Mathlib.Nat.{mod-lt, zero-lt-suc}
 use native.Mathlib.Omega.{arith}
-use lib.Bits.{bit_xor, xor_lt}
-use borrow.Author.Rules.{rules}
+use lib.Bits.{bit_xor}
 use Rattle.crc.specs.Splitting.{BARE}
 use Rattle.crc.proofs.Linear.{joined_bytes}
 use Rattle.crc.proofs.Split.{bare-byte, spread-lt}
