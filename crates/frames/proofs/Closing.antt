@@ -1,12 +1,11 @@
 -- The two stores that close a frame, and parity on what is closed. Assumes nothing.
 use mathlib.Core.Path.{◌≡◌, refl, sym, ap, ◌∙◌}
 use mathlib.Core.List.{List, [], ◌∷◌, ◌++◌, append_assoc, map}
-use Prim.Native.Nat.{ℕ, zero, suc, ◌+◌, ◌-◌, ◌<◌, ◌≤◌}
+use Prim.Native.Nat.{ℕ, zero, suc, ◌+◌, ◌<◌, ◌≤◌}
 use native.Mathlib.Omega.{arith}
-use native.Mathlib.Numerals.{add-one}
 use lib.Bits.{bit_xor, xor_self, xor_zero_l}
 use lib.ListN.{length, get_or, take, drop, set, length-append, length-map, length-set, length-drop}
-use lib.Seq.{take-suc-set, take-append_seam, drop-append_seam, length-take-le, take_at, drop_at}
+use lib.Seq.{take-suc-set, length-take-le, take_at, drop_at}
 use Rattle.line.specs.Characters.{seven, sent}
 use Rattle.line.specs.Checksum.{bcc_of}
 use Rattle.line.proofs.Xor.{xor_assoc}

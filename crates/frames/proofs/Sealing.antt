@@ -1,5 +1,5 @@
 -- A message that was put in front and then closed or sent: the buffer holds it, and keeps what it held past it. Assumes nothing.
-use mathlib.Core.Path.{◌≡◌, refl, sym, ap, ◌∙◌}
+use mathlib.Core.Path.{◌≡◌, sym, ap, ◌∙◌}
 use mathlib.Core.List.{List, [], ◌∷◌, ◌++◌, map}
 use Prim.Native.Nat.{ℕ, ◌+◌, ◌≤◌}
 use native.Mathlib.Omega.{arith}
@@ -8,7 +8,7 @@ use lib.Seq.{take_at, drop_at, drop-append-add, drop-drop}
 use Rattle.line.specs.Characters.{sent}
 use Rattle.text.specs.Writing.{stored, holding}
 use Rattle.text.proofs.Writing.{stored-holding, and_then}
-use Rattle.frames.specs.Frames.{sealed, closed, block_of, on_wire}
+use Rattle.frames.specs.Frames.{sealed, block_of, on_wire}
 use Rattle.frames.proofs.Closing.{sealed-length}
 
 module _ (buf xs mid : List ℕ) (n : ℕ) (room : length xs ≤ length buf) (p : n ≡ length xs) (e : mid ≡ stored buf 0 xs) where

@@ -1,5 +1,5 @@
 -- Document 01, "Deciding a frame": the commands, and the data of each.
-use Rattle.std.specs.Prelude.{List, [], ◌∷◌, ◌++◌, ℕ, ◌+◌}
+use Rattle.std.specs.Prelude.{List, ◌∷◌, ◌++◌, ℕ, ◌+◌}
 use Rattle.line.specs.Quoted.{char, chars}
 use Rattle.clock.specs.declared.Clock.{Clock}
 use Rattle.values.specs.Texts.{table_text, clock_text}

@@ -1,5 +1,5 @@
 -- Document 01, "Receiving" and "Deciding a frame": what opens a session, as characters.
-use Rattle.std.specs.Prelude.{Bool, cond, ◌||◌, List, [], ◌∷◌, ◌++◌, ℕ, eqb}
+use Rattle.std.specs.Prelude.{Bool, cond, ◌||◌, List, ◌∷◌, ◌++◌, ℕ, eqb}
 use Rattle.line.specs.Quoted.{char, chars}
 use Rattle.line.specs.Controls.{ACK}
 use Rattle.values.specs.Texts.{serial_text, wired_text}

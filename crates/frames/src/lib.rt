@@ -14,12 +14,9 @@ fn send_summed(s: &mut [u8]) -> u8
     ensures held { s.new ≡ on_wire s.old }
 {
     let mut sum = s[0];
-    let mut i = 0;
-    while i < s.len() {
-        let c = s[i];
-        sum = sum ^ c;
-        s[i] = line::wire(c);
-        i += 1;
+    for c in s {
+        sum ^= *c;
+        *c = line::wire(*c);
     }
     sum % 128
 }

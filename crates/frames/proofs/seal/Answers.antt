@@ -3,7 +3,6 @@ use mathlib.Core.Path.{refl, sym}
 use native.Mathlib.Omega.{arith}
 use lib.ListN.{length-set}
 use Rattle.frames.proofs.Closing.{through-etx, kept-long, sealing-stores}
-use borrow.Author.Rules.{rules}
 use Rattle.frames.proofs.seal.Goals as goal
 
 pub slice_bounds-send_summed-end : goal.slice_bounds-send_summed-end

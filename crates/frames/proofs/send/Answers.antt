@@ -1,7 +1,6 @@
 -- `frames::send` meets its contract: the part that was lent carries parity, and the rest came back as it was. Assumes nothing.
 use mathlib.Core.Path.{sym}
 use lib.Seq.{length-take-le}
-use borrow.Author.Rules.{rules}
 use Rattle.frames.proofs.send.Goals as goal
 
 pub slice_bounds-put_parity-end-2 : goal.slice_bounds-put_parity-end-2

@@ -1,13 +1,11 @@
 -- `frames::wired_line` meets its contract: the start, the serial and the end, put in one after the other. Assumes nothing.
 use native.Mathlib.Omega.{arith}
-use mathlib.Core.Path.{◌≡◌}
-use mathlib.Core.List.{[], ◌∷◌, ◌++◌}
-use lib.ListN.{length, replicate, length-append}
+use mathlib.Core.List.{[], ◌∷◌}
+use lib.ListN.{replicate, length-append}
 use Rattle.values.specs.Texts.{wired_text}
 use Rattle.values.proofs.Rules.{wired-text-long}
 use Rattle.frames.specs.Session.{wired_line}
 use Rattle.frames.proofs.Lines.{line-put}
-use borrow.Author.Rules.{rules}
 use Rattle.frames.proofs.wired_line.Goals as goal
 
 pub returns : goal.returns
