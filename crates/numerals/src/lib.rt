@@ -9,14 +9,12 @@ ghost use Rattle.numerals.specs.Numerals.{width_of, digits_of, number_line};
 fn width(n: u64) -> usize
     ensures { result ≡ width_of n }
 {
-    let mut w = 1;
     let mut left = n;
-    while w < 20 {
+    for w in 1..20 {
         if left < 10 {
             return w;
         }
-        left = left / 10;
-        w += 1;
+        left /= 10;
     }
     20
 }
@@ -29,11 +27,9 @@ pub fn put(buf: &mut [u8], at: usize, n: u64) -> usize
 {
     let w = width(n);
     let mut left = n;
-    let mut i = w;
-    while 0 < i {
-        i -= 1;
-        buf[at + i] = 48 + (left % 10) as u8;
-        left = left / 10;
+    for i in (0..w).rev() {
+        buf[at + i] = b'0' + (left % 10) as u8;
+        left /= 10;
     }
     at + w
 }

@@ -4,7 +4,6 @@ use mathlib.Core.List.{[], ◌∷◌}
 use Rattle.numerals.specs.Numerals.{digits_of, number_line}
 use Rattle.numerals.proofs.Widths.{digits-few, line-long}
 use Rattle.numerals.proofs.Begun.{four-put}
-use borrow.Author.Rules.{rules}
 use Rattle.numerals.proofs.put_line.Goals as goal
 
 pub put-space-requires : goal.put-space-requires
