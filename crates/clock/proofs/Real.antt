@@ -1,9 +1,9 @@
 -- What a real date and a real time are bounded by, and that the next second of a real clock is real. Assumes nothing.
 use mathlib.Core.Path.{◌≡◌, refl, sym, ap, ◌∙◌}
-use mathlib.Core.Bool.{Bool, true, false, cond, ◌&&◌, ◌||◌}
-use Prim.Native.Nat.{ℕ, ◌+◌, ◌-◌, ◌%◌, ◌≤◌, ◌<◌}
+use mathlib.Core.Bool.{Bool, true, false, cond, ◌&&◌}
+use Prim.Native.Nat.{ℕ, ◌+◌, ◌-◌, ◌%◌, ◌≤◌}
 use native.Mathlib.Omega.{arith}
-use borrow.Author.Tests.{leb-true, leb-false, le-leb, ltb-true, ltb-false, lt-ltb, le-ltb, eqb-true, eq-eqb, eqb-false}
+use borrow.Author.Tests.{leb-true, leb-false, le-leb, ltb-true, eqb-true}
 use lib.Dec.{leb, ltb, eqb}
 use Rattle.line.proofs.Runs.{and_left, and_right, and_both, below_all}
 use Rattle.clock.specs.Dates.{leap, thirty, days_of, days_in, real_date, real_time}

@@ -1,14 +1,14 @@
 -- The formula for the day of the week is right: the day after a real day is the next day of the week, and 2000-01-01 is a Saturday.
 -- A month's step is computed at each month; a year's step is arithmetic. Assumes nothing.
 use mathlib.Core.Path.{◌≡◌, refl, sym, ap, ◌∙◌, subst, subst₂}
-use mathlib.Core.Bool.{Bool, true, false, cond, not, ◌&&◌, ◌||◌, and-true, and-false}
-use Prim.Native.Nat.{ℕ, ◌+◌, ◌-◌, ◌*◌, ◌/◌, ◌%◌, ◌≤◌, ◌<◌}
+use mathlib.Core.Bool.{Bool, true, false, cond, ◌&&◌, and-true, and-false}
+use Prim.Native.Nat.{ℕ, ◌+◌, ◌-◌, ◌%◌, ◌≤◌, ◌<◌}
 use native.Mathlib.Omega.{arith}
-use borrow.Author.Tests.{eqb-true, eq-eqb, ne_eqb, ltb-true, ltb-false}
-use lib.Dec.{eqb, ltb, leb}
+use borrow.Author.Tests.{eqb-true, ltb-true, ltb-false}
+use lib.Dec.{eqb, ltb}
 use lib.ListN.{get_or}
-use Rattle.line.proofs.Runs.{all_below, below_all}
-use Rattle.clock.specs.Dates.{leap, thirty, days_in, real_date}
+use Rattle.line.proofs.Runs.{below_all}
+use Rattle.clock.specs.Dates.{leap, thirty, days_in}
 use Rattle.clock.specs.Seconds.{date_of, next_month, next_day}
 use Rattle.clock.specs.Weekday.{days_before, leap_days, day_number, weekday}
 use Rattle.clock.specs.declared.Date.{Date}

@@ -1,5 +1,5 @@
 -- Document 01, "Both sides of the line": 2000-01-01 is a Saturday.
-use Rattle.std.specs.Prelude.{Bool, cond, ◌&&◌, ℕ, ◌+◌, ◌-◌, ◌*◌, ◌/◌, ◌%◌, eqb, ltb, get_or, List, [], ◌∷◌}
+use Rattle.std.specs.Prelude.{cond, ◌&&◌, ℕ, ◌+◌, ◌-◌, ◌*◌, ◌/◌, ◌%◌, ltb, get_or, List, [], ◌∷◌}
 use Rattle.clock.specs.Dates.{leap}
 use Rattle.clock.specs.declared.Date.{Date}
 

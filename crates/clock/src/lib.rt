@@ -3,7 +3,7 @@
 
 ghost use Rattle.std.specs.Prelude.{◌≡◌, cond, ◌&&◌, ◌-◌, ◌<◌, get_or, ltb};
 ghost use Rattle.clock.specs.Dates.{days_of, leap, days_in, real_date, real_time};
-ghost use Rattle.clock.specs.Seconds.{real_clock, real_stamp, stamp_of, next_month, next_day, next_second};
+ghost use Rattle.clock.specs.Seconds.{real_clock, real_stamp, stamp_of, date_of, time_of, next_month, next_day, next_second};
 ghost use Rattle.clock.specs.Weekday.{days_before, weekday};
 
 #[repr(C)]
@@ -49,11 +49,9 @@ fn days_of(long: bool, m: u8) -> u8
     ensures { result ≡ days_of long m }
 {
     if m == 2 {
-        if long {
-            return 29;
-        }
-        return 28;
+        return if long { 29 } else { 28 };
     }
+    // Stays: of a `match` with an arm for 4, 6, 9 and 11 at once the proof of the arm `_` knows nothing (`31 ≡ days_of long m` is left).
     let short = (((m == 4) | (m == 6)) | (m == 9)) | (m == 11);
     if short { 30 } else { 31 }
 }
@@ -87,35 +85,41 @@ pub fn is_time(h: u8, n: u8, s: u8) -> bool
 pub fn is_clock(c: Clock) -> bool
     ensures { result ≡ real_clock c }
 {
-    let d = c.date;
-    let t = c.time;
-    if is_date(d.year, d.month, d.day) {
-        return is_time(t.hour, t.minute, t.second);
-    }
-    false
+    is_date(c.date.year, c.date.month, c.date.day)
+        && is_time(c.time.hour, c.time.minute, c.time.second)
 }
 
 // Whether a stamp shows a real date and time.
 pub fn is_stamp(s: Stamp) -> bool
     ensures { result ≡ real_stamp s }
 {
-    let d = s.date;
-    if is_date(d.year, d.month, d.day) {
-        return is_time(s.hour, s.minute, 0);
-    }
-    false
+    is_date(s.date.year, s.date.month, s.date.day) && is_time(s.hour, s.minute, 0)
 }
 
 // A clock without its second.
 pub fn stamp_of(c: Clock) -> Stamp
     ensures { result ≡ stamp_of c }
 {
-    let d = c.date;
-    let t = c.time;
     Stamp {
-        date: d,
-        hour: t.hour,
-        minute: t.minute,
+        date: c.date,
+        hour: c.time.hour,
+        minute: c.time.minute,
+    }
+}
+
+fn date_of(year: u16, month: u8, day: u8) -> Date
+    ensures { result ≡ date_of year month day }
+{
+    Date { year, month, day }
+}
+
+fn time_of(hour: u8, minute: u8, second: u8) -> Time
+    ensures { result ≡ time_of hour minute second }
+{
+    Time {
+        hour,
+        minute,
+        second,
     }
 }
 
@@ -124,100 +128,59 @@ fn next_month(y: u16, m: u8) -> Date
     ensures { result ≡ next_month y m }
 {
     if m < 12 {
-        return Date {
-            year: y,
-            month: m + 1,
-            day: 1,
-        };
+        return date_of(y, m + 1, 1);
     }
     if y < 2099 {
-        return Date {
-            year: y + 1,
-            month: 1,
-            day: 1,
-        };
+        return date_of(y + 1, 1, 1);
     }
-    Date {
-        year: 2000,
-        month: 1,
-        day: 1,
-    }
+    date_of(2000, 1, 1)
 }
 
 fn next_day(d: Date) -> Date
     ensures { result ≡ next_day d }
 {
-    let y = d.year;
-    let m = d.month;
-    let day = d.day;
-    if day < days_in(y, m) {
+    if d.day < days_in(d.year, d.month) {
         return Date {
-            year: y,
-            month: m,
-            day: day + 1,
+            day: d.day + 1,
+            ..d
         };
     }
-    next_month(y, m)
+    next_month(d.year, d.month)
 }
 
 // The clock a second later.
 pub fn next_second(c: Clock) -> Clock
     ensures { result ≡ next_second c }
 {
-    let d = c.date;
-    let t = c.time;
-    if t.second < 59 {
-        return Clock {
-            date: d,
-            time: Time {
-                hour: t.hour,
-                minute: t.minute,
-                second: t.second + 1,
-            },
-        };
+    let Clock { date, time } = c;
+    let Time {
+        hour,
+        minute,
+        second,
+    } = time;
+    if second < 59 {
+        let time = time_of(hour, minute, second + 1);
+        return Clock { date, time };
     }
-    if t.minute < 59 {
-        return Clock {
-            date: d,
-            time: Time {
-                hour: t.hour,
-                minute: t.minute + 1,
-                second: 0,
-            },
-        };
+    if minute < 59 {
+        let time = time_of(hour, minute + 1, 0);
+        return Clock { date, time };
     }
-    if t.hour < 23 {
-        return Clock {
-            date: d,
-            time: Time {
-                hour: t.hour + 1,
-                minute: 0,
-                second: 0,
-            },
-        };
+    if hour < 23 {
+        let time = time_of(hour + 1, 0, 0);
+        return Clock { date, time };
     }
     Clock {
-        date: next_day(d),
-        time: Time {
-            hour: 0,
-            minute: 0,
-            second: 0,
-        },
+        date: next_day(date),
+        time: time_of(0, 0, 0),
     }
-}
-
-fn less_one(n: u8) -> usize
-    ensures value { result ≡ n - 1 }
-    ensures small { result < 256 }
-{
-    if n == 0 { 0 } else { (n - 1) as usize }
 }
 
 // The days of a common year before a month. Months of 31 days and of 30 take turns as a product grows, but for the two days that February lacks; a table would be laid on the stack at each look into it.
 fn days_before(m: u8) -> u16
     ensures { result ≡ get_or days_before (m - 1) 0 }
 {
-    let k = less_one(m) as u16;
+    let k = m.saturating_sub(1) as u16;
     if k < 2 {
         return k * 31;
     }
@@ -227,32 +190,23 @@ fn days_before(m: u8) -> u16
     0
 }
 
-fn years_since_2000(y: u16) -> u32
-    ensures { result ≡ y - 2000 }
-{
-    if y < 2000 { 0 } else { (y - 2000) as u32 }
-}
-
 // One more from March on in a leap year.
 fn leap_day(y: u16, m: u8) -> u32
     ensures value { result ≡ cond (leap y && ltb 2 m) 1 0 }
     ensures small { result < 2 }
 {
-    let past = is_leap(y) & (2 < m);
-    if past { 1 } else { 0 }
+    (is_leap(y) & (2 < m)) as u32
 }
 
 // The day of the week: Monday is 0, Saturday 5, Sunday 6.
 pub fn day_of_week(d: Date) -> u8
     ensures { result ≡ weekday d }
 {
-    let y = d.year;
-    let m = d.month;
-    let k = years_since_2000(y);
+    let k = d.year.saturating_sub(2000) as u32;
     let days = k * 365
         + (k + 3) / 4
-        + days_before(m) as u32
-        + leap_day(y, m)
-        + less_one(d.day) as u32;
+        + days_before(d.month) as u32
+        + leap_day(d.year, d.month)
+        + d.day.saturating_sub(1) as u32;
     ((days + 5) % 7) as u8
 }

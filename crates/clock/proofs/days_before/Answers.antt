@@ -7,8 +7,7 @@ use native.Mathlib.Omega.{arith}
 use lib.Dec.{eqb, ltb}
 use lib.ListN.{get_or, get_or-eq_default}
 use borrow.Author.Tests.{eqb-true, lt-ltb, le-ltb}
-use borrow.Author.Rules.{rules}
-use Rattle.line.proofs.Runs.{all_below, below_all}
+use Rattle.line.proofs.Runs.{below_all}
 use Rattle.clock.proofs.days_before.Goals as goal
 
 reckoned : ℕ → ℕ
@@ -30,11 +29,11 @@ unfolding reckoned
 late k h few = rw (le-ltb k 2 h) at (in-year k few)
 
 pub returns-then-k-lt2 : goal.returns-then-k-lt2
-returns-then-k-lt2 c = rw (← c.less_one-k.ensures.value) (early _ c.if-k-lt2.true)
+returns-then-k-lt2 c = rw (← c.saturating_sub-k.ensures) (early _ c.if-k-lt2.true)
 
 pub returns-then-k-lt12 : goal.returns-then-k-lt12
-returns-then-k-lt12 c = rw (← c.less_one-k.ensures.value) (late _ c.if-k-lt2.false c.if-k-lt12.true)
+returns-then-k-lt12 c = rw (← c.saturating_sub-k.ensures) (late _ c.if-k-lt2.false c.if-k-lt12.true)
 
 pub returns : goal.returns
 unfolding days_before
-returns c = sym (ap (λ (k : ℕ). get_or days_before k 0) (sym c.less_one-k.ensures.value) ∙ get_or-eq_default days_before 0 c.if-k-lt12.false)
+returns c = sym (ap (λ (k : ℕ). get_or days_before k 0) (sym c.saturating_sub-k.ensures) ∙ get_or-eq_default days_before 0 c.if-k-lt12.false)

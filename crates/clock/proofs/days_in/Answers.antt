@@ -1,6 +1,5 @@
 -- `clock::days_in` meets its contract: what its helper says of the year. Assumes nothing.
 use Rattle.clock.specs.Dates.{days_in}
-use borrow.Author.Rules.{rules}
 use Rattle.clock.proofs.days_in.Goals as goal
 
 pub returns : goal.returns

@@ -7,9 +7,9 @@ pub returns-then-long : goal.returns-then-long
 unfolding thirty
 returns-then-long c = rw (eq-eqb _ _ c.if-m-eq2.true, c.if-long.true)
 
-pub returns-then-m-eq2 : goal.returns-then-m-eq2
+pub returns-else-long : goal.returns-else-long
 unfolding thirty
-returns-then-m-eq2 c = rw (eq-eqb _ _ c.if-m-eq2.true, c.if-long.false)
+returns-else-long c = rw (eq-eqb _ _ c.if-m-eq2.true, c.if-long.false)
 
 pub returns-then-short : goal.returns-then-short
 unfolding thirty

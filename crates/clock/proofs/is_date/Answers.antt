@@ -1,7 +1,5 @@
 -- `clock::is_date` meets its contract: by its month, by the days that every month has, or by those behind them. Assumes nothing.
 use Rattle.clock.proofs.Real.{no-month, early-day, late-day}
-use borrow.Author.Rules.{rules}
-use borrow.Author.Tests.{not-true, not-false}
 use Rattle.clock.proofs.is_date.Goals as goal
 
 pub returns-then-not-y-m : goal.returns-then-not-y-m

@@ -1,10 +1,12 @@
--- `clock::leap_day` meets its contract: each way out is the case of the definition that its tests name. Assumes nothing.
-use native.Mathlib.Omega.{arith}
-use borrow.Author.Rules.{rules}
+-- `clock::leap_day` meets its contract: what the test comes to as a number. Assumes nothing.
+use mathlib.Core.Path.{◌≡◌, refl}
+use mathlib.Core.Bool.{Bool, true, false, cond}
+use mir.Val.{bool_byte}
 use Rattle.clock.proofs.leap_day.Goals as goal
 
-pub returns-then-past : goal.returns-then-past
-returns-then-past c = record { value = rw (← c.is_leap.ensures, c.if-past.true); small = omega arith }
+counted : (t : Bool) → bool_byte t ≡ cond t 1 0
+counted true = refl
+counted false = refl
 
-pub returns-else-past : goal.returns-else-past
-returns-else-past c = record { value = rw (← c.is_leap.ensures, c.if-past.false); small = omega arith }
+pub returns-clause-value : goal.returns-clause-value
+returns-clause-value c = rw c.is_leap.ensures (counted _)
