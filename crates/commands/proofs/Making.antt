@@ -1,7 +1,7 @@
 -- The three ways out of a builder, and what the pieces of a command leave in the buffer, once over their lengths.
 -- Assumes nothing.
 use mathlib.Core.Path.{◌≡◌, sym, ap, subst, ◌∙◌}
-use mathlib.Core.Bool.{Bool, true, false, ◌&&◌, and-false}
+use mathlib.Core.Bool.{Bool, true, false}
 use mathlib.Core.List.{List, [], ◌∷◌, ◌++◌, append_assoc}
 use Prim.Native.Nat.{ℕ, ◌+◌, ◌<◌, ◌≤◌}
 use native.Mathlib.Omega.{arith}
@@ -11,30 +11,29 @@ use lib.Seq.{take_at, drop_at, drop-append-add, drop-drop}
 use Rattle.line.specs.Characters.{sent}
 use Rattle.text.specs.Writing.{stored, holding}
 use Rattle.text.proofs.Writing.{and_then, stored-holding}
-use Rattle.values.specs.Edition.{row_length}
-use Rattle.values.specs.Registers.{good_row, good_table}
-use Rattle.values.proofs.Rules.{no_row}
 use Rattle.frames.specs.Frames.{sealed, on_wire}
 use Rattle.frames.proofs.Closing.{sealed-length}
-use Rattle.commands.specs.declared.Built.{Built}
-use Rattle.commands.specs.Building.{built_in, kept_or, Builds, Made}
+use Rattle.std.specs.Prelude.{Err, IsErrOf}
+use Rattle.commands.specs.declared.Refusal.{Refusal}
+use Rattle.commands.specs.declared.Refusal.TheVariants.{Field, Short}
+use Rattle.commands.specs.Building.{Built, told, built_in, kept_or, Builds, Made}
 
-module _ (buf : List ℕ) (ok : Bool) (command : List ℕ) (r : Built) where
-  pub too_short : length buf < 64 → r ≡ record { number = 19; length = 0 } → Builds buf ok command r buf
+module _ (buf : List ℕ) (ok : Bool) (command : List ℕ) where
+  pub too_short : (e : Refusal) → (length buf < 64) × IsErrOf {T = Unit {0}} (Err e) Short → Builds buf ok command (told (Err e)) buf
   unfolding built_in kept_or
-  too_short h e = record { answer = rw (lt-ltb (length buf) 64 h) e; held = rw (lt-ltb (length buf) 64 h) }
+  too_short e h =
+      let is : e ≡ Short = cc h.1 in
+      record { answer = rw (lt-ltb (length buf) 64 h.0, is); held = rw (lt-ltb (length buf) 64 h.0) }
 
-  pub field-refused : 64 ≤ length buf → ok ≡ false → r ≡ record { number = 9; length = 0 } → Builds buf ok command r buf
+  pub field-refused : (e : Refusal) → 64 ≤ length buf → ok ≡ false → IsErrOf {T = Unit {0}} (Err e) Field → Builds buf ok command (told (Err e)) buf
   unfolding built_in kept_or
-  field-refused h f e = record { answer = rw (le-ltb (length buf) 64 h, f) e; held = rw (le-ltb (length buf) 64 h, f) }
+  field-refused e h f k =
+      let is : e ≡ Field = cc k in
+      record { answer = rw (le-ltb (length buf) 64 h, f, is); held = rw (le-ltb (length buf) 64 h, f) }
 
-  pub built : (after : List ℕ) → 64 ≤ length buf → ok ≡ true → Made buf command r after → Builds buf ok command r after
+  pub built : (r : Built) (after : List ℕ) → 64 ≤ length buf → ok ≡ true → Made buf command r after → Builds buf ok command r after
   unfolding built_in kept_or
-  built after h f m = record { answer = rw (le-ltb (length buf) 64 h, f) m.answer; held = rw (le-ltb (length buf) 64 h, f) m.held }
-
--- a row of another length is none, whatever its table
-pub row-unsized : (tables n : ℕ) (s : List ℕ) → (length s ≡ row_length → ⊥) → (good_table tables n && good_row s) ≡ false
-row-unsized tables n s h = rw (no_row s h) (and-false (good_table tables n))
+  built r after h f m = record { answer = rw (le-ltb (length buf) 64 h, f) m.answer; held = rw (le-ltb (length buf) 64 h, f) m.held }
 
 -- the field's test is what the rule says of it
 pub judged : (buf : List ℕ) (ok good : Bool) (command : List ℕ) (r : Built) (after : List ℕ) → good ≡ ok → Builds buf good command r after → Builds buf ok command r after

@@ -5,7 +5,7 @@ use Prim.Native.Nat.{ℕ, ◌+◌, ◌≤◌}
 use native.Mathlib.Omega.{arith}
 use lib.Bits.{bit_xor, xor_comm}
 use lib.Count.{ones}
-use lib.ListN.{length, get_or, take, drop}
+use lib.ListN.{length, get_or}
 use lib.Seq.{take_all}
 use Rattle.line.specs.Characters.{seven, sent}
 use Rattle.line.specs.Checksum.{bcc_of}
@@ -17,7 +17,6 @@ use Rattle.values.specs.Texts.{serial_text, wired_text}
 use Rattle.frames.specs.Frames.{closed, frame_of, on_wire}
 use Rattle.frames.specs.Commands.{P1, bracketed}
 use Rattle.frames.specs.Session.{sign_on_to, wired_line, wired_sign_on, password_data}
-use Rattle.commands.specs.declared.Built.{Built}
 use Rattle.commands.specs.Building.{Made}
 
 -- a command that is put in from the front is made

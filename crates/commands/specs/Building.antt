@@ -1,9 +1,26 @@
 -- Document 01, "The head": a command is built in a buffer of at least 64 bytes, or nothing is written.
-use Rattle.std.specs.Prelude.{◌≡◌, Bool, true, false, cond, ◌||◌, List, ℕ, ◌+◌, ◌≤◌, eqb, ltb, length}
+use Rattle.std.specs.Prelude.{◌≡◌, Bool, true, false, cond, ◌||◌, List, ℕ, Result, Ok, Err, ◌+◌, ◌≤◌, eqb, ltb, length}
 use Rattle.line.specs.Quoted.{char}
 use Rattle.text.specs.Writing.{holding}
 use Rattle.values.specs.Edition.{is_edition}
-use Rattle.commands.specs.declared.Built.{Built}
+use Rattle.commands.specs.declared.Refusal.{Refusal}
+use Rattle.commands.specs.declared.Refusal.TheVariants.{Field, NoEdition, Short}
+
+-- what a builder comes to in document 01's words: 1 and the length of the command, or the number of a refusal and no length
+pub record Built : Type 0 where
+  pub number : ℕ
+  pub length : ℕ
+
+-- the number of a refusal
+abbrev pub number_of : Refusal → ℕ
+number_of Field = 9
+number_of NoEdition = 16
+number_of Short = 19
+
+-- as a builder gives it
+abbrev pub told : Result ℕ Refusal → Built
+told (Ok n) = record { number = 1; length = n }
+told (Err e) = record { number = number_of e; length = 0 }
 
 -- Y of the confirmation: '0', '6' or '7' for a block, '1' for a session
 unfoldable pub good_choice : ℕ → Bool

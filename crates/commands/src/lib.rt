@@ -1,33 +1,44 @@
 // What the head says: every command, built in a lent buffer of at least 64 bytes, or refused with nothing written.
 #![tactic(auto)]
 
-ghost use Rattle.std.specs.Prelude.{◌≡◌, true, ◌&&◌, [], ◌∷◌, ◌++◌, ◌+◌, ◌≤◌, length};
+ghost use Rattle.std.specs.Prelude.{◌≡◌, true, false, ◌&&◌, [], ◌∷◌, ◌++◌, ◌+◌, ◌<◌, ◌≤◌, length, Ok, OnOk, OnErr, IsErrOf};
 ghost use Rattle.line.specs.Quoted.{chars};
 ghost use Rattle.clock.specs.Seconds.{real_clock};
 ghost use Rattle.values.specs.Edition.{tables_of, row_length};
-ghost use Rattle.values.specs.Registers.{good_serial, good_password, good_account, good_row, good_table, good_zone};
+ghost use Rattle.values.specs.Registers.{good_digits, good_serial, good_password, good_account, good_row, good_table, good_zone};
 ghost use Rattle.values.specs.Texts.{table_text, clock_text};
 ghost use Rattle.frames.specs.Frames.{sealed, frame_of, bare_frame, on_wire};
 ghost use Rattle.frames.specs.Commands.{B0, P1, R1, W1, ask_clock, ask_serial, ask_account, lettered, ask_energy, ask_export, ask_table, set_clock, set_account, set_table};
 ghost use Rattle.frames.specs.Session.{sign_on, closing_sign_on, sign_on_to, wired_sign_on, confirmation, good_speed, enter_data, password_data};
-ghost use Rattle.commands.specs.Building.{good_choice, Builds, BuildsFor, Room, Small, Made};
+ghost use Rattle.commands.specs.Building.{good_choice, number_of, told, Builds, BuildsFor, Room, Small, Made};
+ghost use Rattle.commands.specs.declared.Refusal.TheVariants.{Field, Short};
 
 use clock::Clock;
 use values::{TableNo, ZoneNo};
 
-// The answers: built; a field outside its rule; an edition that there is not; a buffer under 64 bytes.
+// The number of a command that is built.
 pub const DONE: u8 = 1;
 
-pub const FIELD: u8 = 9;
+// Why none is, and document 01's number of it: a field outside its rule; an edition that there is not; a buffer under 64 bytes.
+#[derive(Clone, Copy, Debug, PartialEq, Eq)]
+pub enum Refusal {
+    Field = 9,
+    NoEdition = 16,
+    Short = 19,
+}
 
-pub const NO_EDITION: u8 = 16;
-
-pub const SHORT: u8 = 19;
+impl Refusal {
+    pub fn number(self) -> u8
+        ensures { result ≡ number_of self }
+    {
+        self as u8
+    }
+}
 
 // The least buffer that a command is built in.
 pub const ROOM: usize = 64;
 
-// How long the fields are. A length is tested before what it is the length of, so that the loops over a field are compiled for it.
+// How long the fields are.
 const SERIAL: usize = 10;
 
 const PASSWORD: usize = 8;
@@ -49,116 +60,111 @@ const SENT_STX: u8 = 0x82;
 
 const SENT_CLOSE: u8 = 0xA9;
 
-#[derive(Clone, Copy)]
-pub struct Built {
-    pub number: u8,
-    pub length: usize,
-}
-
-fn short() -> Built
-    ensures { result ≡ record { number = 19; length = 0 } }
+// A command is built where there is room for it,
+fn room(buf: &[u8]) -> Result<(), Refusal>
+    ensures ok { OnOk result (64 ≤ length buf.now) }
+    ensures err { OnErr result ((length buf.now < 64) × (IsErrOf result Short)) }
 {
-    Built {
-        number: SHORT,
-        length: 0,
+    if buf.len() < ROOM {
+        Err(Refusal::Short)
+    } else {
+        Ok(())
     }
 }
 
-fn refused() -> Built
-    ensures { result ≡ record { number = 9; length = 0 } }
+// and where its fields lie within their rules.
+fn field(good: bool) -> Result<(), Refusal>
+    ensures ok { OnOk result (good ≡ true) }
+    ensures err { OnErr result ((good ≡ false) × (IsErrOf result Field)) }
 {
-    Built {
-        number: FIELD,
-        length: 0,
-    }
+    if good { Ok(()) } else { Err(Refusal::Field) }
+}
+
+// The fields. The length of each is tested first, so that the loops over it are compiled for it.
+fn is_digits<const N: usize>(s: &[u8]) -> bool
+    ensures { result ≡ good_digits N s.now }
+{
+    s.len() == N && values::is_digits(s, N)
+}
+
+fn is_account(s: &[u8]) -> bool
+    ensures { result ≡ good_account s.now }
+{
+    s.len() == ACCOUNT && values::is_whole_account(s)
+}
+
+fn is_row(s: &[u8]) -> bool
+    ensures { result ≡ good_row s.now }
+{
+    s.len() == values::ROW_LENGTH && values::is_row(s)
 }
 
 // A line: its start, its content and its end, with parity.
-fn line_of(buf: &mut [u8], start: &[u8], content: &[u8], end: &[u8]) -> Built
+fn line_of(buf: &mut [u8], start: &[u8], content: &[u8], end: &[u8]) -> usize
     requires { Room buf.old start.now content.now × (length end.now ≤ 3) }
-    ensures { Made buf.old (on_wire (start.now ++ (content.now ++ end.now))) result buf.new }
+    ensures { Made buf.old (on_wire (start.now ++ (content.now ++ end.now))) (told (Ok result)) buf.new }
 {
     let a = text::put(buf, 0, start);
     let b = text::put(buf, a, content);
     let n = text::put(buf, b, end);
     frames::send(buf, n);
-    Built {
-        number: DONE,
-        length: n,
-    }
+    n
 }
 
 // A frame: its start through the opening bracket, and its content; the closing bracket, ETX and BCC come after it.
-fn frame(buf: &mut [u8], start: &[u8], content: &[u8]) -> Built
+fn frame(buf: &mut [u8], start: &[u8], content: &[u8]) -> usize
     requires { Room buf.old start.now content.now }
-    ensures { Made buf.old (on_wire (sealed (start.now ++ (content.now ++ chars ")")))) result buf.new }
+    ensures { Made buf.old (on_wire (sealed (start.now ++ (content.now ++ chars ")")))) (told (Ok result)) buf.new }
 {
     let a = text::put(buf, 0, start);
     let b = text::put(buf, a, content);
     let c = text::put(buf, b, b")");
-    let n = frames::seal(buf, c);
-    Built {
-        number: DONE,
-        length: n,
-    }
+    frames::seal(buf, c)
 }
 
 // The same made in an array that nothing else names, and put at once: of a long field's loops the compiler makes vector code then.
-fn aside(buf: &mut [u8], start: &[u8], content: &[u8]) -> Built
+fn aside(buf: &mut [u8], start: &[u8], content: &[u8]) -> usize
     requires { Room buf.old start.now content.now }
-    ensures { Made buf.old (on_wire (sealed (start.now ++ (content.now ++ chars ")")))) result buf.new }
+    ensures { Made buf.old (on_wire (sealed (start.now ++ (content.now ++ chars ")")))) (told (Ok result)) buf.new }
 {
     let mut made = [0u8; ROOM];
-    let built = frame(&mut made, start, content);
-    let n = built.length;
+    let n = frame(&mut made, start, content);
     text::put(buf, 0, text::first(&made, n));
-    built
+    n
 }
 
 // A command that lies ready with its parity.
-fn put_made(buf: &mut [u8], made: &[u8]) -> Built
+fn put_made(buf: &mut [u8], made: &[u8]) -> usize
     requires { length made.now ≤ length buf.old }
-    ensures { Made buf.old made.now result buf.new }
+    ensures { Made buf.old made.now (told (Ok result)) buf.new }
 {
-    let n = text::put(buf, 0, made);
-    Built {
-        number: DONE,
-        length: n,
-    }
+    text::put(buf, 0, made)
 }
 
 // A frame where the buffer has room and the field lies within its rule; else refused, and nothing is written.
-fn build(buf: &mut [u8], good: bool, start: &[u8], content: &[u8]) -> Built
+fn build(buf: &mut [u8], good: bool, start: &[u8], content: &[u8]) -> Result<usize, Refusal>
     requires { Small good start.now content.now }
-    ensures { Builds buf.old good (on_wire (sealed (start.now ++ (content.now ++ chars ")")))) result buf.new }
+    ensures { Builds buf.old good (on_wire (sealed (start.now ++ (content.now ++ chars ")")))) (told result) buf.new }
 {
-    if buf.len() < ROOM {
-        return short();
-    }
-    if !good {
-        return refused();
-    }
-    frame(buf, start, content)
+    room(buf)?;
+    field(good)?;
+    Ok(frame(buf, start, content))
 }
 
 // The sign-on `/?!`.
-pub fn sign_on(buf: &mut [u8]) -> Built
-    ensures { Builds buf.old true (on_wire sign_on) result buf.new }
+pub fn sign_on(buf: &mut [u8]) -> Result<usize, Refusal>
+    ensures { Builds buf.old true (on_wire sign_on) (told result) buf.new }
 {
-    if buf.len() < ROOM {
-        return short();
-    }
-    line_of(buf, b"/?", b"", b"!\r\n")
+    room(buf)?;
+    Ok(line_of(buf, b"/?", b"", b"!\r\n"))
 }
 
 // The sign-on `/C!`, at which the meter closes a period.
-pub fn close(buf: &mut [u8]) -> Built
-    ensures { Builds buf.old true (on_wire closing_sign_on) result buf.new }
+pub fn close(buf: &mut [u8]) -> Result<usize, Refusal>
+    ensures { Builds buf.old true (on_wire closing_sign_on) (told result) buf.new }
 {
-    if buf.len() < ROOM {
-        return short();
-    }
-    line_of(buf, b"/C", b"", b"!\r\n")
+    room(buf)?;
+    Ok(line_of(buf, b"/C", b"", b"!\r\n"))
 }
 
 // The sign-on to a serial, as it is sent: its first eight digits and its last have their parity at once.
@@ -215,56 +221,37 @@ fn sent_wired(serial: &[u8]) -> [u8; 15]
 }
 
 // The sign-on to the meter of a serial, given by its ten digits.
-pub fn sign_on_to(buf: &mut [u8], serial: &[u8]) -> Built
-    ensures { Builds buf.old (good_serial serial.now) (on_wire (sign_on_to serial.now)) result buf.new }
+pub fn sign_on_to(buf: &mut [u8], serial: &[u8]) -> Result<usize, Refusal>
+    ensures { Builds buf.old (good_serial serial.now) (on_wire (sign_on_to serial.now)) (told result) buf.new }
 {
-    if buf.len() < ROOM {
-        return short();
-    }
-    if serial.len() != SERIAL {
-        return refused();
-    }
-    if !values::is_digits(serial, SERIAL) {
-        return refused();
-    }
-    put_made(buf, &sent_call(serial))
+    room(buf)?;
+    field(is_digits::<SERIAL>(serial))?;
+    Ok(put_made(buf, &sent_call(serial)))
 }
 
 // The sign-on on the wired link, to the meter of a serial or, with zeros, to whichever is there.
-pub fn sign_on_wired(buf: &mut [u8], serial: &[u8]) -> Built
-    ensures { Builds buf.old (good_serial serial.now) (on_wire (wired_sign_on serial.now)) result buf.new }
+pub fn sign_on_wired(buf: &mut [u8], serial: &[u8]) -> Result<usize, Refusal>
+    ensures { Builds buf.old (good_serial serial.now) (on_wire (wired_sign_on serial.now)) (told result) buf.new }
 {
-    if buf.len() < ROOM {
-        return short();
-    }
-    if serial.len() != SERIAL {
-        return refused();
-    }
-    if !values::is_digits(serial, SERIAL) {
-        return refused();
-    }
-    put_made(buf, &sent_wired(serial))
+    room(buf)?;
+    field(is_digits::<SERIAL>(serial))?;
+    Ok(put_made(buf, &sent_wired(serial)))
 }
 
 // The confirmation, with the character '0' (300 baud) or '5' (9600) as speed, and with '0', '1', '6' or '7'.
-pub fn confirm(buf: &mut [u8], speed: u8, choice: u8) -> Built
-    ensures { Builds buf.old (good_speed speed && good_choice choice) (on_wire (confirmation speed choice)) result buf.new }
+pub fn confirm(buf: &mut [u8], speed: u8, choice: u8) -> Result<usize, Refusal>
+    ensures { Builds buf.old (good_speed speed && good_choice choice) (on_wire (confirmation speed choice)) (told result) buf.new }
 {
-    if buf.len() < ROOM {
-        return short();
-    }
+    room(buf)?;
     let slow_or_fast = (speed == b'0') | (speed == b'5');
     let block = ((choice == b'0') | (choice == b'6')) | (choice == b'7');
-    let good = slow_or_fast & (block | (choice == b'1'));
-    if !good {
-        return refused();
-    }
-    line_of(buf, b"\x060", &[speed, choice], b"\r\n")
+    field(slow_or_fast & (block | (choice == b'1')))?;
+    Ok(line_of(buf, b"\x060", &[speed, choice], b"\r\n"))
 }
 
 // P1 with empty brackets: reading only.
-pub fn enter(buf: &mut [u8]) -> Built
-    ensures { Builds buf.old true (on_wire (frame_of P1 enter_data)) result buf.new }
+pub fn enter(buf: &mut [u8]) -> Result<usize, Refusal>
+    ensures { Builds buf.old true (on_wire (frame_of P1 enter_data)) (told result) buf.new }
 {
     build(buf, true, b"\x01P1\x02(", b"")
 }
@@ -297,91 +284,80 @@ fn sent_password(password: &[u8]) -> [u8; 16]
 }
 
 // P1 with a password of eight digits.
-pub fn password(buf: &mut [u8], password: &[u8]) -> Built
-    ensures { Builds buf.old (good_password password.now) (on_wire (frame_of P1 (password_data password.now))) result buf.new }
+pub fn password(buf: &mut [u8], password: &[u8]) -> Result<usize, Refusal>
+    ensures { Builds buf.old (good_password password.now) (on_wire (frame_of P1 (password_data password.now))) (told result) buf.new }
 {
-    if buf.len() < ROOM {
-        return short();
-    }
-    if password.len() != PASSWORD {
-        return refused();
-    }
-    if !values::is_digits(password, PASSWORD) {
-        return refused();
-    }
-    put_made(buf, &sent_password(password))
+    room(buf)?;
+    field(is_digits::<PASSWORD>(password))?;
+    Ok(put_made(buf, &sent_password(password)))
 }
 
 // R1 for the clock.
-pub fn read_clock(buf: &mut [u8]) -> Built
-    ensures { Builds buf.old true (on_wire (frame_of R1 ask_clock)) result buf.new }
+pub fn read_clock(buf: &mut [u8]) -> Result<usize, Refusal>
+    ensures { Builds buf.old true (on_wire (frame_of R1 ask_clock)) (told result) buf.new }
 {
     build(buf, true, b"\x01R1\x02T(", b"")
 }
 
 // R1 for the serial.
-pub fn read_serial(buf: &mut [u8]) -> Built
-    ensures { Builds buf.old true (on_wire (frame_of R1 ask_serial)) result buf.new }
+pub fn read_serial(buf: &mut [u8]) -> Result<usize, Refusal>
+    ensures { Builds buf.old true (on_wire (frame_of R1 ask_serial)) (told result) buf.new }
 {
     build(buf, true, b"\x01R1\x02L(", b"")
 }
 
 // R1 for the account.
-pub fn read_account(buf: &mut [u8]) -> Built
-    ensures { Builds buf.old true (on_wire (frame_of R1 ask_account)) result buf.new }
+pub fn read_account(buf: &mut [u8]) -> Result<usize, Refusal>
+    ensures { Builds buf.old true (on_wire (frame_of R1 ask_account)) (told result) buf.new }
 {
     build(buf, true, b"\x01R1\x02K(", b"")
 }
 
 // R1 for the total.
-pub fn read_total(buf: &mut [u8]) -> Built
-    ensures { Builds buf.old true (on_wire (frame_of R1 (ask_energy 0))) result buf.new }
+pub fn read_total(buf: &mut [u8]) -> Result<usize, Refusal>
+    ensures { Builds buf.old true (on_wire (frame_of R1 (ask_energy 0))) (told result) buf.new }
 {
     build(buf, true, b"\x01R1\x02E0(", b"")
 }
 
 // R1 for the total of what went out.
-pub fn read_total_out(buf: &mut [u8]) -> Built
-    ensures { Builds buf.old true (on_wire (frame_of R1 (ask_export 0))) result buf.new }
+pub fn read_total_out(buf: &mut [u8]) -> Result<usize, Refusal>
+    ensures { Builds buf.old true (on_wire (frame_of R1 (ask_export 0))) (told result) buf.new }
 {
     build(buf, true, b"\x01R1\x02G0(", b"")
 }
 
 // R1 with a letter and a zone.
-fn ask_zone(buf: &mut [u8], letter: u8, zone: ZoneNo) -> Built
-    ensures { Builds buf.old (good_zone zone.0) (on_wire (frame_of R1 (lettered letter zone.0))) result buf.new }
+fn ask_zone(buf: &mut [u8], letter: u8, zone: ZoneNo) -> Result<usize, Refusal>
+    ensures { Builds buf.old (good_zone zone.0) (on_wire (frame_of R1 (lettered letter zone.0))) (told result) buf.new }
 {
-    if buf.len() < ROOM {
-        return short();
-    }
-    if !values::is_zone(zone) {
-        return refused();
-    }
+    room(buf)?;
+    field(values::is_zone(zone))?;
     let n = zone.0;
-    frame(
+    Ok(frame(
         buf,
         &[line::SOH, b'R', b'1', line::STX, letter, b'0' + n, b'('],
         b"",
-    )
+    ))
 }
 
 // R1 for a zone's energy.
-pub fn read_zone(buf: &mut [u8], zone: ZoneNo) -> Built
-    ensures { Builds buf.old (good_zone zone.0) (on_wire (frame_of R1 (ask_energy zone.0))) result buf.new }
+pub fn read_zone(buf: &mut [u8], zone: ZoneNo) -> Result<usize, Refusal>
+    ensures { Builds buf.old (good_zone zone.0) (on_wire (frame_of R1 (ask_energy zone.0))) (told result) buf.new }
 {
     ask_zone(buf, b'E', zone)
 }
 
 // R1 for what went out in a zone.
-pub fn read_zone_out(buf: &mut [u8], zone: ZoneNo) -> Built
-    ensures { Builds buf.old (good_zone zone.0) (on_wire (frame_of R1 (ask_export zone.0))) result buf.new }
+pub fn read_zone_out(buf: &mut [u8], zone: ZoneNo) -> Result<usize, Refusal>
+    ensures { Builds buf.old (good_zone zone.0) (on_wire (frame_of R1 (ask_export zone.0))) (told result) buf.new }
 {
     ask_zone(buf, b'G', zone)
 }
 
 // R1 for a table, of so many tables.
-pub fn read_table_of(buf: &mut [u8], tables: u8, table: TableNo) -> Built
-    ensures { Builds buf.old (good_table tables table.0) (on_wire (frame_of R1 (ask_table table.0))) result buf.new }
+pub fn read_table_of(buf: &mut [u8], tables: u8, table: TableNo) -> Result<usize, Refusal>
+    ensures { Builds buf.old (good_table tables table.0) (on_wire (frame_of R1 (ask_table table.0))) (told result) buf.new }
 {
     let good = values::is_table(table, tables);
     let n = table.0;
@@ -393,23 +369,14 @@ pub fn read_table_of(buf: &mut [u8], tables: u8, table: TableNo) -> Built
     )
 }
 
-fn no_edition() -> Built
-    ensures { result ≡ record { number = 16; length = 0 } }
-{
-    Built {
-        number: NO_EDITION,
-        length: 0,
-    }
-}
-
 // R1 for a table of an edition's meter.
-pub fn read_table(buf: &mut [u8], edition: u8, table: TableNo) -> Built
-    ensures { BuildsFor edition buf.old (good_table (tables_of edition) table.0) (on_wire (frame_of R1 (ask_table table.0))) result buf.new }
+pub fn read_table(buf: &mut [u8], edition: u8, table: TableNo) -> Result<usize, Refusal>
+    ensures { BuildsFor edition buf.old (good_table (tables_of edition) table.0) (on_wire (frame_of R1 (ask_table table.0))) (told result) buf.new }
 {
-    if values::is_edition(edition) {
-        return read_table_of(buf, values::tables_of(edition), table);
+    if !values::is_edition(edition) {
+        return Err(Refusal::NoEdition);
     }
-    no_edition()
+    read_table_of(buf, values::tables_of(edition), table)
 }
 
 // The clock as it is written.
@@ -422,27 +389,20 @@ fn shown_clock(c: Clock) -> [u8; 19]
 }
 
 // W1 for the clock.
-pub fn write_clock(buf: &mut [u8], c: Clock) -> Built
-    ensures { Builds buf.old (real_clock c) (on_wire (frame_of W1 (set_clock c))) result buf.new }
+pub fn write_clock(buf: &mut [u8], c: Clock) -> Result<usize, Refusal>
+    ensures { Builds buf.old (real_clock c) (on_wire (frame_of W1 (set_clock c))) (told result) buf.new }
 {
     let good = clock::is_clock(c);
     build(buf, good, b"\x01W1\x02T(", &shown_clock(c))
 }
 
 // W1 for the account.
-pub fn write_account(buf: &mut [u8], account: &[u8]) -> Built
-    ensures { Builds buf.old (good_account account.now) (on_wire (frame_of W1 (set_account account.now))) result buf.new }
+pub fn write_account(buf: &mut [u8], account: &[u8]) -> Result<usize, Refusal>
+    ensures { Builds buf.old (good_account account.now) (on_wire (frame_of W1 (set_account account.now))) (told result) buf.new }
 {
-    if buf.len() < ROOM {
-        return short();
-    }
-    if account.len() != ACCOUNT {
-        return refused();
-    }
-    if !values::is_whole_account(account) {
-        return refused();
-    }
-    aside(buf, b"\x01W1\x02K(", account)
+    room(buf)?;
+    field(is_account(account))?;
+    Ok(aside(buf, b"\x01W1\x02K(", account))
 }
 
 // A table's number and its row, as they are written.
@@ -458,43 +418,39 @@ fn shown_table(t: TableNo, row: &[u8]) -> [u8; 27]
 }
 
 // W1 for a table, of so many tables.
-pub fn write_table_of(buf: &mut [u8], tables: u8, table: TableNo, row: &[u8]) -> Built
-    ensures { Builds buf.old (good_table tables table.0 && good_row row.now) (on_wire (frame_of W1 (set_table table.0 row.now))) result buf.new }
+pub fn write_table_of(
+    buf: &mut [u8],
+    tables: u8,
+    table: TableNo,
+    row: &[u8],
+) -> Result<usize, Refusal>
+    ensures { Builds buf.old (good_table tables table.0 && good_row row.now) (on_wire (frame_of W1 (set_table table.0 row.now))) (told result) buf.new }
 {
-    if buf.len() < ROOM {
-        return short();
-    }
-    if row.len() != values::ROW_LENGTH {
-        return refused();
-    }
-    let good = values::is_table(table, tables) & values::is_row(row);
-    if !good {
-        return refused();
-    }
-    aside(buf, b"\x01W1\x02Z(", &shown_table(table, row))
+    room(buf)?;
+    field(values::is_table(table, tables) & is_row(row))?;
+    Ok(aside(buf, b"\x01W1\x02Z(", &shown_table(table, row)))
 }
 
 // W1 for a table of an edition's meter.
-pub fn write_table(buf: &mut [u8], edition: u8, table: TableNo, row: &[u8]) -> Built
-    ensures { BuildsFor edition buf.old (good_table (tables_of edition) table.0 && good_row row.now) (on_wire (frame_of W1 (set_table table.0 row.now))) result buf.new }
+pub fn write_table(
+    buf: &mut [u8],
+    edition: u8,
+    table: TableNo,
+    row: &[u8],
+) -> Result<usize, Refusal>
+    ensures { BuildsFor edition buf.old (good_table (tables_of edition) table.0 && good_row row.now) (on_wire (frame_of W1 (set_table table.0 row.now))) (told result) buf.new }
 {
-    if values::is_edition(edition) {
-        return write_table_of(buf, values::tables_of(edition), table, row);
+    if !values::is_edition(edition) {
+        return Err(Refusal::NoEdition);
     }
-    no_edition()
+    write_table_of(buf, values::tables_of(edition), table, row)
 }
 
 // B0, the end of a session.
-pub fn sign_off(buf: &mut [u8]) -> Built
-    ensures { Builds buf.old true (on_wire (bare_frame B0)) result buf.new }
+pub fn sign_off(buf: &mut [u8]) -> Result<usize, Refusal>
+    ensures { Builds buf.old true (on_wire (bare_frame B0)) (told result) buf.new }
 {
-    if buf.len() < ROOM {
-        return short();
-    }
+    room(buf)?;
     let a = text::put(buf, 0, b"\x01B0");
-    let n = frames::seal(buf, a);
-    Built {
-        number: DONE,
-        length: n,
-    }
+    Ok(frames::seal(buf, a))
 }

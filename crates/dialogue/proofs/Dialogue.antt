@@ -25,8 +25,7 @@ use Rattle.state.specs.Link.{link_of, is_wired}
 use Rattle.state.proofs.Parts.{rest-low}
 use Rattle.meter.specs.Link.{slow_too}
 use Rattle.meter.specs.Outcomes.{Outcome}
-use Rattle.commands.specs.declared.Built.{Built}
-use Rattle.commands.specs.Building.{good_choice, built_in, kept_or, Builds}
+use Rattle.commands.specs.Building.{Built, good_choice, built_in, kept_or, Builds}
 use Rattle.commands.specs.Spoken.{Command, enter, password, read_clock, read_serial, read_account, read_total, read_zone, read_total_out, read_zone_out, read_table, write_clock, write_account, write_table, spoken}
 use Rattle.dialogue.specs.Feeding.{said_in, at_last}
 use Rattle.commands.specs.Messages.{Message, call, close, call_to, call_wired, confirm, command, leave, text_of, good_message}

@@ -6,19 +6,34 @@ ghost use Rattle.values.specs.Registers.{good_serial, good_password, good_accoun
 ghost use Rattle.frames.specs.Frames.{frame_of, bare_frame, on_wire};
 ghost use Rattle.frames.specs.Commands.{B0, P1, R1, W1, ask_clock, ask_serial, ask_account, ask_energy, ask_export, ask_table, set_clock, set_account, set_table};
 ghost use Rattle.frames.specs.Session.{sign_on, closing_sign_on, sign_on_to, wired_sign_on, confirmation, good_speed, enter_data, password_data};
-ghost use Rattle.commands.specs.Building.{good_choice, Builds, BuildsFor};
+ghost use Rattle.commands.specs.Building.{good_choice, told, Builds, BuildsFor};
 
 use clock::{Clock, Date, Time};
+use commands::Refusal;
 use values::{TableNo, ZoneNo};
+
+// The length goes to its number, and 1 or the number of a refusal is the answer.
+fn answer(built: Result<usize, Refusal>, size: &mut usize) -> u8
+    ensures { record { number = result; length = size.new } ≡ told built }
+{
+    match built {
+        Ok(n) => {
+            *size = n;
+            commands::DONE
+        }
+        Err(refusal) => {
+            *size = 0;
+            refusal.number()
+        }
+    }
+}
 
 // The sign-on to any meter.
 #[unsafe(no_mangle)]
 pub extern "C" fn dirgemist_head_sign_on(out: &mut [u8], size: &mut usize) -> u8
     ensures { Builds out.old (true) (on_wire sign_on) (record { number = result; length = size.new }) out.new }
 {
-    let b = commands::sign_on(out);
-    *size = b.length;
-    b.number
+    answer(commands::sign_on(out), size)
 }
 
 // The sign-on that closes a period.
@@ -26,9 +41,7 @@ pub extern "C" fn dirgemist_head_sign_on(out: &mut [u8], size: &mut usize) -> u8
 pub extern "C" fn dirgemist_head_close(out: &mut [u8], size: &mut usize) -> u8
     ensures { Builds out.old (true) (on_wire closing_sign_on) (record { number = result; length = size.new }) out.new }
 {
-    let b = commands::close(out);
-    *size = b.length;
-    b.number
+    answer(commands::close(out), size)
 }
 
 // The sign-on to the meter of a serial.
@@ -36,9 +49,7 @@ pub extern "C" fn dirgemist_head_close(out: &mut [u8], size: &mut usize) -> u8
 pub extern "C" fn dirgemist_head_sign_on_to(serial: &[u8], out: &mut [u8], size: &mut usize) -> u8
     ensures { Builds out.old (good_serial serial.now) (on_wire (sign_on_to serial.now)) (record { number = result; length = size.new }) out.new }
 {
-    let b = commands::sign_on_to(out, serial);
-    *size = b.length;
-    b.number
+    answer(commands::sign_on_to(out, serial), size)
 }
 
 // The sign-on on the wired link.
@@ -50,9 +61,7 @@ pub extern "C" fn dirgemist_head_sign_on_wired(
 ) -> u8
     ensures { Builds out.old (good_serial serial.now) (on_wire (wired_sign_on serial.now)) (record { number = result; length = size.new }) out.new }
 {
-    let b = commands::sign_on_wired(out, serial);
-    *size = b.length;
-    b.number
+    answer(commands::sign_on_wired(out, serial), size)
 }
 
 // The confirmation, at 300 baud or 9600.
@@ -65,9 +74,7 @@ pub extern "C" fn dirgemist_head_confirm(
 ) -> u8
     ensures { Builds out.old (good_speed speed && good_choice choice) (on_wire (confirmation speed choice)) (record { number = result; length = size.new }) out.new }
 {
-    let b = commands::confirm(out, speed, choice);
-    *size = b.length;
-    b.number
+    answer(commands::confirm(out, speed, choice), size)
 }
 
 // P1 with empty brackets.
@@ -75,9 +82,7 @@ pub extern "C" fn dirgemist_head_confirm(
 pub extern "C" fn dirgemist_head_enter(out: &mut [u8], size: &mut usize) -> u8
     ensures { Builds out.old (true) (on_wire (frame_of P1 enter_data)) (record { number = result; length = size.new }) out.new }
 {
-    let b = commands::enter(out);
-    *size = b.length;
-    b.number
+    answer(commands::enter(out), size)
 }
 
 // P1 with a password.
@@ -85,9 +90,7 @@ pub extern "C" fn dirgemist_head_enter(out: &mut [u8], size: &mut usize) -> u8
 pub extern "C" fn dirgemist_head_password(password: &[u8], out: &mut [u8], size: &mut usize) -> u8
     ensures { Builds out.old (good_password password.now) (on_wire (frame_of P1 (password_data password.now))) (record { number = result; length = size.new }) out.new }
 {
-    let b = commands::password(out, password);
-    *size = b.length;
-    b.number
+    answer(commands::password(out, password), size)
 }
 
 // R1 for the clock.
@@ -95,9 +98,7 @@ pub extern "C" fn dirgemist_head_password(password: &[u8], out: &mut [u8], size:
 pub extern "C" fn dirgemist_head_read_clock(out: &mut [u8], size: &mut usize) -> u8
     ensures { Builds out.old (true) (on_wire (frame_of R1 ask_clock)) (record { number = result; length = size.new }) out.new }
 {
-    let b = commands::read_clock(out);
-    *size = b.length;
-    b.number
+    answer(commands::read_clock(out), size)
 }
 
 // R1 for the serial.
@@ -105,9 +106,7 @@ pub extern "C" fn dirgemist_head_read_clock(out: &mut [u8], size: &mut usize) ->
 pub extern "C" fn dirgemist_head_read_serial(out: &mut [u8], size: &mut usize) -> u8
     ensures { Builds out.old (true) (on_wire (frame_of R1 ask_serial)) (record { number = result; length = size.new }) out.new }
 {
-    let b = commands::read_serial(out);
-    *size = b.length;
-    b.number
+    answer(commands::read_serial(out), size)
 }
 
 // R1 for the account.
@@ -115,9 +114,7 @@ pub extern "C" fn dirgemist_head_read_serial(out: &mut [u8], size: &mut usize) -
 pub extern "C" fn dirgemist_head_read_account(out: &mut [u8], size: &mut usize) -> u8
     ensures { Builds out.old (true) (on_wire (frame_of R1 ask_account)) (record { number = result; length = size.new }) out.new }
 {
-    let b = commands::read_account(out);
-    *size = b.length;
-    b.number
+    answer(commands::read_account(out), size)
 }
 
 // R1 for the total.
@@ -125,9 +122,7 @@ pub extern "C" fn dirgemist_head_read_account(out: &mut [u8], size: &mut usize) 
 pub extern "C" fn dirgemist_head_read_total(out: &mut [u8], size: &mut usize) -> u8
     ensures { Builds out.old (true) (on_wire (frame_of R1 (ask_energy 0))) (record { number = result; length = size.new }) out.new }
 {
-    let b = commands::read_total(out);
-    *size = b.length;
-    b.number
+    answer(commands::read_total(out), size)
 }
 
 // R1 for a zone's energy.
@@ -135,9 +130,7 @@ pub extern "C" fn dirgemist_head_read_total(out: &mut [u8], size: &mut usize) ->
 pub extern "C" fn dirgemist_head_read_zone(zone: u8, out: &mut [u8], size: &mut usize) -> u8
     ensures { Builds out.old (good_zone zone) (on_wire (frame_of R1 (ask_energy zone))) (record { number = result; length = size.new }) out.new }
 {
-    let b = commands::read_zone(out, ZoneNo(zone));
-    *size = b.length;
-    b.number
+    answer(commands::read_zone(out, ZoneNo(zone)), size)
 }
 
 // R1 for the total of what went out.
@@ -145,9 +138,7 @@ pub extern "C" fn dirgemist_head_read_zone(zone: u8, out: &mut [u8], size: &mut 
 pub extern "C" fn dirgemist_head_read_total_out(out: &mut [u8], size: &mut usize) -> u8
     ensures { Builds out.old (true) (on_wire (frame_of R1 (ask_export 0))) (record { number = result; length = size.new }) out.new }
 {
-    let b = commands::read_total_out(out);
-    *size = b.length;
-    b.number
+    answer(commands::read_total_out(out), size)
 }
 
 // R1 for what went out in a zone.
@@ -155,9 +146,7 @@ pub extern "C" fn dirgemist_head_read_total_out(out: &mut [u8], size: &mut usize
 pub extern "C" fn dirgemist_head_read_zone_out(zone: u8, out: &mut [u8], size: &mut usize) -> u8
     ensures { Builds out.old (good_zone zone) (on_wire (frame_of R1 (ask_export zone))) (record { number = result; length = size.new }) out.new }
 {
-    let b = commands::read_zone_out(out, ZoneNo(zone));
-    *size = b.length;
-    b.number
+    answer(commands::read_zone_out(out, ZoneNo(zone)), size)
 }
 
 // R1 for a table of an edition's meter.
@@ -170,9 +159,7 @@ pub extern "C" fn dirgemist_head_read_table(
 ) -> u8
     ensures { BuildsFor edition out.old (good_table (tables_of edition) table) (on_wire (frame_of R1 (ask_table table))) (record { number = result; length = size.new }) out.new }
 {
-    let b = commands::read_table(out, edition, TableNo(table));
-    *size = b.length;
-    b.number
+    answer(commands::read_table(out, edition, TableNo(table)), size)
 }
 
 // W1 for the clock.
@@ -197,9 +184,7 @@ pub extern "C" fn dirgemist_head_write_clock(
             second,
         },
     };
-    let b = commands::write_clock(out, c);
-    *size = b.length;
-    b.number
+    answer(commands::write_clock(out, c), size)
 }
 
 // W1 for the account.
@@ -211,9 +196,7 @@ pub extern "C" fn dirgemist_head_write_account(
 ) -> u8
     ensures { Builds out.old (good_account account.now) (on_wire (frame_of W1 (set_account account.now))) (record { number = result; length = size.new }) out.new }
 {
-    let b = commands::write_account(out, account);
-    *size = b.length;
-    b.number
+    answer(commands::write_account(out, account), size)
 }
 
 // W1 for a table of an edition's meter.
@@ -227,9 +210,10 @@ pub extern "C" fn dirgemist_head_write_table(
 ) -> u8
     ensures { BuildsFor edition out.old (good_table (tables_of edition) table && good_row row.now) (on_wire (frame_of W1 (set_table table row.now))) (record { number = result; length = size.new }) out.new }
 {
-    let b = commands::write_table(out, edition, TableNo(table), row);
-    *size = b.length;
-    b.number
+    answer(
+        commands::write_table(out, edition, TableNo(table), row),
+        size,
+    )
 }
 
 // B0.
@@ -237,7 +221,5 @@ pub extern "C" fn dirgemist_head_write_table(
 pub extern "C" fn dirgemist_head_sign_off(out: &mut [u8], size: &mut usize) -> u8
     ensures { Builds out.old (true) (on_wire (bare_frame B0)) (record { number = result; length = size.new }) out.new }
 {
-    let b = commands::sign_off(out);
-    *size = b.length;
-    b.number
+    answer(commands::sign_off(out), size)
 }

@@ -21,11 +21,10 @@ use Rattle.values.specs.Texts.{serial_text, wired_text, table_text, clock_text}
 use Rattle.frames.specs.Frames.{closed, frame_of, bare_frame}
 use Rattle.frames.specs.Commands.{bracketed, ask_clock, ask_serial, ask_account, ask_energy, ask_export, ask_table, set_clock, set_account, set_table}
 use Rattle.frames.specs.Session.{sign_on, closing_sign_on, sign_on_to, wired_line, confirmation, good_speed, enter_data, password_data}
-use Rattle.commands.specs.declared.Built.{Built}
-use Rattle.commands.specs.Building.{good_choice, built_in, kept_or}
+use Rattle.commands.specs.Building.{Built, good_choice, built_in, kept_or}
 use Rattle.mistakes.specs.Samples.{serial, password}
-use Rattle.mistakes.specs.Commands.{NotAnswered, NotLeft, NotFor, broken, Commands}
-use Rattle.mistakes.proofs.Differing.{seen, byte}
+use Rattle.mistakes.specs.Commands.{NotAnswered, NotLeft, NotFor, broken, Refusals, Commands}
+use Rattle.mistakes.proofs.Differing.{seen, number, byte}
 
 -- by the number, by the length, by a byte of the buffer
 by_number : {buf : List ℕ} {ok : Bool} {command : List ℕ} {number size : ℕ} → eqb number (built_in buf ok command).number ≡ false → NotAnswered buf ok command number size
@@ -43,6 +42,9 @@ for_some is n after b = n after (b.some is)
 
 for-none : {edition : ℕ} {buf : List ℕ} {ok : Bool} {command : List ℕ} {number size : ℕ} → is_edition edition ≡ false → eqb number 16 ≡ false → NotFor edition buf ok command number size
 for-none is e after b = seen (λ (r : Built). r.number) e (b.none is).0
+
+pub refusals : Refusals
+refusals = record { number = (number refl, number refl) }
 
 pub commands : Commands
 unfolding ones seven sent bcc_of every holding between is_digit is_letter decimal layout_text leap thirty days_in real_date real_time real_clock good_digits is_account_character good_account is_edition tables_of good_row good_table good_zone serial_text wired_text table_text clock_text closed frame_of bare_frame bracketed ask_clock ask_serial ask_account ask_energy ask_export ask_table set_clock set_account set_table sign_on closing_sign_on sign_on_to wired_line confirmation good_speed enter_data password_data good_choice built_in kept_or serial password broken

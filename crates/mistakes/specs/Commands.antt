@@ -9,8 +9,9 @@ use Rattle.frames.specs.Frames.{frame_of, bare_frame, on_wire}
 use Rattle.frames.specs.Commands.{B0, P0, P1, R1, W1, bracketed, ask_clock, ask_serial, ask_account, ask_energy, ask_export, ask_table, set_clock, set_account, set_table}
 use Rattle.values.specs.Texts.{serial_text}
 use Rattle.frames.specs.Session.{sign_on, closing_sign_on, sign_on_to, wired_sign_on, confirmation, good_speed, enter_data, password_data}
-use Rattle.commands.specs.declared.Built.{Built}
-use Rattle.commands.specs.Building.{good_choice, Builds, BuildsFor}
+use Rattle.commands.specs.Building.{Built, number_of, good_choice, Builds, BuildsFor}
+use Rattle.commands.specs.declared.Refusal.TheVariants.{Field, Short}
+use Rattle.mistakes.specs.RuledOut.{RuledOut}
 use Rattle.mistakes.specs.Samples.{clock_at, serial, password}
 
 -- a builder never answers so, whatever it leaves in the buffer
@@ -31,6 +32,11 @@ room = replicate 64 0
 -- 24 characters, the last of them a bracket
 unfoldable pub broken : List ℕ
 broken = replicate 23 49 ++ (chars ")")
+
+-- of `commands::Refusal`
+pub record Refusals : Type 0 where
+  -- 18 for a short buffer; 19 for a field
+  pub number : RuledOut (number_of Short) 18 × RuledOut (number_of Field) 19
 
 -- of `commands`
 pub record Commands : Type 0 where

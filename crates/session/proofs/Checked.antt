@@ -1,13 +1,13 @@
 -- What the check of a post says, taken apart; and how many lines a post has. Assumes nothing.
-use mathlib.Core.Path.{◌≡◌, refl, sym, ap, subst, ◌∙◌}
-use mathlib.Core.Logic.{◌⊎◌, inl, inr}
-use mathlib.Core.Bool.{true, false}
+use mathlib.Core.Path.{◌≡◌, refl, sym, ap, ◌∙◌}
+use mathlib.Core.Logic.{inl, inr}
+use mathlib.Core.Bool.{true}
 use mathlib.Core.List.{List, [], ◌∷◌}
-use Prim.Native.Nat.{ℕ, ◌+◌, ◌*◌, ◌/◌, ◌%◌, ◌≤◌, ◌<◌}
+use Prim.Native.Nat.{ℕ, ◌+◌, ◌*◌, ◌/◌, ◌%◌, ◌<◌}
 use native.Mathlib.Omega.{arith}
 use lib.ListN.{length}
-use Rattle.post.specs.Grammar.{Entry, rising, good_entries, post_text, IsPost}
-use Rattle.post.specs.Place.{Accepted, Refused, CheckedAs}
+use Rattle.post.specs.Grammar.{Entry, rising, good_entries, IsPost}
+use Rattle.post.specs.Place.{Refused, CheckedAs}
 use Rattle.post.proofs.Reading.{length-post, count_entries}
 
 pub not-post : (tables : ℕ) (text : List ℕ) (number place : ℕ) → CheckedAs tables text number place → (number ≡ 1 → ⊥) → Refused tables text number place

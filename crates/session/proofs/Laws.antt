@@ -5,19 +5,20 @@ use mathlib.Core.List.{List}
 use Prim.Native.Nat.{ℕ, ◌+◌, ◌≤◌}
 use native.Mathlib.Omega.{arith}
 use borrow.Author.Tests.{leb-true, le-ltb, eqb-true}
-use lib.Dec.{eqb, leb, ltb}
+use lib.Dec.{eqb, leb}
 use lib.ListN.{length, replicate}
 use Rattle.line.proofs.Runs.{and_left, and_right}
 use Rattle.text.specs.Writing.{holding}
-use Rattle.text.specs.Classes.{between}
 use Rattle.values.specs.Edition.{tables_of}
 use Rattle.values.specs.Family.{is_eqm}
 use Rattle.values.specs.Registers.{good_serial, good_password, good_zone}
-use Rattle.commands.specs.Spoken.{Command, read_total, read_zone, read_total_out, read_zone_out, good_fields}
+use Rattle.commands.specs.Spoken.{read_total, read_zone, read_total_out, read_zone_out, good_fields}
 use Rattle.values.proofs.Rules.{digits_long}
 use Rattle.commands.specs.Messages.{call, call_to, good_message}
-use Rattle.commands.specs.Building.{built_in, kept_or, Builds}
-use Rattle.commands.specs.declared.Built.{Built}
+use Rattle.std.specs.Prelude.{Result, Ok, Err, IsOk}
+use Rattle.commands.specs.declared.Refusal.{Refusal}
+use Rattle.commands.specs.declared.Refusal.TheVariants.{Field, NoEdition, Short}
+use Rattle.commands.specs.Building.{Built, number_of, told, built_in, kept_or, Builds}
 use Rattle.session.proofs.Pairs.{and-all}
 use Rattle.session.specs.declared.Session.{Session}
 use Rattle.session.specs.Messages.{calling, read_of}
@@ -82,6 +83,32 @@ module _ (buf command after : List ℕ) (good : Bool) (r : Built) (b : Builds bu
   built-not h =
       let e = is-not good refl h in
       (e, rw e at held-is)
+
+not_one : (e : Refusal) → number_of e ≡ 1 → ⊥
+not_one Field h = omega arith
+not_one NoEdition h = omega arith
+not_one Short h = omega arith
+
+ok-or : (r : Result ℕ Refusal) → (told r).number ≡ 1 → IsOk r
+ok-or (Ok n) h = refl
+ok-or (Err e) h = absurd (not_one e h)
+
+-- the same of what the builder returns
+module _ (buf command after : List ℕ) (good : Bool) (r : Result ℕ Refusal) (b : Builds buf good command (told r) after) (room : 64 ≤ length buf) where
+  pub ok-done : (n : ℕ) → r ≡ Ok n → (good ≡ true) × ((n ≡ length command) × (after ≡ holding buf command))
+  ok-done n e =
+      let w = built-done buf command after good (told r) b room (ap (λ (x : Result ℕ Refusal). (told x).number) e) in
+      (w.0, (sym (ap (λ (x : Result ℕ Refusal). (told x).length) e) ∙ w.1.0, w.1.1))
+
+  pub err-not : ((n : ℕ) → r ≡ Ok n → ⊥) → (good ≡ false) × (after ≡ buf)
+  err-not never = built-not buf command after good (told r) b room (λ h. not_ok r never (ok-or r h))
+    where
+      not_ok : (x : Result ℕ Refusal) → ((n : ℕ) → x ≡ Ok n → ⊥) → IsOk x → ⊥
+      not_ok (Ok n) never h = never n refl
+      not_ok (Err e) never h = cc
+
+  pub good-ok : good ≡ true → IsOk r
+  good-ok e = ok-or r (settled buf command after good (told r) b room true e)
 
 -- an energy is the total or a zone
 pub energy-good : (tables family n : ℕ) (b : Bool) → (b || good_zone n) ≡ good_fields tables family (cond b read_total (read_zone n))

@@ -1,5 +1,5 @@
 -- Request [7]: what a session is told, and how it starts. 16, 18, 28, 29, 20, 30 and 9 in this order, before anything is sent.
-use Rattle.std.specs.Prelude.{◌≡◌, Bool, true, false, cond, ◌&&◌, List, [], ℕ, ◌-◌, ◌/◌, ◌≤◌, ◌<◌, eqb, ltb, length, replicate}
+use Rattle.std.specs.Prelude.{◌≡◌, Bool, true, false, cond, ◌&&◌, List, [], ℕ, ◌/◌, ◌≤◌, ◌<◌, eqb, ltb, length, replicate}
 use Rattle.text.specs.Writing.{holding}
 use Rattle.values.specs.Edition.{is_edition, tables_of}
 use Rattle.values.specs.Family.{is_family}

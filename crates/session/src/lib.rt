@@ -59,7 +59,7 @@ pub fn hear(s: Session, work: &[u8], reply: &[u8], buf: &mut [u8]) -> Step
     ensures held { buf.new ≡ holding buf.old (on_wire (replied s work.now reply.now (length buf.old)).text) }
 {
     if buf.len() < commands::ROOM {
-        return turning::refuse(commands::SHORT, s);
+        return turning::refuse(19, s);
     }
     if !standing::is_good(s) {
         return turning::refuse(NO_SESSION, s);

@@ -4,11 +4,11 @@ ghost use Rattle.values.specs.Edition.{tables_of};
 ghost use Rattle.frames.specs.Frames.{on_wire};
 ghost use Rattle.commands.specs.Spoken.{good_fields, spoken};
 ghost use Rattle.commands.specs.Messages.{text_of, good_message};
-ghost use Rattle.commands.specs.Building.{Builds};
+ghost use Rattle.commands.specs.Building.{told, Builds};
 ghost use Rattle.session.specs.Messages.{calling, entering, read_of, read_at, whole_line, row_in, row_at, work_at, message_at};
 
 use crate::Session;
-use commands::Built;
+use commands::Refusal;
 use values::{TableNo, ZoneNo};
 
 // How long a post's line is, and where its number, its bracket, its row and its end stand.
@@ -23,8 +23,8 @@ const ROW: usize = 9;
 const CLOSING: usize = 33;
 
 // The sign-on.
-pub fn call(s: Session, buf: &mut [u8]) -> Built
-    ensures { Builds buf.old (good_message (tables_of s.edition) s.decimals (calling s)) (on_wire (text_of (calling s))) result buf.new }
+pub fn call(s: Session, buf: &mut [u8]) -> Result<usize, Refusal>
+    ensures { Builds buf.old (good_message (tables_of s.edition) s.decimals (calling s)) (on_wire (text_of (calling s))) (told result) buf.new }
 {
     if s.named == 1 {
         let serial = s.serial;
@@ -34,8 +34,8 @@ pub fn call(s: Session, buf: &mut [u8]) -> Built
 }
 
 // The password or `()`.
-fn enter(s: Session, buf: &mut [u8]) -> Built
-    ensures { Builds buf.old (good_message (tables_of s.edition) s.decimals (entering s)) (on_wire (text_of (entering s))) result buf.new }
+fn enter(s: Session, buf: &mut [u8]) -> Result<usize, Refusal>
+    ensures { Builds buf.old (good_message (tables_of s.edition) s.decimals (entering s)) (on_wire (text_of (entering s))) (told result) buf.new }
 {
     if s.access == 1 {
         let password = s.password;
@@ -45,8 +45,8 @@ fn enter(s: Session, buf: &mut [u8]) -> Built
 }
 
 // R1 of an energy; 0 is the total.
-fn read_energy(tables: u8, family: u8, n: u8, buf: &mut [u8]) -> Built
-    ensures { Builds buf.old (good_fields tables family (read_of 69 n)) (on_wire (spoken (read_of 69 n))) result buf.new }
+fn read_energy(tables: u8, family: u8, n: u8, buf: &mut [u8]) -> Result<usize, Refusal>
+    ensures { Builds buf.old (good_fields tables family (read_of 69 n)) (on_wire (spoken (read_of 69 n))) (told result) buf.new }
 {
     if n == 0 {
         return commands::read_total(buf);
@@ -55,8 +55,8 @@ fn read_energy(tables: u8, family: u8, n: u8, buf: &mut [u8]) -> Built
 }
 
 // R1 of what went out, which a meter of document 01's family does not tell.
-fn read_export(tables: u8, family: u8, n: u8, buf: &mut [u8]) -> Built
-    ensures { Builds buf.old (good_fields tables family (read_of 71 n)) (on_wire (spoken (read_of 71 n))) result buf.new }
+fn read_export(tables: u8, family: u8, n: u8, buf: &mut [u8]) -> Result<usize, Refusal>
+    ensures { Builds buf.old (good_fields tables family (read_of 71 n)) (on_wire (spoken (read_of 71 n))) (told result) buf.new }
 {
     if family == 0 {
         return commands::read_zone_out(buf, ZoneNo(0));
@@ -68,8 +68,8 @@ fn read_export(tables: u8, family: u8, n: u8, buf: &mut [u8]) -> Built
 }
 
 // A read of a letter and its number.
-fn read(tables: u8, family: u8, letter: u8, n: u8, buf: &mut [u8]) -> Built
-    ensures { Builds buf.old (good_fields tables family (read_of letter n)) (on_wire (spoken (read_of letter n))) result buf.new }
+fn read(tables: u8, family: u8, letter: u8, n: u8, buf: &mut [u8]) -> Result<usize, Refusal>
+    ensures { Builds buf.old (good_fields tables family (read_of letter n)) (on_wire (spoken (read_of letter n))) (told result) buf.new }
 {
     if letter == b'T' {
         return commands::read_clock(buf);
@@ -101,8 +101,8 @@ fn is_whole(s: &[u8]) -> bool
 }
 
 // The write of a post's line.
-fn write_row(tables: u8, family: u8, s: &[u8], buf: &mut [u8]) -> Built
-    ensures { Builds buf.old (good_fields tables family (row_in tables s.now)) (on_wire (spoken (row_in tables s.now))) result buf.new }
+fn write_row(tables: u8, family: u8, s: &[u8], buf: &mut [u8]) -> Result<usize, Refusal>
+    ensures { Builds buf.old (good_fields tables family (row_in tables s.now)) (on_wire (spoken (row_in tables s.now))) (told result) buf.new }
 {
     if !is_whole(s) {
         return commands::write_table_of(buf, tables, TableNo(0), b"");
@@ -118,8 +118,8 @@ fn write_row(tables: u8, family: u8, s: &[u8], buf: &mut [u8]) -> Built
 }
 
 // One message of the work.
-fn work_at(s: Session, work: &[u8], i: u8, buf: &mut [u8]) -> Built
-    ensures { Builds buf.old (good_fields (tables_of s.edition) s.decimals (work_at s work.now i)) (on_wire (spoken (work_at s work.now i))) result buf.new }
+fn work_at(s: Session, work: &[u8], i: u8, buf: &mut [u8]) -> Result<usize, Refusal>
+    ensures { Builds buf.old (good_fields (tables_of s.edition) s.decimals (work_at s work.now i)) (on_wire (spoken (work_at s work.now i))) (told result) buf.new }
 {
     let tables = values::tables_of(s.edition);
     if s.work == 1 {
@@ -141,9 +141,9 @@ fn work_at(s: Session, work: &[u8], i: u8, buf: &mut [u8]) -> Built
 }
 
 // The message of a number, the sign-on being 1.
-pub fn build(s: Session, work: &[u8], n: u8, buf: &mut [u8]) -> Built
+pub fn build(s: Session, work: &[u8], n: u8, buf: &mut [u8]) -> Result<usize, Refusal>
     requires { s.count ≤ 32 }
-    ensures { Builds buf.old (good_message (tables_of s.edition) s.decimals (message_at s work.now n)) (on_wire (text_of (message_at s work.now n))) result buf.new }
+    ensures { Builds buf.old (good_message (tables_of s.edition) s.decimals (message_at s work.now n)) (on_wire (text_of (message_at s work.now n))) (told result) buf.new }
 {
     if n == 1 {
         return call(s, buf);

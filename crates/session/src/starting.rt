@@ -167,11 +167,11 @@ fn begin(
         edition,
         decimals,
     };
-    let built = messages::call(s, buf);
+    let length = messages::call(s, buf).unwrap();
     Started {
         number: 1,
         place: 0,
-        length: built.length,
+        length,
         session: s,
     }
 }
@@ -253,13 +253,13 @@ pub fn start(
     ensures { Starts (told_of edition decimals named serial.now access password.now kind) work.now buf.old result buf.new }
 {
     if !values::is_edition(edition) {
-        return refuse(commands::NO_EDITION, 0);
+        return refuse(16, 0);
     }
     if !values::family::is_family(decimals) {
         return refuse(NO_FAMILY, 0);
     }
     if buf.len() < commands::ROOM {
-        return refuse(commands::SHORT, 0);
+        return refuse(19, 0);
     }
     if kind == 0 {
         return open_reads(
@@ -267,7 +267,7 @@ pub fn start(
         );
     }
     if kind != 1 {
-        return refuse(commands::FIELD, 0);
+        return refuse(9, 0);
     }
     let checked = post::check(edition, work);
     let number = checked.number;

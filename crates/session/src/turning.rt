@@ -98,15 +98,14 @@ fn go_on(s: Session, work: &[u8], buf: &mut [u8]) -> Step
         return end(s, 1);
     }
     let n = s.sent + 1;
-    let built = messages::build(s, work, n, buf);
-    if built.number != commands::DONE {
+    let Ok(length) = messages::build(s, work, n, buf) else {
         return refuse(crate::NO_SESSION, s);
-    }
+    };
     Step {
         number: 1,
         fact: 0,
         message: n,
-        length: built.length,
+        length,
         next: stand(s, n, 0),
     }
 }

@@ -1,20 +1,21 @@
 -- `commands::confirm` meets its contract: too short a buffer, a field outside its rule, or the command as it was made. Assumes nothing.
-use borrow.Author.Tests.{not-true, not-false}
-use borrow.Author.Rules.{rules}
+use Rattle.std.proofs.lemmas.Result.{err_from_is_err_and}
+use Rattle.commands.proofs.Making.{too_short, built, field-refused}
 use Rattle.commands.specs.Building.{good_choice}
 use Rattle.frames.specs.Session.{confirmation, good_speed}
-use Rattle.commands.proofs.Making.{too_short, built, field-refused}
 use Rattle.commands.proofs.confirm.Goals as goal
 
-pub returns-then-buf-lt-ROOM : goal.returns-then-buf-lt-ROOM
-returns-then-buf-lt-ROOM c =
-    too_short _ _ _ _ c.if-buf-lt-ROOM.true c.short.ensures
+pub returns-in_err-room : goal.returns-in_err-room
+returns-in_err-room c =
+    let p = err_from_is_err_and c.from_residual.result c.from_residual.ensures.1 in
+    rw (p.1, p.2) (too_short _ _ _ _ c.in_err-room.ensures.err)
 
-pub returns-then-not-good : goal.returns-then-not-good
+pub returns-in_err-field : goal.returns-in_err-field
 unfolding good_speed good_choice
-returns-then-not-good c =
-    field-refused _ _ _ _ c.if-buf-lt-ROOM.false c.if-not-good.true c.refused.ensures
+returns-in_err-field c =
+    let p = err_from_is_err_and c.from_residual-in_err-field.result c.from_residual-in_err-field.ensures.1 in
+    rw (p.1, p.2) (field-refused _ _ _ _ c.in_ok-room.ensures.ok c.in_err-field.ensures.err.0 c.in_err-field.ensures.err.1)
 
 pub returns : goal.returns
 unfolding confirmation good_speed good_choice
-returns c = built _ _ _ _ _ c.if-buf-lt-ROOM.false c.if-not-good.false c.line_of.ensures
+returns c = built _ _ _ _ _ c.in_ok-room.ensures.ok c.in_ok-field.ensures.ok c.line_of.ensures

@@ -1,5 +1,4 @@
 -- `commands::enter` meets its contract: what is built is P1 with empty brackets. Assumes nothing.
-use borrow.Author.Rules.{rules}
 use Rattle.frames.specs.Commands.{bracketed}
 use Rattle.frames.specs.Session.{enter_data}
 use Rattle.frames.specs.Frames.{frame_of, sealed}

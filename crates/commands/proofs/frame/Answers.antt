@@ -2,10 +2,9 @@
 use mathlib.Core.List.{List, [], ◌∷◌}
 use Prim.Native.Nat.{ℕ}
 use native.Mathlib.Omega.{arith}
-use borrow.Author.Rules.{rules}
 use Rattle.commands.proofs.Making.{three, frame-of-three}
 use Rattle.commands.proofs.frame.Goals as goal
 
 pub returns : goal.returns
 returns c =
-    let a = c.args in let u : List ℕ = 41 ∷ [] in let k = three a.buf.now a.start.now a.content.now u _ _ _ _ _ _ c.put-a.ensures.next c.put-a.ensures.held c.put-b.ensures.next c.put-b.ensures.held c.put-c.ensures.next c.put-c.ensures.held in frame-of-three a.buf.now a.start.now a.content.now u _ _ _ _ k c.requires.begun (omega (arith, c.requires)) c.seal-n.ensures.whole c.seal-n.ensures.held
+    let a = c.args in let u : List ℕ = 41 ∷ [] in let k = three a.buf.now a.start.now a.content.now u _ _ _ _ _ _ c.put-a.ensures.next c.put-a.ensures.held c.put-b.ensures.next c.put-b.ensures.held c.put-c.ensures.next c.put-c.ensures.held in frame-of-three a.buf.now a.start.now a.content.now u _ _ _ _ k c.requires.begun (omega (arith, c.requires)) c.seal.ensures.whole c.seal.ensures.held

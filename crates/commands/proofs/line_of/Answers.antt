@@ -1,6 +1,5 @@
 -- `commands::line_of` meets its contract: three texts one after the other, then parity on all of them. Assumes nothing.
 use native.Mathlib.Omega.{arith}
-use borrow.Author.Rules.{rules}
 use Rattle.commands.proofs.Making.{three, line-of-three}
 use Rattle.commands.proofs.line_of.Goals as goal
 

@@ -1,5 +1,4 @@
 -- `commands::read_account` meets its contract: what is built is the frame that asks for the account. Assumes nothing.
-use borrow.Author.Rules.{rules}
 use Rattle.frames.specs.Commands.{ask_account, bracketed}
 use Rattle.frames.specs.Frames.{frame_of, sealed}
 use Rattle.commands.proofs.read_account.Goals as goal

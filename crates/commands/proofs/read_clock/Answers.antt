@@ -1,5 +1,4 @@
 -- `commands::read_clock` meets its contract: what is built is the frame that asks for the clock. Assumes nothing.
-use borrow.Author.Rules.{rules}
 use Rattle.frames.specs.Commands.{ask_clock, bracketed}
 use Rattle.frames.specs.Frames.{frame_of, sealed}
 use Rattle.commands.proofs.read_clock.Goals as goal

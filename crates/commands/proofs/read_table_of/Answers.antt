@@ -1,5 +1,4 @@
 -- `commands::read_table_of` meets its contract: a table number in the brackets of R1. Assumes nothing.
-use borrow.Author.Rules.{rules}
 use Rattle.text.specs.Decimal.{decimal}
 use Rattle.text.specs.Layout.{layout_text}
 use Rattle.values.specs.Texts.{table_text}

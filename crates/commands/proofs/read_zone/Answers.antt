@@ -1,5 +1,4 @@
 -- `commands::read_zone` meets its contract: the letter is E. Assumes nothing.
-use borrow.Author.Rules.{rules}
 use Rattle.frames.specs.Commands.{ask_energy}
 use Rattle.commands.proofs.read_zone.Goals as goal
 

@@ -1,5 +1,4 @@
 -- `commands::read_zone_out` meets its contract: the letter is G. Assumes nothing.
-use borrow.Author.Rules.{rules}
 use Rattle.frames.specs.Commands.{ask_export}
 use Rattle.commands.proofs.read_zone_out.Goals as goal
 

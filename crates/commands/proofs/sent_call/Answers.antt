@@ -1,5 +1,4 @@
 -- `commands::sent_call` meets its contract: the digits with their parity around what is fixed. Assumes nothing.
-use borrow.Author.Rules.{rules}
 use Rattle.commands.proofs.Sent.{call-sent}
 use Rattle.commands.proofs.sent_call.Goals as goal
 

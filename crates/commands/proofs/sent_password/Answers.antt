@@ -1,5 +1,4 @@
 -- `commands::sent_password` meets its contract: the digits with their parity, and the BCC of all. Assumes nothing.
-use borrow.Author.Rules.{rules}
 use Rattle.commands.proofs.Sent.{password-sent}
 use Rattle.commands.proofs.sent_password.Goals as goal
 

@@ -1,5 +1,4 @@
 -- `commands::sent_wired` meets its contract: the digits with their parity around what is fixed. Assumes nothing.
-use borrow.Author.Rules.{rules}
 use Rattle.commands.proofs.Sent.{wired-sent}
 use Rattle.commands.proofs.sent_wired.Goals as goal
 

@@ -1,6 +1,5 @@
 -- `commands::shown_clock` meets its contract: the text fills the array. Assumes nothing.
 use mathlib.Core.Path.{◌∙◌}
-use borrow.Author.Rules.{rules}
 use Rattle.values.proofs.Rules.{clock-text-long}
 use Rattle.text.proofs.Writing.{filled}
 use Rattle.commands.proofs.shown_clock.Goals as goal

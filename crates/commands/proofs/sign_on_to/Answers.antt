@@ -1,21 +1,23 @@
--- `commands::sign_on_to` meets its contract: too short a buffer, a field of another length or outside its rule, or the command as it was made. Assumes nothing.
+-- `commands::sign_on_to` meets its contract: too short a buffer, a field outside its rule, or the command as it was made. Assumes nothing.
+use Rattle.std.proofs.lemmas.Result.{err_from_is_err_and}
 use mathlib.Core.Path.{sym, ◌∙◌}
-use borrow.Author.Tests.{not-true, not-false}
-use borrow.Author.Rules.{rules}
-use Rattle.values.proofs.Rules.{no-digits}
 use Rattle.commands.proofs.Making.{too_short, built, field-refused}
+use Rattle.values.proofs.Rules.{digits_long}
 use Rattle.commands.proofs.sign_on_to.Goals as goal
 
-pub returns-then-buf-lt-ROOM : goal.returns-then-buf-lt-ROOM
-returns-then-buf-lt-ROOM c = too_short _ _ _ _ c.if-buf-lt-ROOM.true c.short.ensures
+pub returns-in_err-room : goal.returns-in_err-room
+returns-in_err-room c =
+    let p = err_from_is_err_and c.from_residual.result c.from_residual.ensures.1 in
+    rw (p.1, p.2) (too_short _ _ _ _ c.in_err-room.ensures.err)
 
-pub returns-then-serial-ne-SERIAL : goal.returns-then-serial-ne-SERIAL
-returns-then-serial-ne-SERIAL c = field-refused _ _ _ _ c.if-buf-lt-ROOM.false (no-digits 10 c.args.serial.now c.if-serial-ne-SERIAL.true) c.refused.ensures
+pub returns-in_err-field : goal.returns-in_err-field
+returns-in_err-field c =
+    let p = err_from_is_err_and c.from_residual-in_err-field.result c.from_residual-in_err-field.ensures.1 in
+    rw (p.1, p.2) (field-refused _ _ _ _ c.in_ok-room.ensures.ok (sym c.is_digits.ensures ∙ c.in_err-field.ensures.err.0) c.in_err-field.ensures.err.1)
 
-pub returns-then-not-is_digits : goal.returns-then-not-is_digits
-returns-then-not-is_digits c =
-    field-refused _ _ _ _ c.if-buf-lt-ROOM.false (sym c.is_digits.ensures ∙ c.if-not-is_digits.true) c.refused-then-not-is_digits.ensures
+pub sent_call-requires : goal.sent_call-requires
+sent_call-requires c = digits_long 10 _ (sym c.is_digits.ensures ∙ c.in_ok-field.ensures.ok)
 
 pub returns : goal.returns
 returns c =
-    rw (← c.sent_call.ensures) (built _ _ _ _ _ c.if-buf-lt-ROOM.false (sym c.is_digits.ensures ∙ c.if-not-is_digits.false) c.put_made.ensures)
+    rw (← c.sent_call.ensures) (built _ _ _ _ _ c.in_ok-room.ensures.ok (sym c.is_digits.ensures ∙ c.in_ok-field.ensures.ok) c.put_made.ensures)

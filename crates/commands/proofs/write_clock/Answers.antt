@@ -1,5 +1,4 @@
 -- `commands::write_clock` meets its contract: a real clock in the brackets of W1. Assumes nothing.
-use borrow.Author.Rules.{rules}
 use Rattle.frames.specs.Commands.{set_clock, bracketed}
 use Rattle.frames.specs.Frames.{frame_of, sealed}
 use Rattle.commands.proofs.Making.{judged}

@@ -1,25 +1,27 @@
--- `commands::write_table_of` meets its contract: too short a buffer, a field of another length or outside its rule, or the command as it was made.
--- Assumes nothing.
-use borrow.Author.Tests.{not-true, not-false}
-use borrow.Author.Rules.{rules}
+-- `commands::write_table_of` meets its contract: too short a buffer, a field outside its rule, or the command as it was made. Assumes nothing.
+use Rattle.std.proofs.lemmas.Result.{err_from_is_err_and}
+use Rattle.commands.proofs.Making.{too_short, built, field-refused}
 use Rattle.frames.specs.Commands.{set_table, bracketed}
 use Rattle.frames.specs.Frames.{frame_of, sealed}
-use Rattle.commands.proofs.Making.{too_short, built, field-refused, row-unsized}
+use Rattle.values.specs.Registers.{good_table}
+use Rattle.line.proofs.Runs.{and_right}
+use Rattle.values.proofs.Rules.{row-long}
 use Rattle.commands.proofs.write_table_of.Goals as goal
 
-pub returns-then-buf-lt-ROOM : goal.returns-then-buf-lt-ROOM
-returns-then-buf-lt-ROOM c = too_short _ _ _ _ c.if-buf-lt-ROOM.true c.short.ensures
+pub returns-in_err-room : goal.returns-in_err-room
+returns-in_err-room c =
+    let p = err_from_is_err_and c.from_residual.result c.from_residual.ensures.1 in
+    rw (p.1, p.2) (too_short _ _ _ _ c.in_err-room.ensures.err)
 
-pub returns-then-row-ne-ROW_LENGTH : goal.returns-then-row-ne-ROW_LENGTH
-returns-then-row-ne-ROW_LENGTH c =
-    let a = c.args in
-    field-refused _ _ _ _ c.if-buf-lt-ROOM.false (row-unsized a.tables a.table.0 a.row.now c.if-row-ne-ROW_LENGTH.true) c.refused.ensures
+pub returns-in_err-field : goal.returns-in_err-field
+returns-in_err-field c =
+    let p = err_from_is_err_and c.from_residual-in_err-field.result c.from_residual-in_err-field.ensures.1 in
+    rw (p.1, p.2) (field-refused _ _ _ _ c.in_ok-room.ensures.ok (rw (← c.is_table.ensures, ← c.is_row.ensures) c.in_err-field.ensures.err.0) c.in_err-field.ensures.err.1)
 
-pub returns-then-not-good : goal.returns-then-not-good
-returns-then-not-good c =
-    field-refused _ _ _ _ c.if-buf-lt-ROOM.false (rw (← c.is_table.ensures, ← c.is_row.ensures) c.if-not-good.true) c.refused-then-not-good.ensures
+pub shown_table-requires : goal.shown_table-requires
+shown_table-requires c = row-long _ (and_right (good_table c.args.tables c.args.table.0) _ (rw (← c.is_table.ensures, ← c.is_row.ensures) c.in_ok-field.ensures.ok))
 
 pub returns : goal.returns
 unfolding frame_of sealed set_table bracketed
 returns c =
-    rw (← c.shown_table.ensures) (built _ _ _ _ _ c.if-buf-lt-ROOM.false (rw (← c.is_table.ensures, ← c.is_row.ensures) c.if-not-good.false) c.aside.ensures)
+    rw (← c.shown_table.ensures) (built _ _ _ _ _ c.in_ok-room.ensures.ok (rw (← c.is_table.ensures, ← c.is_row.ensures) c.in_ok-field.ensures.ok) c.aside.ensures)

@@ -1,9 +1,8 @@
 -- `session::hear` meets its contract: each way out is the case of the definition that its tests name. Assumes nothing.
-use borrow.Author.Tests.{eq-eqb, ne_eqb, lt-ltb, le-ltb, not-true, not-false}
-use mathlib.Core.Path.{◌≡◌, sym, ◌∙◌}
+use borrow.Author.Tests.{eq-eqb, ne_eqb, lt-ltb, le-ltb}
+use mathlib.Core.Path.{sym, ◌∙◌}
 use Rattle.text.specs.Writing.{holding}
 use Rattle.session.specs.Turns.{replied}
-use borrow.Author.Rules.{rules}
 use Rattle.session.proofs.hear.Goals as goal
 
 pub returns-then-buf-lt-ROOM : goal.returns-then-buf-lt-ROOM

@@ -1,7 +1,6 @@
 -- `session::hear_nothing` meets its contract: each way out is the case of the definition that its tests name. Assumes nothing.
-use borrow.Author.Tests.{eq-eqb, ne_eqb, lt-ltb, le-ltb, not-true, not-false}
+use borrow.Author.Tests.{eq-eqb, ne_eqb}
 use Rattle.session.specs.Turns.{silent}
-use borrow.Author.Rules.{rules}
 use Rattle.session.proofs.hear_nothing.Goals as goal
 
 pub returns-then-not-is_good : goal.returns-then-not-is_good

@@ -2,7 +2,6 @@
 use borrow.Author.Tests.{eq-eqb, ne_eqb, le-leb, lt-leb}
 use Rattle.session.specs.Messages.{message_at}
 use Rattle.commands.specs.Messages.{text_of, good_message}
-use borrow.Author.Rules.{rules}
 use Rattle.session.proofs.messages.build.Goals as goal
 
 pub returns-then-n-eq1 : goal.returns-then-n-eq1

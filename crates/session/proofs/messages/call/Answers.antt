@@ -2,7 +2,6 @@
 use borrow.Author.Tests.{eq-eqb, ne_eqb}
 use Rattle.session.specs.Messages.{calling}
 use Rattle.commands.specs.Messages.{text_of, good_message}
-use borrow.Author.Rules.{rules}
 use Rattle.session.proofs.messages.call.Goals as goal
 
 pub returns-then-s-eq1 : goal.returns-then-s-eq1

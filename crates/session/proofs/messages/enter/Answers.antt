@@ -3,7 +3,6 @@ use borrow.Author.Tests.{eq-eqb, ne_eqb}
 use Rattle.session.specs.Messages.{entering}
 use Rattle.commands.specs.Messages.{text_of, good_message}
 use Rattle.commands.specs.Spoken.{good_fields, spoken, letters_of, data_of}
-use borrow.Author.Rules.{rules}
 use Rattle.session.proofs.messages.enter.Goals as goal
 
 pub returns-then-s-eq1 : goal.returns-then-s-eq1

@@ -1,6 +1,5 @@
 -- `session::messages::is_whole` meets its contract: its tests are those of the definition. Assumes nothing.
 use Rattle.session.specs.Messages.{whole_line}
-use borrow.Author.Rules.{rules}
 use Rattle.session.proofs.messages.is_whole.Goals as goal
 
 pub returns : goal.returns

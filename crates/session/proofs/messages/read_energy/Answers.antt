@@ -2,7 +2,6 @@
 use borrow.Author.Tests.{eq-eqb, ne_eqb}
 use Rattle.session.specs.Messages.{read_of}
 use Rattle.commands.specs.Spoken.{good_fields, spoken, letters_of, data_of}
-use borrow.Author.Rules.{rules}
 use Rattle.session.proofs.messages.read_energy.Goals as goal
 
 pub returns-then-n-eq0 : goal.returns-then-n-eq0

@@ -6,7 +6,6 @@ use Rattle.values.specs.Registers.{good_zone}
 use Rattle.session.specs.Messages.{read_of}
 use Rattle.commands.specs.Spoken.{good_fields, spoken, letters_of, data_of}
 use Rattle.session.proofs.Laws.{unbuilt, unsuited}
-use borrow.Author.Rules.{rules}
 use Rattle.session.proofs.messages.read_export.Goals as goal
 
 pub returns-then-family-eq0 : goal.returns-then-family-eq0

@@ -1,7 +1,6 @@
 -- `session::messages::work_at` meets its contract: each way out is the case of the definition that its tests name. Assumes nothing.
 use borrow.Author.Tests.{eq-eqb, ne_eqb}
 use Rattle.session.specs.Messages.{work_at, read_at, row_at}
-use borrow.Author.Rules.{rules}
 use Rattle.session.proofs.messages.work_at.Goals as goal
 
 pub returns-then-s-eq1 : goal.returns-then-s-eq1

@@ -1,8 +1,6 @@
 -- `session::messages::write_row` meets its contract: the number and the row stand at their places in the line. Assumes nothing.
-use borrow.Author.Tests.{not-true, not-false}
 use Rattle.session.specs.Messages.{row_in}
 use Rattle.commands.specs.Spoken.{good_fields, spoken, letters_of, data_of}
-use borrow.Author.Rules.{rules}
 use Rattle.session.proofs.messages.write_row.Goals as goal
 
 pub returns-then-not-is_whole : goal.returns-then-not-is_whole

@@ -1,6 +1,5 @@
 -- `session::standing::is_good` meets its contract: the tests of the definition, each by itself. Assumes nothing.
 use Rattle.session.specs.Standing.{session_good}
-use borrow.Author.Rules.{rules}
 use Rattle.session.proofs.standing.is_good.Goals as goal
 
 pub returns : goal.returns

@@ -1,6 +1,5 @@
 -- `session::starting::is_serial` meets its contract: another length lies outside the rule. Assumes nothing.
 use mathlib.Core.Path.{sym}
-use borrow.Author.Rules.{rules}
 use Rattle.values.proofs.Rules.{no-digits}
 use Rattle.session.proofs.starting.is_serial.Goals as goal
 

@@ -2,7 +2,6 @@
 use borrow.Author.Tests.{eq-eqb, ne_eqb}
 use Rattle.text.specs.Writing.{holding}
 use Rattle.session.specs.Starting.{opened_post}
-use borrow.Author.Rules.{rules}
 use Rattle.session.proofs.starting.open_post.Goals as goal
 
 pub returns-then-access-eq0 : goal.returns-then-access-eq0

@@ -2,7 +2,6 @@
 use borrow.Author.Tests.{eq-eqb, ne_eqb, lt-ltb, le-ltb}
 use Rattle.text.specs.Writing.{holding}
 use Rattle.session.specs.Starting.{opened_reads}
-use borrow.Author.Rules.{rules}
 use Rattle.session.proofs.starting.open_reads.Goals as goal
 
 pub returns-then-n-eq0 : goal.returns-then-n-eq0

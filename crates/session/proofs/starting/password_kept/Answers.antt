@@ -2,7 +2,6 @@
 use borrow.Author.Tests.{eq-eqb, ne_eqb}
 use native.Mathlib.Omega.{arith}
 use Rattle.text.proofs.Writing.{filled}
-use borrow.Author.Rules.{rules}
 use Rattle.session.proofs.starting.password_kept.Goals as goal
 
 pub returns-then-access-ne1 : goal.returns-then-access-ne1

@@ -6,7 +6,6 @@ use Rattle.values.specs.Registers.{good_table}
 use Rattle.text.specs.Classes.{between}
 use lib.Dec.{eqb}
 use Rattle.session.proofs.Laws.{energy-good, export-good}
-use borrow.Author.Rules.{rules}
 use Rattle.session.proofs.starting.read_good.Goals as goal
 
 pub returns-then-letter-eq84 : goal.returns-then-letter-eq84

@@ -1,12 +1,9 @@
 -- `session::starting::reads_good` meets its contract: what was looked at is good, and what is left decides. Assumes nothing.
-use mathlib.Core.Path.{◌≡◌, refl}
+use mathlib.Core.Path.{◌≡◌}
 use mathlib.Core.Bool.{◌&&◌}
 use Prim.Native.Nat.{◌-◌, ◌≤◌}
-use native.Mathlib.Omega.{arith}
-use borrow.Author.Rules.{rules}
 use lib.ListN.{length, drop}
 use Rattle.session.specs.Messages.{reads_good}
-use Rattle.session.proofs.Pairs.{reads-turn, reads-odd, reads_end}
 use Rattle.session.proofs.starting.reads_good.Given as goal
 
 abbrev pub invariant-loop-i : goal.invariant-loop-i

@@ -1,8 +1,7 @@
 -- `session::starting::start` meets its contract: no edition, no family, a buffer that is too small, reads, no kind of work, a post, a text that is none. Assumes nothing.
-use mathlib.Core.Path.{◌≡◌, refl, sym, ap, ◌∙◌}
+use mathlib.Core.Path.{refl, sym, ap, ◌∙◌}
 use Prim.Native.Nat.{ℕ}
 use native.Mathlib.Omega.{arith}
-use borrow.Author.Tests.{not-true, not-false}
 use lib.ListN.{length}
 use Rattle.text.specs.Writing.{holding}
 use Rattle.values.specs.Edition.{tables_of}
@@ -10,7 +9,6 @@ use Rattle.values.proofs.Editions.{tables-most}
 use Rattle.frames.specs.Frames.{on_wire}
 use Rattle.session.specs.Starting.{told_of, started_of, unopened, opened_reads, opened_post, unknown, strange, small, nothing, reads, posts, others}
 use Rattle.session.proofs.Checked.{not-post, a-post, lines-counted}
-use borrow.Author.Rules.{rules}
 use Rattle.session.proofs.starting.start.Goals as goal
 
 pub returns-then-not-is_edition : goal.returns-then-not-is_edition

@@ -2,7 +2,6 @@
 use Rattle.session.specs.Turns.{answered}
 use Rattle.text.specs.Writing.{holding}
 use Rattle.session.proofs.Laws.{count_most}
-use borrow.Author.Rules.{rules}
 use Rattle.session.proofs.turning.answer.Goals as goal
 
 pub returns-then-is_nak : goal.returns-then-is_nak

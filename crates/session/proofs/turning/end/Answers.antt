@@ -1,5 +1,4 @@
 -- `session::turning::end` meets its contract. Assumes nothing.
-use borrow.Author.Rules.{rules}
 use Rattle.session.proofs.turning.end.Goals as goal
 
 pub returns : goal.returns

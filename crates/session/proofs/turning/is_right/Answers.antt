@@ -1,7 +1,6 @@
 -- `session::turning::is_right` meets its contract: each way out is the case of the definition that its tests name. Assumes nothing.
 use borrow.Author.Tests.{eq-eqb, ne_eqb, le-leb, lt-leb}
 use Rattle.session.specs.Turns.{right_at}
-use borrow.Author.Rules.{rules}
 use Rattle.session.proofs.turning.is_right.Goals as goal
 
 pub returns-then-n-eq1 : goal.returns-then-n-eq1

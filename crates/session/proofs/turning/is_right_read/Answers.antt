@@ -1,6 +1,5 @@
 -- `session::turning::is_right_read` meets its contract: a read that can be built, and its answer. Assumes nothing.
 use Rattle.session.specs.Turns.{right_read}
-use borrow.Author.Rules.{rules}
 use Rattle.session.proofs.turning.is_right_read.Goals as goal
 
 pub returns : goal.returns

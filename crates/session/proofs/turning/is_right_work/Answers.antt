@@ -1,7 +1,6 @@
 -- `session::turning::is_right_work` meets its contract: each way out is the case of the definition that its tests name. Assumes nothing.
 use borrow.Author.Tests.{eq-eqb, ne_eqb}
 use Rattle.session.specs.Turns.{right_work}
-use borrow.Author.Rules.{rules}
 use Rattle.session.proofs.turning.is_right_work.Goals as goal
 
 pub returns-then-s-eq1 : goal.returns-then-s-eq1
