@@ -1,11 +1,11 @@
 -- The three ways out of the builder. Assumes nothing.
 use mathlib.Core.Path.{◌≡◌, refl, ◌∙◌}
 use mathlib.Core.Bool.{Bool, true, false}
-use mathlib.Core.List.{List, [], ◌∷◌, ◌++◌}
+use mathlib.Core.List.{List}
 use Prim.Native.Nat.{ℕ, ◌≤◌, ◌<◌}
 use lib.ListN.{length}
 use borrow.Author.Tests.{lt-ltb, le-ltb}
-use Rattle.text.specs.Writing.{stored, holding}
+use Rattle.text.specs.Writing.{stored}
 use Rattle.text.proofs.Writing.{stored-holding}
 use Rattle.crc.specs.Crc.{with_crc}
 use Rattle.mercury.specs.Asking.{request_of, asked_in, asked_into, Asks}

@@ -1,5 +1,5 @@
 -- Each fact is computed. Assumes nothing.
-use mathlib.Core.Path.{◌≡◌, refl}
+use mathlib.Core.Path.{refl}
 use Rattle.crc.specs.Crc.{bit_out, out, joined, crc_from, crc_of, with_crc, checks}
 use Rattle.mercury.specs.Asking.{request_of}
 use Rattle.mercury.specs.Answering.{number_from, quantity_of, quantity_at, energy_of, good_length, read_of, number_of, quantity_bytes, answer_of, status_of}

@@ -4,23 +4,22 @@ use mathlib.Core.Bool.{Bool, true, false, cond}
 use mathlib.Core.List.{List, [], ◌∷◌}
 use Prim.Native.Nat.{ℕ, ◌+◌, ◌*◌, ◌/◌, ◌%◌, ◌<◌, ◌≤◌}
 use native.Mathlib.Omega.{arith}
-use lib.Dec.{eqb, ltb}
+use lib.Dec.{eqb}
 use lib.Arith.{digits_div, digits_mod}
 use borrow.Author.Tests.{eqb-true, ltb-true, ne_eqb}
-use Rattle.mercury.specs.declared.answering.Quantity.{Quantity}
-use Rattle.mercury.specs.declared.answering.Quantity.TheVariants.{Measured, NotMeasured}
-use Rattle.mercury.specs.Answering.{number_from, quantity_of, number_of, quantity_bytes, good_quantity}
+use Rattle.std.specs.Prelude.{Some, None}
+use Rattle.mercury.specs.Answering.{Quantity, number_from, quantity_of, number_of, quantity_bytes, good_quantity}
 
 number_lt : (q : Quantity) → good_quantity q ≡ true → number_of q ≤ 0xFFFFFFFF
 unfolding good_quantity number_of
-number_lt NotMeasured g = omega arith
-number_lt (Measured n) g = let h : n < 0xFFFFFFFF = ltb-true n 0xFFFFFFFF g in omega arith
+number_lt None g = omega arith
+number_lt (Some n) g = let h : n < 0xFFFFFFFF = ltb-true n 0xFFFFFFFF g in omega arith
 
 -- the number that stands for a quantity says which it is
 named : (q : Quantity) → good_quantity q ≡ true → quantity_of (number_of q) ≡ q
 unfolding quantity_of number_of good_quantity
-named NotMeasured g = refl
-named (Measured n) g =
+named None g = refl
+named (Some n) g =
     let h : n < 0xFFFFFFFF = ltb-true n 0xFFFFFFFF g in
     rw (ne_eqb n 0xFFFFFFFF (λ e. omega arith))
 
@@ -37,7 +36,7 @@ numbered : (n : ℕ) → number_of (quantity_of n) ≡ n
 unfolding quantity_of number_of
 numbered n = by (eqb n 0xFFFFFFFF) refl
   where
-    by : (t : Bool) → eqb n 0xFFFFFFFF ≡ t → number_of (cond t NotMeasured (Measured n)) ≡ n
+    by : (t : Bool) → eqb n 0xFFFFFFFF ≡ t → number_of (cond t None (Some n)) ≡ n
     by true e = sym (eqb-true n 0xFFFFFFFF e)
     by false e = refl
 

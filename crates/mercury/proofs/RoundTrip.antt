@@ -3,21 +3,20 @@
 use mathlib.Core.Path.{◌≡◌, refl, sym, ap, ap₂, ◌∙◌}
 use mathlib.Core.Bool.{Bool, true, false, cond, ◌&&◌}
 use mathlib.Core.List.{List, [], ◌∷◌, ◌++◌}
-use Prim.Native.Nat.{ℕ, zero, suc, ◌+◌, ◌*◌, ◌-◌, ◌<◌, ◌≤◌}
+use Prim.Native.Nat.{ℕ, zero, suc, ◌+◌, ◌*◌, ◌-◌, ◌≤◌}
 use native.Mathlib.Omega.{arith}
 use lib.Dec.{eqb}
 use lib.ListN.{length, get_or, take, drop}
 use borrow.Author.Tests.{eqb-true, eq-eqb}
+use Rattle.std.specs.Prelude.{Ok, Err}
 use Rattle.line.specs.Runs.{every}
 use Rattle.line.proofs.Runs.{and_left, and_right, left-next, chosen}
 use Rattle.crc.specs.Crc.{with_crc, checks, is_byte}
 use Rattle.crc.proofs.Own.{own-checks, checks-is, byte_at}
-use Rattle.mercury.specs.declared.answering.Quantity.{Quantity}
 use Rattle.mercury.specs.declared.answering.Energy.{Energy}
-use Rattle.mercury.specs.declared.answering.Answer.{Answer}
-use Rattle.mercury.specs.declared.answering.Answer.TheVariants.{Data, Status, WrongLength, WrongCrc, OtherAddress}
+use Rattle.mercury.specs.declared.answering.Refusal.TheVariants.{Status, WrongLength, WrongCrc, OtherAddress}
 use Rattle.mercury.specs.Asking.{good_fields, request_of}
-use Rattle.mercury.specs.Answering.{quantity_of, quantity_at, energy_of, good_length, read_of, number_of, quantity_bytes, answer_of, answer_code, status_of, good_quantity, good_energy}
+use Rattle.mercury.specs.Answering.{Quantity, Answer, quantity_at, energy_of, good_length, read_of, quantity_bytes, answer_of, answer_code, status_of, good_quantity, good_energy}
 use Rattle.mercury.proofs.Lengths.{just-nineteen}
 use Rattle.mercury.proofs.Ranges.{fields_le}
 use Rattle.mercury.proofs.Ways.{a-status, some-data}
@@ -65,14 +64,14 @@ module _ (address : ℕ) (e : Energy) (g : good_energy e ≡ true) where
   unfolding answer_of with_crc
   addressed = refl
 
-  pub energy-reads-back : read_of address (answer_of address e) ≡ Data e
+  pub energy-reads-back : read_of address (answer_of address e) ≡ Ok e
   unfolding good_length
   energy-reads-back =
       sym (some-data address (answer_of address e) (ap good_length sized) checked (eq-eqb _ _ addressed) (ap (λ (n : ℕ). eqb n 4) sized))
-      ∙ ap Data energy-back
+      ∙ ap Ok energy-back
 
 -- and one made from a code to the code
-pub status-reads-back : (address code : ℕ) → read_of address (status_of address code) ≡ Status code
+pub status-reads-back : (address code : ℕ) → read_of address (status_of address code) ≡ Err (Status code)
 unfolding status_of with_crc good_length
 status-reads-back address code =
     sym (a-status address (status_of address code) refl (own-checks (address ∷ code ∷ [])) (eq-eqb address address refl) refl)
@@ -94,44 +93,44 @@ unchosen shows false x y e h = refl
 
 -- what is read of an answer with data
 is_data : Answer → Bool
-is_data (Data e) = true
-is_data (Status code) = false
-is_data WrongLength = false
-is_data WrongCrc = false
-is_data OtherAddress = false
+is_data (Ok e) = true
+is_data (Err (Status code)) = false
+is_data (Err WrongLength) = false
+is_data (Err WrongCrc) = false
+is_data (Err OtherAddress) = false
 
 energy_in : Answer → Energy → Energy
-energy_in (Data e) other = e
-energy_in (Status code) other = other
-energy_in WrongLength other = other
-energy_in WrongCrc other = other
-energy_in OtherAddress other = other
+energy_in (Ok e) other = e
+energy_in (Err (Status code)) other = other
+energy_in (Err WrongLength) other = other
+energy_in (Err WrongCrc) other = other
+energy_in (Err OtherAddress) other = other
 
 is_status : Answer → Bool
-is_status (Status code) = true
-is_status (Data e) = false
-is_status WrongLength = false
-is_status WrongCrc = false
-is_status OtherAddress = false
+is_status (Err (Status code)) = true
+is_status (Ok e) = false
+is_status (Err WrongLength) = false
+is_status (Err WrongCrc) = false
+is_status (Err OtherAddress) = false
 
 -- what is read determines the bytes
 module _ (address : ℕ) (s : List ℕ) (bytes : every is_byte s ≡ true) where
   inner : Answer
-  inner = cond (eqb (get_or s 0 0) address) (cond (eqb (length s) 4) (Status (get_or s 1 0)) (Data (energy_of s))) OtherAddress
+  inner = cond (eqb (get_or s 0 0) address) (cond (eqb (length s) 4) (Err (Status (get_or s 1 0))) (Ok (energy_of s))) (Err OtherAddress)
 
   -- what an answer that is taken has passed
-  taken : (shows : Answer → Bool) → shows WrongLength ≡ false → shows WrongCrc ≡ false → shows OtherAddress ≡ false → shows (read_of address s) ≡ true
+  taken : (shows : Answer → Bool) → shows (Err WrongLength) ≡ false → shows (Err WrongCrc) ≡ false → shows (Err OtherAddress) ≡ false → shows (read_of address s) ≡ true
       → (good_length (length s) ≡ true) × (checks s ≡ true) × (eqb (get_or s 0 0) address ≡ true)
   unfolding read_of inner
   taken shows w1 w2 w3 shown =
-      let n : good_length (length s) ≡ true = chosen shows (good_length (length s)) (cond (checks s) inner WrongCrc) WrongLength w1 shown in
-      let shown1 : shows (cond (checks s) inner WrongCrc) ≡ true = rw n at shown in
-      let k : checks s ≡ true = chosen shows (checks s) inner WrongCrc w2 shown1 in
+      let n : good_length (length s) ≡ true = chosen shows (good_length (length s)) (cond (checks s) inner (Err WrongCrc)) (Err WrongLength) w1 shown in
+      let shown1 : shows (cond (checks s) inner (Err WrongCrc)) ≡ true = rw n at shown in
+      let k : checks s ≡ true = chosen shows (checks s) inner (Err WrongCrc) w2 shown1 in
       let shown2 : shows inner ≡ true = rw k at shown1 in
-      (n, k, chosen shows (eqb (get_or s 0 0) address) (cond (eqb (length s) 4) (Status (get_or s 1 0)) (Data (energy_of s))) OtherAddress w3 shown2)
+      (n, k, chosen shows (eqb (get_or s 0 0) address) (cond (eqb (length s) 4) (Err (Status (get_or s 1 0))) (Ok (energy_of s))) (Err OtherAddress) w3 shown2)
 
   last : (shows : Answer → Bool) → good_length (length s) ≡ true → checks s ≡ true → eqb (get_or s 0 0) address ≡ true → shows (read_of address s) ≡ true
-      → shows (cond (eqb (length s) 4) (Status (get_or s 1 0)) (Data (energy_of s))) ≡ true
+      → shows (cond (eqb (length s) 4) (Err (Status (get_or s 1 0))) (Ok (energy_of s))) ≡ true
   unfolding read_of
   last shows n k a shown = rw (n, k, a) at shown
 
@@ -153,23 +152,23 @@ module _ (address : ℕ) (s : List ℕ) (bytes : every is_byte s ≡ true) where
   unfolding status_of spelled
   made-of-status n = ap with_crc (spells 2 0 s (omega arith))
 
-  pub energy-determines : (e : Energy) → read_of address s ≡ Data e → s ≡ answer_of address e
+  pub energy-determines : (e : Energy) → read_of address s ≡ Ok e → s ≡ answer_of address e
   unfolding is_data energy_in
   energy-determines e r =
       let shown : is_data (read_of address s) ≡ true = ap is_data r in
       let (n, k, a) = taken is_data refl refl refl shown in
-      let four : eqb (length s) 4 ≡ false = unchosen is_data (eqb (length s) 4) (Status (get_or s 1 0)) (Data (energy_of s)) refl (last is_data n k a shown) in
+      let four : eqb (length s) 4 ≡ false = unchosen is_data (eqb (length s) 4) (Err (Status (get_or s 1 0))) (Ok (energy_of s)) refl (last is_data n k a shown) in
       let is : energy_of s ≡ e = ap (λ (x : Answer). energy_in x e) (some-data address s n k a four ∙ r) in
       let len : length s ≡ 19 = just-nineteen (length s) n four in
       let body : length s - 2 ≡ 17 = omega arith in
       checks-is s bytes k ∙ ap (λ (i : ℕ). with_crc (take i s)) body ∙ made-of-data len ∙ ap₂ answer_of (eqb-true (get_or s 0 0) address a) is
 
-  pub status-determines : (code : ℕ) → read_of address s ≡ Status code → s ≡ status_of address code
+  pub status-determines : (code : ℕ) → read_of address s ≡ Err (Status code) → s ≡ status_of address code
   unfolding is_status answer_code
   status-determines code r =
       let shown : is_status (read_of address s) ≡ true = ap is_status r in
       let (n, k, a) = taken is_status refl refl refl shown in
-      let four : eqb (length s) 4 ≡ true = chosen is_status (eqb (length s) 4) (Status (get_or s 1 0)) (Data (energy_of s)) refl (last is_status n k a shown) in
+      let four : eqb (length s) 4 ≡ true = chosen is_status (eqb (length s) 4) (Err (Status (get_or s 1 0))) (Ok (energy_of s)) refl (last is_status n k a shown) in
       let is : get_or s 1 0 ≡ code = ap answer_code (a-status address s n k a four ∙ r) in
       let len : length s ≡ 4 = eqb-true (length s) 4 four in
       let body : length s - 2 ≡ 2 = omega arith in

@@ -1,11 +1,17 @@
 -- Document 02, request 9: what is read of an answer, and the answer that a meter makes.
-use Rattle.std.specs.Prelude.{Bool, true, cond, ◌&&◌, ◌||◌, List, [], ◌∷◌, ◌++◌, ℕ, ◌+◌, ◌*◌, ◌/◌, ◌%◌, eqb, ltb, length, get_or}
+use Rattle.std.specs.Prelude.{Option, Some, None, Result, Ok, Err, Bool, true, cond, ◌&&◌, ◌||◌, List, [], ◌∷◌, ◌++◌, ℕ, ◌+◌, ◌*◌, ◌/◌, ◌%◌, eqb, ltb, length, get_or}
 use Rattle.crc.specs.Crc.{with_crc, checks}
-use Rattle.mercury.specs.declared.answering.Quantity.{Quantity}
-use Rattle.mercury.specs.declared.answering.Quantity.TheVariants.{Measured, NotMeasured}
 use Rattle.mercury.specs.declared.answering.Energy.{Energy}
-use Rattle.mercury.specs.declared.answering.Answer.{Answer}
-use Rattle.mercury.specs.declared.answering.Answer.TheVariants.{Data, Status, WrongLength, WrongCrc, OtherAddress}
+use Rattle.mercury.specs.declared.answering.Refusal.{Refusal}
+use Rattle.mercury.specs.declared.answering.Refusal.TheVariants.{WrongLength, WrongCrc, OtherAddress, Status}
+
+-- a quantity of energy: none where it was not measured
+abbrev pub Quantity : Type 0
+Quantity = Option ℕ
+
+-- what is read of an answer: energy, or why there is none
+abbrev pub Answer : Type 0
+Answer = Result Energy Refusal
 
 -- four bytes in the order second, first, fourth, third, first being highest
 unfoldable pub number_from : ℕ → ℕ → ℕ → ℕ → ℕ
@@ -13,7 +19,7 @@ number_from second first fourth third = first * 16777216 + second * 65536 + thir
 
 -- FF FF FF FF means not measured, never a number
 unfoldable pub quantity_of : ℕ → Quantity
-quantity_of n = cond (eqb n 0xFFFFFFFF) NotMeasured (Measured n)
+quantity_of n = cond (eqb n 0xFFFFFFFF) None (Some n)
 
 unfoldable pub quantity_at : List ℕ → ℕ → Quantity
 quantity_at s at = quantity_of (number_from (get_or s at 0) (get_or s (at + 1) 0) (get_or s (at + 2) 0) (get_or s (at + 3) 0))
@@ -37,30 +43,30 @@ unfoldable pub read_of : ℕ → List ℕ → Answer
 read_of address s =
     cond (good_length (length s))
     (cond (checks s)
-    (cond (eqb (get_or s 0 0) address) (cond (eqb (length s) 4) (Status (get_or s 1 0)) (Data (energy_of s))) OtherAddress)
-    WrongCrc)
-    WrongLength
+    (cond (eqb (get_or s 0 0) address) (cond (eqb (length s) 4) (Err (Status (get_or s 1 0))) (Ok (energy_of s))) (Err OtherAddress))
+    (Err WrongCrc))
+    (Err WrongLength)
 
 -- the number of each
 unfoldable pub answer_number : Answer → ℕ
-answer_number (Data e) = 1
-answer_number WrongLength = 50
-answer_number WrongCrc = 51
-answer_number OtherAddress = 52
-answer_number (Status code) = 53
+answer_number (Ok e) = 1
+answer_number (Err WrongLength) = 50
+answer_number (Err WrongCrc) = 51
+answer_number (Err OtherAddress) = 52
+answer_number (Err (Status code)) = 53
 
 -- the code of a status; 0 where there is none
 unfoldable pub answer_code : Answer → ℕ
-answer_code (Status code) = code
-answer_code (Data e) = 0
-answer_code WrongLength = 0
-answer_code WrongCrc = 0
-answer_code OtherAddress = 0
+answer_code (Err (Status code)) = code
+answer_code (Ok e) = 0
+answer_code (Err WrongLength) = 0
+answer_code (Err WrongCrc) = 0
+answer_code (Err OtherAddress) = 0
 
 -- what stands for a quantity in an answer
 unfoldable pub number_of : Quantity → ℕ
-number_of NotMeasured = 0xFFFFFFFF
-number_of (Measured n) = n
+number_of None = 0xFFFFFFFF
+number_of (Some n) = n
 
 unfoldable pub quantity_bytes : Quantity → List ℕ
 quantity_bytes q =
@@ -78,8 +84,8 @@ status_of address code = with_crc (address ∷ code ∷ [])
 
 -- a quantity that a meter can have measured
 unfoldable pub good_quantity : Quantity → Bool
-good_quantity NotMeasured = true
-good_quantity (Measured n) = ltb n 0xFFFFFFFF
+good_quantity None = true
+good_quantity (Some n) = ltb n 0xFFFFFFFF
 
 unfoldable pub good_energy : Energy → Bool
 good_energy e =

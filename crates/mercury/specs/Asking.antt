@@ -1,8 +1,9 @@
 -- Document 02, request 9: the request for accumulated energy, code 05 hex.
-use Rattle.std.specs.Prelude.{◌≡◌, Bool, cond, not, ◌&&◌, ◌||◌, List, [], ◌∷◌, ℕ, ◌+◌, ◌*◌, eqb, leb, ltb, length}
+use Rattle.std.specs.Prelude.{◌≡◌, Result, Ok, Err, Bool, cond, not, ◌&&◌, ◌||◌, List, [], ◌∷◌, ℕ, ◌+◌, ◌*◌, eqb, leb, ltb, length}
 use Rattle.text.specs.Writing.{holding}
 use Rattle.crc.specs.Crc.{with_crc}
-use Rattle.mercury.specs.declared.asking.Asked.{Asked}
+use Rattle.mercury.specs.declared.asking.Refusal.{Refusal}
+use Rattle.mercury.specs.declared.asking.Refusal.TheVariants.{Field, Short}
 
 -- arrays 0 to 5 and 9 to D hex
 unfoldable pub good_array : ℕ → Bool
@@ -23,6 +24,17 @@ good_fields array month tariff = good_array array && (good_month array month && 
 -- address, code, array in the high and month in the low four bits, tariff, CRC
 unfoldable pub request_of : ℕ → ℕ → ℕ → ℕ → List ℕ
 request_of address array month tariff = with_crc (address ∷ 0x05 ∷ (array * 16 + month) ∷ tariff ∷ [])
+
+-- the number of the answer, and how long the request is
+pub record Asked : Type 0 where
+  pub number : ℕ
+  pub length : ℕ
+
+-- the number of a refusal, and of a request that is built
+abbrev pub told : Result ℕ Refusal → Asked
+told (Ok n) = record { number = 1; length = n }
+told (Err Field) = record { number = 54; length = 0 }
+told (Err Short) = record { number = 55; length = 0 }
 
 -- 54 for a field out of range, then 55 for a short output, else 1 with the request's length
 unfoldable pub asked_in : List ℕ → Bool → Asked

@@ -18,50 +18,40 @@ const DATA: usize = 19;
 
 const STATUS: usize = 4;
 
-// A quantity of energy: four bytes of ones are no number.
-#[derive(Clone, Copy)]
-pub enum Quantity {
-    Measured(u32),
-    NotMeasured,
-}
-
-// The four quantities in the order of the answer: active energy in and out, reactive energy in and out.
-#[derive(Clone, Copy)]
+// The four quantities in the order of the answer: active energy in and out, reactive energy in and out. One that was not measured is none.
+#[derive(Clone, Copy, Debug, PartialEq, Eq)]
 pub struct Energy {
-    pub active_in: Quantity,
-    pub active_out: Quantity,
-    pub reactive_in: Quantity,
-    pub reactive_out: Quantity,
+    pub active_in: Option<u32>,
+    pub active_out: Option<u32>,
+    pub reactive_in: Option<u32>,
+    pub reactive_out: Option<u32>,
 }
 
-// What an answer is: read, a status, or not taken.
-#[derive(Clone, Copy)]
-pub enum Answer {
-    Data(Energy),
-    Status(u8),
+// Why an answer has no energy: it is not taken, or it is a status.
+#[derive(Clone, Copy, Debug, PartialEq, Eq)]
+pub enum Refusal {
     WrongLength,
     WrongCrc,
     OtherAddress,
+    Status(u8),
 }
 
 // A number from its bytes as they come: the second, the first, the fourth and the third, the first being highest.
 fn number(second: u8, first: u8, fourth: u8, third: u8) -> u32
     ensures { result ≡ number_from second first fourth third }
 {
-    first as u32 * 16777216 + second as u32 * 65536 + third as u32 * 256 + fourth as u32
+    u32::from_be_bytes([first, second, third, fourth])
 }
 
-fn as_quantity(n: u32) -> Quantity
+// Four bytes of ones are no number.
+fn as_quantity(n: u32) -> Option<u32>
     ensures { result ≡ quantity_of n }
 {
-    if n == 0xFFFFFFFF {
-        return Quantity::NotMeasured;
-    }
-    Quantity::Measured(n)
+    if n == u32::MAX { None } else { Some(n) }
 }
 
 // The quantity at a place of an answer.
-fn quantity_at(s: &[u8], at: usize) -> Quantity
+fn quantity_at(s: &[u8], at: usize) -> Option<u32>
     requires { at + 4 ≤ length s.now }
     ensures { result ≡ quantity_at s.now at }
 {
@@ -88,49 +78,62 @@ fn good_length(n: usize) -> bool
 }
 
 // Reads the answer of the meter with an address: its length, its CRC and its address are looked at in this order.
-pub fn read(s: &[u8], address: u8) -> Answer
+pub fn read(s: &[u8], address: u8) -> Result<Energy, Refusal>
     ensures { result ≡ read_of address s.now }
 {
     if !good_length(s.len()) {
-        return Answer::WrongLength;
+        return Err(Refusal::WrongLength);
     }
-    let checked = crc::check(s);
-    let ours = s[0] == address;
-    let code = s[1];
-    if !checked {
-        return Answer::WrongCrc;
+    if !crc::check(s) {
+        return Err(Refusal::WrongCrc);
     }
-    if !ours {
-        return Answer::OtherAddress;
+    if s[0] != address {
+        return Err(Refusal::OtherAddress);
     }
     if s.len() == STATUS {
-        return Answer::Status(code);
+        return Err(Refusal::Status(s[1]));
     }
-    Answer::Data(energy_in(s))
+    Ok(energy_in(s))
+}
+
+impl Refusal {
+    fn number(self) -> u8
+        ensures { result ≡ answer_number (Err self) }
+    {
+        match self {
+            Refusal::WrongLength => LENGTH,
+            Refusal::WrongCrc => CRC,
+            Refusal::OtherAddress => ADDRESS,
+            Refusal::Status(_) => CODE,
+        }
+    }
+
+    fn code(self) -> u8
+        ensures { result ≡ answer_code (Err self) }
+    {
+        match self {
+            Refusal::Status(code) => code,
+            Refusal::WrongLength | Refusal::WrongCrc | Refusal::OtherAddress => 0,
+        }
+    }
 }
 
 // The number of an answer.
-pub fn number_of(a: Answer) -> u8
+pub fn number_of(a: Result<Energy, Refusal>) -> u8
     ensures { result ≡ answer_number a }
 {
     match a {
-        Answer::Data(_) => DONE,
-        Answer::WrongLength => LENGTH,
-        Answer::WrongCrc => CRC,
-        Answer::OtherAddress => ADDRESS,
-        Answer::Status(_) => CODE,
+        Ok(_) => DONE,
+        Err(refusal) => refusal.number(),
     }
 }
 
 // The code of a status; 0 where there is none.
-pub fn code_of(a: Answer) -> u8
+pub fn code_of(a: Result<Energy, Refusal>) -> u8
     ensures { result ≡ answer_code a }
 {
     match a {
-        Answer::Status(code) => code,
-        Answer::Data(_) => 0,
-        Answer::WrongLength => 0,
-        Answer::WrongCrc => 0,
-        Answer::OtherAddress => 0,
+        Ok(_) => 0,
+        Err(refusal) => refusal.code(),
     }
 }

@@ -1,6 +1,6 @@
 // The request: address, code, array and month in one byte, tariff, CRC.
 ghost use Rattle.std.specs.Prelude.{◌≡◌, ◌+◌, ◌*◌, ◌≤◌};
-ghost use Rattle.mercury.specs.Asking.{good_fields, request_of, Asks};
+ghost use Rattle.mercury.specs.Asking.{good_fields, request_of, told, Asks};
 
 // The answers of request 9: built; a field out of its range; a buffer that is too short.
 pub const DONE: u8 = 1;
@@ -14,10 +14,11 @@ const ENERGY: u8 = 5;
 
 pub const LENGTH: usize = 6;
 
-#[derive(Clone, Copy)]
-pub struct Asked {
-    pub number: u8,
-    pub length: usize,
+// Why no request is built: a field is out of its range, or the buffer is too short.
+#[derive(Clone, Copy, Debug, PartialEq, Eq)]
+pub enum Refusal {
+    Field,
+    Short,
 }
 
 // Whether array, month and tariff lie within their ranges: a month goes with the arrays of months, 3 and B hex, and with no other.
@@ -37,37 +38,21 @@ fn request(address: u8, array: u8, month: u8, tariff: u8) -> [u8; 6]
 {
     let both = array * 16 + month;
     let fields = [address, ENERGY, both, tariff];
-    let c = crc::crc(&fields);
-    [
-        address,
-        ENERGY,
-        both,
-        tariff,
-        (c % 256) as u8,
-        (c / 256) as u8,
-    ]
+    let [low, high] = crc::crc(&fields).to_le_bytes();
+    [address, ENERGY, both, tariff, low, high]
 }
 
-// Builds the request for accumulated energy, or writes nothing.
-pub fn ask(out: &mut [u8], address: u8, array: u8, month: u8, tariff: u8) -> Asked
-    ensures { Asks out.old (good_fields array month tariff) (request_of address array month tariff) result out.new }
+// Builds the request for accumulated energy and gives its length, or writes nothing.
+pub fn ask(out: &mut [u8], address: u8, array: u8, month: u8, tariff: u8) -> Result<usize, Refusal>
+    ensures { Asks out.old (good_fields array month tariff) (request_of address array month tariff) (told result) out.new }
 {
     if !in_range(array, month, tariff) {
-        return Asked {
-            number: FIELD,
-            length: 0,
-        };
+        return Err(Refusal::Field);
     }
     if out.len() < LENGTH {
-        return Asked {
-            number: SHORT,
-            length: 0,
-        };
+        return Err(Refusal::Short);
     }
     let bytes = request(address, array, month, tariff);
     text::put(out, 0, &bytes);
-    Asked {
-        number: DONE,
-        length: LENGTH,
-    }
+    Ok(LENGTH)
 }

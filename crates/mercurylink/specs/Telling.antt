@@ -1,22 +1,29 @@
 -- What C is told of an answer: for each of its cases the number, the code, and the quantities with a bit for each that was measured.
-use Rattle.std.specs.Prelude.{ℕ}
+use Rattle.std.specs.Prelude.{Some, None, Ok, Err, ℕ}
 use Rattle.std.specs.Int.Bits.{bit_or}
-use Rattle.mercury.specs.declared.answering.Quantity.{Quantity}
-use Rattle.mercury.specs.declared.answering.Quantity.TheVariants.{Measured, NotMeasured}
 use Rattle.mercury.specs.declared.answering.Energy.{Energy}
-use Rattle.mercury.specs.declared.answering.Answer.{Answer}
-use Rattle.mercury.specs.declared.answering.Answer.TheVariants.{Data, Status, WrongLength, WrongCrc, OtherAddress}
-use Rattle.mercurylink.specs.declared.Told.{Told}
+use Rattle.mercury.specs.declared.answering.Refusal.TheVariants.{Status, WrongLength, WrongCrc, OtherAddress}
+use Rattle.mercury.specs.Answering.{Quantity, Answer}
+
+-- the number, the code of a status, which quantities were measured, and their numbers
+pub record Told : Type 0 where
+  pub number : ℕ
+  pub status : ℕ
+  pub measured : ℕ
+  pub active_in : ℕ
+  pub active_out : ℕ
+  pub reactive_in : ℕ
+  pub reactive_out : ℕ
 
 -- the bit of a quantity that was measured
 unfoldable pub flag_of : Quantity → ℕ → ℕ
-flag_of (Measured n) bit = bit
-flag_of NotMeasured bit = 0
+flag_of (Some n) bit = bit
+flag_of None bit = 0
 
 -- its number; 0 where it was not measured
 unfoldable pub count_of : Quantity → ℕ
-count_of (Measured n) = n
-count_of NotMeasured = 0
+count_of (Some n) = n
+count_of None = 0
 
 unfoldable pub told_energy : Energy → Told
 told_energy e =
@@ -35,8 +42,8 @@ abbrev pub told_bare : ℕ → ℕ → Told
 told_bare number status = record { number = number; status = status; measured = 0; active_in = 0; active_out = 0; reactive_in = 0; reactive_out = 0 }
 
 unfoldable pub told_of : Answer → Told
-told_of (Data e) = told_energy e
-told_of WrongLength = told_bare 50 0
-told_of WrongCrc = told_bare 51 0
-told_of OtherAddress = told_bare 52 0
-told_of (Status code) = told_bare 53 code
+told_of (Ok e) = told_energy e
+told_of (Err WrongLength) = told_bare 50 0
+told_of (Err WrongCrc) = told_bare 51 0
+told_of (Err OtherAddress) = told_bare 52 0
+told_of (Err (Status code)) = told_bare 53 code

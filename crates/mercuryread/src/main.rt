@@ -12,6 +12,5 @@ fn main(rt: HostRuntime) {
     let n = input.length;
     let mut out = [0u8; 128];
     let shown = mercuryshow::show(&capture[..n], &mut out);
-    let length = shown.length;
-    streams::write_once(&rt, &out[..length], shown.number == 1);
+    streams::write_once(&rt, &out[..shown.length], shown.refusal.is_none());
 }

@@ -6,19 +6,20 @@ use native.Mathlib.Omega.{arith}
 use lib.ListN.{length, length-append}
 use Rattle.line.specs.Controls.{LF}
 use Rattle.line.specs.Quoted.{chars}
-use Rattle.numerals.specs.Numerals.{digits_of, number_line}
+use Rattle.numerals.specs.Numerals.{number_line}
 use Rattle.numerals.proofs.Widths.{digits-few, line-few}
-use Rattle.mercury.specs.declared.answering.Quantity.{Quantity}
-use Rattle.mercury.specs.declared.answering.Quantity.TheVariants.{Measured, NotMeasured}
 use Rattle.mercury.specs.declared.answering.Energy.{Energy}
-use Rattle.mercury.specs.declared.answering.Answer.{Answer}
-use Rattle.mercury.specs.declared.answering.Answer.TheVariants.{Data, Status, WrongLength, WrongCrc, OtherAddress}
-use Rattle.mercuryshow.specs.Shown.{quantity_text, quantity_line, energy_text, answer_text}
+use Rattle.std.specs.Prelude.{Some, None, Ok, Err}
+use Rattle.std.specs.Result.{result_err}
+use Rattle.mercury.specs.declared.answering.Refusal.{Refusal}
+use Rattle.mercury.specs.declared.answering.Refusal.TheVariants.{Status, WrongLength, WrongCrc, OtherAddress}
+use Rattle.mercury.specs.Answering.{Quantity, Answer, answer_number, answer_code}
+use Rattle.mercuryshow.specs.Shown.{quantity_text, quantity_line, energy_text, answer_text, shown_number}
 
 pub quantity-few : (q : Quantity) → length (quantity_text q) ≤ 20
 unfolding quantity_text
-quantity-few (Measured n) = digits-few n
-quantity-few NotMeasured = omega arith
+quantity-few (Some n) = digits-few n
+quantity-few None = omega arith
 
 pub line-long : (name : List ℕ) (q : Quantity) → length (quantity_line name q) ≡ length name + length (quantity_text q) + 1
 unfolding quantity_line
@@ -52,8 +53,22 @@ energy-few e =
 
 pub answer-few : (a : Answer) → length (answer_text a) ≤ 96
 unfolding answer_text
-answer-few (Data e) = energy-few e
-answer-few WrongLength = omega (arith, line-few 50 0)
-answer-few WrongCrc = omega (arith, line-few 51 0)
-answer-few OtherAddress = omega (arith, line-few 52 0)
-answer-few (Status code) = omega (arith, line-few 53 code)
+answer-few (Ok e) = energy-few e
+answer-few (Err WrongLength) = omega (arith, line-few 50 0)
+answer-few (Err WrongCrc) = omega (arith, line-few 51 0)
+answer-few (Err OtherAddress) = omega (arith, line-few 52 0)
+answer-few (Err (Status code)) = omega (arith, line-few 53 code)
+
+-- what is shown of a refusal is its number and its code
+pub refused : (r : Refusal) → number_line (answer_number (Err r)) (answer_code (Err r)) ≡ answer_text (Err r)
+unfolding answer_text answer_number answer_code
+refused WrongLength = refl
+refused WrongCrc = refl
+refused OtherAddress = refl
+refused (Status code) = refl
+
+-- the refusal tells the number
+pub numbered : (a : Answer) → shown_number (result_err a) ≡ answer_number a
+unfolding answer_number
+numbered (Ok e) = refl
+numbered (Err r) = refl

@@ -1,21 +1,20 @@
 -- What is shown of a captured exchange, and nothing more.
-use Rattle.std.specs.Prelude.{◌≡◌, List, [], ◌∷◌, ◌++◌, ℕ, length, get_or, drop}
+use Rattle.std.specs.Prelude.{◌≡◌, Option, Some, None, Ok, Err, List, [], ◌∷◌, ◌++◌, ℕ, length, get_or, drop}
+use Rattle.std.specs.Result.{result_err}
 use Rattle.line.specs.Controls.{LF}
 use Rattle.line.specs.Quoted.{chars}
 use Rattle.text.specs.Writing.{holding}
 use Rattle.numerals.specs.Numerals.{digits_of, number_line}
-use Rattle.mercury.specs.declared.answering.Quantity.{Quantity}
-use Rattle.mercury.specs.declared.answering.Quantity.TheVariants.{Measured, NotMeasured}
 use Rattle.mercury.specs.declared.answering.Energy.{Energy}
-use Rattle.mercury.specs.declared.answering.Answer.{Answer}
-use Rattle.mercury.specs.declared.answering.Answer.TheVariants.{Data, Status, WrongLength, WrongCrc, OtherAddress}
-use Rattle.mercury.specs.Answering.{read_of, answer_number}
+use Rattle.mercury.specs.declared.answering.Refusal.{Refusal}
+use Rattle.mercury.specs.declared.answering.Refusal.TheVariants.{Status, WrongLength, WrongCrc, OtherAddress}
+use Rattle.mercury.specs.Answering.{Quantity, Answer, read_of, answer_number}
 use Rattle.mercuryshow.specs.declared.Shown.{Shown}
 
 -- a number, or `-` where nothing was measured
 unfoldable pub quantity_text : Quantity → List ℕ
-quantity_text (Measured n) = digits_of n
-quantity_text NotMeasured = chars "-"
+quantity_text (Some n) = digits_of n
+quantity_text None = chars "-"
 
 unfoldable pub quantity_line : List ℕ → Quantity → List ℕ
 quantity_line name q = name ++ (quantity_text q ++ (LF ∷ []))
@@ -28,18 +27,24 @@ energy_text e =
 
 -- or the number, and the code of a status
 unfoldable pub answer_text : Answer → List ℕ
-answer_text (Data e) = energy_text e
-answer_text WrongLength = number_line 50 0
-answer_text WrongCrc = number_line 51 0
-answer_text OtherAddress = number_line 52 0
-answer_text (Status code) = number_line 53 code
+answer_text (Ok e) = energy_text e
+answer_text (Err WrongLength) = number_line 50 0
+answer_text (Err WrongCrc) = number_line 51 0
+answer_text (Err OtherAddress) = number_line 52 0
+answer_text (Err (Status code)) = number_line 53 code
 
 -- the answer in a capture, behind the six bytes of the request, read for the address that was asked
 unfoldable pub exchange_read : List ℕ → Answer
 exchange_read capture = read_of (get_or capture 0 0) (drop 6 capture)
 
--- a buffer begins with the text and is kept past it; its number and its length
+-- the number of what is shown: that of its refusal, or 1
+abbrev pub shown_number : Option Refusal → ℕ
+shown_number None = 1
+shown_number (Some refusal) = answer_number (Err refusal)
+
+-- a buffer begins with the text and is kept past it; why it has no energy, and by that its number, and its length
 pub record Shows (capture out : List ℕ) (r : Shown) (after : List ℕ) : Type 0 where
-  pub number : r.number ≡ answer_number (exchange_read capture)
+  pub refusal : r.refusal ≡ result_err (exchange_read capture)
+  pub number : shown_number r.refusal ≡ answer_number (exchange_read capture)
   pub long : r.length ≡ length (answer_text (exchange_read capture))
   pub held : after ≡ holding out (answer_text (exchange_read capture))

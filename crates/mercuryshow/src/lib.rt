@@ -6,7 +6,7 @@ ghost use Rattle.std.specs.Prelude.{◌≡◌, ◌+◌, ◌≤◌, length, take}
 ghost use Rattle.text.specs.Writing.{stored};
 ghost use Rattle.mercuryshow.specs.Shown.{quantity_text, quantity_line, energy_text, answer_text, Shows};
 
-use mercury::answering::{Answer, Energy, Quantity};
+use mercury::answering::{Energy, Refusal};
 
 // Room for what is shown.
 pub const ROOM: usize = 128;
@@ -14,27 +14,27 @@ pub const ROOM: usize = 128;
 // A capture begins with the request.
 const REQUEST: usize = 6;
 
-// The number of the answer, and how many bytes of the buffer are to be written.
-#[derive(Clone, Copy)]
+// Why the answer has no energy, if so, and how many bytes of the buffer are to be written, of a refusal too.
+#[derive(Clone, Copy, Debug, PartialEq, Eq)]
 pub struct Shown {
-    pub number: u8,
+    pub refusal: Option<Refusal>,
     pub length: usize,
 }
 
 // Puts a quantity into a buffer from a place on, and gives the place after it.
-fn put_quantity(out: &mut [u8], at: usize, q: Quantity) -> usize
+fn put_quantity(out: &mut [u8], at: usize, q: Option<u32>) -> usize
     requires { at + 20 ≤ length out.old }
     ensures next { result ≡ at + length (quantity_text q) }
     ensures held { out.new ≡ stored out.old at (quantity_text q) }
 {
     match q {
-        Quantity::Measured(n) => numerals::put(out, at, n as u64),
-        Quantity::NotMeasured => text::put(out, at, b"-"),
+        Some(n) => numerals::put(out, at, n as u64),
+        None => text::put(out, at, b"-"),
     }
 }
 
 // The same on a line, behind its name of three characters.
-fn put_line(out: &mut [u8], at: usize, name: &[u8], q: Quantity) -> usize
+fn put_line(out: &mut [u8], at: usize, name: &[u8], q: Option<u32>) -> usize
     requires { (length name.now ≡ 3) × (at + 24 ≤ length out.old) }
     ensures next { result ≡ at + length (quantity_line name.now q) }
     ensures held { out.new ≡ stored out.old at (quantity_line name.now q) }
@@ -50,27 +50,24 @@ fn put_energy(out: &mut [u8], e: Energy) -> usize
     ensures next { result ≡ length (energy_text e) }
     ensures held { out.new ≡ stored out.old 0 (energy_text e) }
 {
-    let a = e.active_in;
-    let b = e.active_out;
-    let c = e.reactive_in;
-    let d = e.reactive_out;
-    let second = put_line(out, 0, b"A+ ", a);
-    let third = put_line(out, second, b"A- ", b);
-    let fourth = put_line(out, third, b"R+ ", c);
-    put_line(out, fourth, b"R- ", d)
+    let second = put_line(out, 0, b"A+ ", e.active_in);
+    let third = put_line(out, second, b"A- ", e.active_out);
+    let fourth = put_line(out, third, b"R+ ", e.reactive_in);
+    put_line(out, fourth, b"R- ", e.reactive_out)
 }
 
-fn put_answer(out: &mut [u8], a: Answer) -> usize
+fn put_answer(out: &mut [u8], a: Result<Energy, Refusal>) -> usize
     requires { 128 ≤ length out.old }
     ensures next { result ≡ length (answer_text a) }
     ensures held { out.new ≡ stored out.old 0 (answer_text a) }
 {
     match a {
-        Answer::Data(e) => put_energy(out, e),
-        Answer::WrongLength => numerals::put_line(out, 0, 50, 0),
-        Answer::WrongCrc => numerals::put_line(out, 0, 51, 0),
-        Answer::OtherAddress => numerals::put_line(out, 0, 52, 0),
-        Answer::Status(code) => numerals::put_line(out, 0, 53, code as u64),
+        Ok(e) => put_energy(out, e),
+        Err(_) => {
+            let number = mercury::answering::number_of(a);
+            let code = mercury::answering::code_of(a);
+            numerals::put_line(out, 0, number as u64, code as u64)
+        }
     }
 }
 
@@ -83,7 +80,7 @@ pub fn show(capture: &[u8], out: &mut [u8]) -> Shown
     let a = mercury::answering::read(text::rest(capture, REQUEST), text::at(capture, 0));
     let length = put_answer(out, a);
     Shown {
-        number: mercury::answering::number_of(a),
+        refusal: a.err(),
         length,
     }
 }

@@ -5,14 +5,9 @@ use Rattle.text.specs.Writing.{holding}
 use Rattle.text.specs.Decimal.{decimal}
 use Rattle.numerals.specs.Numerals.{width_within, width_of, digits_of, number_line}
 use Rattle.crc.specs.Crc.{bit_out, out, joined, crc_from, crc_of, with_crc, checks}
-use Rattle.mercury.specs.declared.asking.Asked.{Asked}
-use Rattle.mercury.specs.declared.answering.Quantity.{Quantity}
-use Rattle.mercury.specs.declared.answering.Quantity.TheVariants.{NotMeasured, Measured}
-use Rattle.mercury.specs.declared.answering.Answer.{Answer}
-use Rattle.mercury.specs.declared.answering.Answer.TheVariants.{Data, Status, WrongLength, WrongCrc, OtherAddress}
-use Rattle.mercury.specs.Asking.{good_array, monthly, good_month, good_fields, request_of, asked_in, asked_into}
-use Rattle.mercury.specs.Answering.{number_from, quantity_of, quantity_at, energy_of, good_length, read_of, answer_number, answer_code, number_of, quantity_bytes, answer_of, status_of}
-use Rattle.mercuryshow.specs.declared.Shown.{Shown}
+use Rattle.std.specs.Prelude.{Some, None, Ok, Err}
+use Rattle.mercury.specs.Asking.{Asked, good_array, monthly, good_month, good_fields, request_of, asked_in, asked_into}
+use Rattle.mercury.specs.Answering.{Quantity, Answer, number_from, quantity_of, quantity_at, energy_of, good_length, read_of, answer_number, answer_code, number_of, quantity_bytes, answer_of, status_of}
 use Rattle.mercuryshow.specs.Shown.{answer_text, exchange_read}
 use Rattle.mistakes.specs.Mercury.{january, Crc, Asking, Answering, Showing}
 use Rattle.mistakes.proofs.Differing.{seen, number, flag, byte, long}
@@ -31,22 +26,16 @@ asking =
 
 -- active energy, in and out, of an answer that has it
 unfoldable measured : Quantity → ℕ
-measured NotMeasured = 0
-measured (Measured n) = suc n
+measured None = 0
+measured (Some n) = suc n
 
 unfoldable active_in : Answer → ℕ
-active_in (Data e) = measured e.active_in
-active_in WrongLength = 0
-active_in WrongCrc = 0
-active_in OtherAddress = 0
-active_in (Status code) = 0
+active_in (Ok e) = measured e.active_in
+active_in (Err refusal) = 0
 
 unfoldable active_out : Answer → ℕ
-active_out (Data e) = measured e.active_out
-active_out WrongLength = 0
-active_out WrongCrc = 0
-active_out OtherAddress = 0
-active_out (Status code) = 0
+active_out (Ok e) = measured e.active_out
+active_out (Err refusal) = 0
 
 pub answering : Answering
 unfolding bit_out out joined crc_from crc_of with_crc checks number_from quantity_of quantity_at energy_of good_length read_of number_of quantity_bytes answer_of status_of answer_number answer_code measured active_in active_out

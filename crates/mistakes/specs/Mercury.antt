@@ -1,13 +1,10 @@
 -- Two wrong answers for each call of the Mercury family.
-use Rattle.std.specs.Prelude.{true, false, List, [], ◌∷◌, ◌++◌, ℕ, get_or, take}
+use Rattle.std.specs.Prelude.{Some, None, Ok, Err, true, List, [], ◌∷◌, ◌++◌, ℕ, get_or, take}
 use Rattle.crc.specs.Crc.{crc_of, checks}
-use Rattle.mercury.specs.declared.asking.Asked.{Asked}
-use Rattle.mercury.specs.declared.answering.Quantity.{Quantity}
-use Rattle.mercury.specs.declared.answering.Quantity.TheVariants.{NotMeasured, Measured}
 use Rattle.mercury.specs.declared.answering.Energy.{Energy}
-use Rattle.mercury.specs.declared.answering.Answer.TheVariants.{Data, Status, WrongLength, WrongCrc, OtherAddress}
-use Rattle.mercury.specs.Asking.{good_fields, request_of, Asks}
-use Rattle.mercury.specs.Answering.{read_of, answer_number, answer_code, answer_of, status_of}
+use Rattle.mercury.specs.declared.answering.Refusal.TheVariants.{Status, WrongLength, WrongCrc, OtherAddress}
+use Rattle.mercury.specs.Asking.{Asked, good_fields, request_of, Asks}
+use Rattle.mercury.specs.Answering.{Quantity, read_of, answer_number, answer_code, answer_of, status_of}
 use Rattle.mercuryshow.specs.declared.Shown.{Shown}
 use Rattle.mercuryshow.specs.Shown.{Shows}
 use Rattle.mistakes.specs.RuledOut.{RuledOut}
@@ -37,25 +34,25 @@ pub record Asking : Type 0 where
 
 -- active energy that came in, a quantity of what went out, and reactive energy that came in
 abbrev pub energy : ℕ → Quantity → ℕ → Energy
-energy a q r = record { active_in = Measured a; active_out = q; reactive_in = Measured r; reactive_out = Measured 0 }
+energy a q r = record { active_in = Some a; active_out = q; reactive_in = Some r; reactive_out = Some 0 }
 
 -- of `mercury::answering`
 pub record Answering : Type 0 where
   -- the address before the CRC; a status of code 0 as data
-  pub read : RuledOut (read_of 0x81 (0x80 ∷ 0x05 ∷ 0x00 ∷ 0x00 ∷ [])) OtherAddress
-      × RuledOut (read_of 0x80 (status_of 0x80 0)) (Data (record { active_in = Measured 0; active_out = Measured 0; reactive_in = Measured 0; reactive_out = Measured 0 }))
+  pub read : RuledOut (read_of 0x81 (0x80 ∷ 0x05 ∷ 0x00 ∷ 0x00 ∷ [])) (Err OtherAddress)
+      × RuledOut (read_of 0x80 (status_of 0x80 0)) (Ok (record { active_in = Some 0; active_out = Some 0; reactive_in = Some 0; reactive_out = Some 0 }))
   -- by the byte behind the address and not by the length: data of 65536 taken for the status 1
-  pub takes-status-0-for-data : RuledOut (read_of 0x80 (answer_of 0x80 (energy 65536 NotMeasured 1000))) (Status 1)
+  pub takes-status-0-for-data : RuledOut (read_of 0x80 (answer_of 0x80 (energy 65536 None 1000))) (Err (Status 1))
   -- FF FF FF FF as a number
-  pub measures-all-ones : RuledOut (read_of 0x80 (answer_of 0x80 (energy 2672 NotMeasured 1000))) (Data (energy 2672 (Measured 0xFFFFFFFF) 1000))
+  pub measures-all-ones : RuledOut (read_of 0x80 (answer_of 0x80 (energy 2672 None 1000))) (Ok (energy 2672 (Some 0xFFFFFFFF) 1000))
   -- the bytes from the highest down: 00 00 70 0A as 700A hex, 00 00 E8 03 as E803
-  pub numbers-in-plain-order : RuledOut (read_of 0x80 (answer_of 0x80 (energy 2672 NotMeasured 1000))) (Data (energy 0x700A NotMeasured 0xE803))
+  pub numbers-in-plain-order : RuledOut (read_of 0x80 (answer_of 0x80 (energy 2672 None 1000))) (Ok (energy 0x700A None 0xE803))
   -- a status as done; the number of the address for the CRC
-  pub wrong_number_of : RuledOut (answer_number (Status 0)) 1 × RuledOut (answer_number WrongCrc) 52
+  pub wrong_number_of : RuledOut (answer_number (Err (Status 0))) 1 × RuledOut (answer_number (Err WrongCrc)) 52
   -- no code; a refusal's number for a code
-  pub code_of : RuledOut (answer_code (Status 5)) 0 × RuledOut (answer_code WrongLength) 50
+  pub code_of : RuledOut (answer_code (Err (Status 5))) 0 × RuledOut (answer_code (Err WrongLength)) 50
 
 -- of `mercuryshow`
 pub record Showing : Type 0 where
   -- an empty capture as done; nothing shown of it
-  pub show : ((after : List ℕ) → Shows [] [] (record { number = 1; length = 0 }) after → ⊥) × ((r : Shown) → Shows [] [] r [] → ⊥)
+  pub show : ((after : List ℕ) → Shows [] [] (record { refusal = None; length = 0 }) after → ⊥) × ((r : Shown) → Shows [] [] r [] → ⊥)

@@ -1,12 +1,11 @@
 -- `mercurylink::flag` meets its contract, case by case. Assumes nothing.
 use Rattle.mercurylink.specs.Telling.{flag_of}
-use borrow.Author.Rules.{rules}
 use Rattle.mercurylink.proofs.flag.Goals as goal
 
-pub returns-in-Measured : goal.returns-in-Measured
+pub returns-in-Some : goal.returns-in-Some
 unfolding flag_of
-returns-in-Measured c = rw c.in-Measured.is
+returns-in-Some c = rw c.in-Some.is
 
-pub returns-in-NotMeasured : goal.returns-in-NotMeasured
+pub returns-in-None : goal.returns-in-None
 unfolding flag_of
-returns-in-NotMeasured c = rw c.in-NotMeasured.is
+returns-in-None c = rw c.in-None.is

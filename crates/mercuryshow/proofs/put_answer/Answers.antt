@@ -1,26 +1,20 @@
--- `mercuryshow::put_answer` meets its contract, case by case. Assumes nothing.
-use mathlib.Core.Path.{◌∙◌}
+-- `mercuryshow::put_answer` meets its contract: four lines, or the number and the code of a refusal. Assumes nothing.
+use mathlib.Core.Path.{◌≡◌, ap, ◌∙◌}
 use native.Mathlib.Nat.{zero-add}
+use lib.ListN.{length}
+use Rattle.text.specs.Writing.{stored}
+use Rattle.numerals.specs.Numerals.{number_line}
 use Rattle.mercuryshow.specs.Shown.{answer_text}
-use borrow.Author.Rules.{rules}
+use Rattle.mercuryshow.proofs.Sizes.{refused}
 use Rattle.mercuryshow.proofs.put_answer.Goals as goal
 
-pub returns-in-Data : goal.returns-in-Data
+pub returns-in-Ok : goal.returns-in-Ok
 unfolding answer_text
-returns-in-Data c = rw c.in-Data.is (record { next = c.put_energy.ensures.next; held = c.put_energy.ensures.held })
+returns-in-Ok c = rw c.in-Ok.is (record { next = c.put_energy.ensures.next; held = c.put_energy.ensures.held })
 
-pub returns-in-WrongLength : goal.returns-in-WrongLength
-unfolding answer_text
-returns-in-WrongLength c = rw c.in-WrongLength.is (record { next = c.put_line.ensures.next ∙ zero-add _; held = c.put_line.ensures.held })
-
-pub returns-in-WrongCrc : goal.returns-in-WrongCrc
-unfolding answer_text
-returns-in-WrongCrc c = rw c.in-WrongCrc.is (record { next = c.put_line-in-WrongCrc.ensures.next ∙ zero-add _; held = c.put_line-in-WrongCrc.ensures.held })
-
-pub returns-in-OtherAddress : goal.returns-in-OtherAddress
-unfolding answer_text
-returns-in-OtherAddress c = rw c.in-OtherAddress.is (record { next = c.put_line-in-OtherAddress.ensures.next ∙ zero-add _; held = c.put_line-in-OtherAddress.ensures.held })
-
-pub returns-in-Status : goal.returns-in-Status
-unfolding answer_text
-returns-in-Status c = rw c.in-Status.is (record { next = c.put_line-in-Status.ensures.next ∙ zero-add _; held = c.put_line-in-Status.ensures.held })
+pub returns-in-Err : goal.returns-in-Err
+returns-in-Err c =
+    let is = c.in-Err.is in
+    let line : number_line c.number_of-number.result c.code_of-code.result ≡ answer_text c.args.a =
+    rw (c.number_of-number.ensures, c.code_of-code.ensures, is) (refused c.in-Err.field-0) in
+    record { next = c.put_line.ensures.next ∙ zero-add _ ∙ ap length line; held = c.put_line.ensures.held ∙ ap (stored c.args.out.now 0) line }

@@ -5,7 +5,6 @@ use Rattle.line.specs.Quoted.{chars}
 use Rattle.numerals.proofs.Begun.{four-put}
 use Rattle.mercuryshow.specs.Shown.{quantity_line, energy_text}
 use Rattle.mercuryshow.proofs.Sizes.{quantity-line-few, energy-long}
-use borrow.Author.Rules.{rules}
 use Rattle.mercuryshow.proofs.put_energy.Goals as goal
 
 pub put_line-third-requires : goal.put_line-third-requires

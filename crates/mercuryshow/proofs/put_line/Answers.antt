@@ -4,7 +4,6 @@ use mathlib.Core.List.{[], ◌∷◌, ◌++◌}
 use Rattle.text.proofs.Writing.{and_then}
 use Rattle.mercuryshow.specs.Shown.{quantity_text, quantity_line}
 use Rattle.mercuryshow.proofs.Sizes.{quantity-few, line-long}
-use borrow.Author.Rules.{rules}
 use Rattle.mercuryshow.proofs.put_line.Goals as goal
 
 pub put-requires : goal.put-requires

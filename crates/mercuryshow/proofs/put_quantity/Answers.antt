@@ -2,16 +2,15 @@
 use native.Mathlib.Omega.{arith}
 use Rattle.numerals.proofs.Widths.{digits-few}
 use Rattle.mercuryshow.specs.Shown.{quantity_text}
-use borrow.Author.Rules.{rules}
 use Rattle.mercuryshow.proofs.put_quantity.Goals as goal
 
 pub put-requires : goal.put-requires
-put-requires c = omega (arith, digits-few c.in-Measured.n)
+put-requires c = omega (arith, digits-few c.in-Some.n)
 
-pub returns-in-Measured : goal.returns-in-Measured
+pub returns-in-Some : goal.returns-in-Some
 unfolding quantity_text
-returns-in-Measured c = rw c.in-Measured.is (record { next = c.put.ensures.next; held = c.put.ensures.held })
+returns-in-Some c = rw c.in-Some.is (record { next = c.put.ensures.next; held = c.put.ensures.held })
 
-pub returns-in-NotMeasured : goal.returns-in-NotMeasured
+pub returns-in-None : goal.returns-in-None
 unfolding quantity_text
-returns-in-NotMeasured c = rw c.in-NotMeasured.is (record { next = c.put-in-NotMeasured.ensures.next; held = c.put-in-NotMeasured.ensures.held })
+returns-in-None c = rw c.in-None.is (record { next = c.put-in-None.ensures.next; held = c.put-in-None.ensures.held })

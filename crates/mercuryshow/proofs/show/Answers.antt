@@ -2,14 +2,13 @@
 use mathlib.Core.Path.{◌≡◌, ap, ap₂, ◌∙◌}
 use native.Mathlib.Omega.{arith}
 use lib.ListN.{length, get_or, drop}
+use Rattle.std.specs.Result.{result_err}
 use Rattle.text.specs.Writing.{stored}
 use Rattle.text.proofs.Writing.{stored-holding}
 use Rattle.numerals.proofs.Begun.{begun}
-use Rattle.mercury.specs.declared.answering.Answer.{Answer}
-use Rattle.mercury.specs.Answering.{read_of, answer_number}
-use Rattle.mercuryshow.specs.Shown.{answer_text, exchange_read, Shows}
-use Rattle.mercuryshow.proofs.Sizes.{answer-few}
-use borrow.Author.Rules.{rules}
+use Rattle.mercury.specs.Answering.{Answer, read_of}
+use Rattle.mercuryshow.specs.Shown.{answer_text, exchange_read, shown_number, Shows}
+use Rattle.mercuryshow.proofs.Sizes.{answer-few, numbered}
 use Rattle.mercuryshow.proofs.show.Goals as goal
 
 pub returns : goal.returns
@@ -20,10 +19,12 @@ returns c =
     let put = c.put_answer-length.ensures in
     let is : read.result ≡ read_of (get_or a.capture.now 0 0) (drop 6 a.capture.now) =
     read.ensures ∙ ap₂ read_of c.at.ensures c.rest.ensures.result_value in
+    let refusal : c.err.result ≡ result_err (exchange_read a.capture.now) = c.err.ensures.value ∙ ap result_err is in
     let room = answer-few (exchange_read a.capture.now) in
-    let s : Shows a.capture.now a.out.now (record { number = c.number_of.result; length = c.put_answer-length.result }) _ =
+    let s : Shows a.capture.now a.out.now (record { refusal = c.err.result; length = c.put_answer-length.result }) _ =
     record {
-      number = c.number_of.ensures ∙ ap answer_number is;
+      refusal = refusal;
+      number = ap shown_number refusal ∙ numbered _;
       long = put.next ∙ ap (λ (x : Answer). length (answer_text x)) is;
       held = put.held ∙ ap (λ (x : Answer). stored a.out.now 0 (answer_text x)) is ∙ stored-holding a.out.now (answer_text (exchange_read a.capture.now)) (omega (arith, room));
     } in

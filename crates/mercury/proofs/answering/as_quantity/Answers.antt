@@ -7,6 +7,6 @@ pub returns-then-n-eq4294967295 : goal.returns-then-n-eq4294967295
 unfolding quantity_of
 returns-then-n-eq4294967295 c = rw (eq-eqb _ _ c.if-n-eq4294967295.true)
 
-pub returns : goal.returns
+pub returns-else-n-eq4294967295 : goal.returns-else-n-eq4294967295
 unfolding quantity_of
-returns c = rw (ne_eqb _ _ c.if-n-eq4294967295.false)
+returns-else-n-eq4294967295 c = rw (ne_eqb _ _ c.if-n-eq4294967295.false)

@@ -1,5 +1,4 @@
 -- `mercury::answering::energy_in` meets its contract: four quantities at their places. Assumes nothing.
-use borrow.Author.Rules.{rules}
 use Rattle.mercury.specs.Answering.{energy_of}
 use Rattle.mercury.proofs.answering.energy_in.Goals as goal
 

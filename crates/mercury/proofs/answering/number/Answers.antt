@@ -1,9 +1,8 @@
 -- `mercury::answering::number` meets its contract. Assumes nothing.
-use mathlib.Core.Path.{refl}
-use borrow.Author.Rules.{rules}
+use native.Mathlib.Omega.{arith}
 use Rattle.mercury.specs.Answering.{number_from}
 use Rattle.mercury.proofs.answering.number.Goals as goal
 
 pub returns : goal.returns
 unfolding number_from
-returns c = refl
+returns c = omega (arith, c.from_be_bytes.ensures)

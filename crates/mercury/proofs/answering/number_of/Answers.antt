@@ -1,24 +1,10 @@
 -- `mercury::answering::number_of` meets its contract, case by case. Assumes nothing.
-use borrow.Author.Rules.{rules}
 use Rattle.mercury.specs.Answering.{answer_number}
 use Rattle.mercury.proofs.answering.number_of.Goals as goal
 
-pub returns-in-Data : goal.returns-in-Data
+pub returns-in-Ok : goal.returns-in-Ok
 unfolding answer_number
-returns-in-Data c = rw c.in-Data.is
+returns-in-Ok c = rw c.in-Ok.is
 
-pub returns-in-WrongLength : goal.returns-in-WrongLength
-unfolding answer_number
-returns-in-WrongLength c = rw c.in-WrongLength.is
-
-pub returns-in-WrongCrc : goal.returns-in-WrongCrc
-unfolding answer_number
-returns-in-WrongCrc c = rw c.in-WrongCrc.is
-
-pub returns-in-OtherAddress : goal.returns-in-OtherAddress
-unfolding answer_number
-returns-in-OtherAddress c = rw c.in-OtherAddress.is
-
-pub returns-in-Status : goal.returns-in-Status
-unfolding answer_number
-returns-in-Status c = rw c.in-Status.is
+pub returns-in-Err : goal.returns-in-Err
+returns-in-Err c = rw c.in-Err.is c.number.ensures

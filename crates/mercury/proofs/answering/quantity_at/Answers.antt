@@ -1,6 +1,5 @@
 -- `mercury::answering::quantity_at` meets its contract: the four bytes, by the two functions that it calls. Assumes nothing.
 use mathlib.Core.Path.{ap, ◌∙◌}
-use borrow.Author.Rules.{rules}
 use Rattle.mercury.specs.Answering.{quantity_of, quantity_at}
 use Rattle.mercury.proofs.answering.quantity_at.Goals as goal
 

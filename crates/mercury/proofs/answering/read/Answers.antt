@@ -1,9 +1,8 @@
 -- `mercury::answering::read` meets its contract: each way out is the case of the definition that its tests name. Assumes nothing.
-use mathlib.Core.Path.{◌≡◌, sym, ap, ◌∙◌}
+use mathlib.Core.Path.{sym, ap, ◌∙◌}
 use native.Mathlib.Omega.{arith}
-use borrow.Author.Rules.{rules}
-use borrow.Author.Tests.{not-true, not-false, eq-eqb, ne_eqb}
-use Rattle.mercury.specs.declared.answering.Answer.TheVariants.{Data}
+use borrow.Author.Tests.{eq-eqb, ne_eqb}
+use Rattle.std.specs.Prelude.{Ok}
 use Rattle.mercury.proofs.Lengths.{at-least-four, just-nineteen}
 use Rattle.mercury.proofs.Ways.{wrong-length, wrong-crc, other-address, a-status, some-data}
 use Rattle.mercury.proofs.answering.read.Goals as goal
@@ -19,20 +18,20 @@ pub bounds-s-1 : goal.bounds-s-1
 bounds-s-1 c =
     omega (arith, at-least-four _ (sym c.good_length.ensures ∙ c.if-not-good_length.false))
 
-pub returns-then-not-checked : goal.returns-then-not-checked
-returns-then-not-checked c =
+pub returns-then-not-check : goal.returns-then-not-check
+returns-then-not-check c =
     let sized = sym c.good_length.ensures ∙ c.if-not-good_length.false in
-    wrong-crc _ _ sized (sym c.check-checked.ensures ∙ c.if-not-checked.true)
+    wrong-crc _ _ sized (sym c.check.ensures ∙ c.if-not-check.true)
 
-pub returns-then-not-ours : goal.returns-then-not-ours
-returns-then-not-ours c =
+pub returns-then-s-address : goal.returns-then-s-address
+returns-then-s-address c =
     let sized = sym c.good_length.ensures ∙ c.if-not-good_length.false in
-    other-address _ _ sized (sym c.check-checked.ensures ∙ c.if-not-checked.false) (ne_eqb _ _ c.if-not-ours.true)
+    other-address _ _ sized (sym c.check.ensures ∙ c.if-not-check.false) (ne_eqb _ _ c.if-s-address.true)
 
 pub returns-then-s-eq-STATUS : goal.returns-then-s-eq-STATUS
 returns-then-s-eq-STATUS c =
     let sized = sym c.good_length.ensures ∙ c.if-not-good_length.false in
-    a-status _ _ sized (sym c.check-checked.ensures ∙ c.if-not-checked.false) (eq-eqb _ _ c.if-not-ours.false) (eq-eqb _ _ c.if-s-eq-STATUS.true)
+    a-status _ _ sized (sym c.check.ensures ∙ c.if-not-check.false) (eq-eqb _ _ c.if-s-address.false) (eq-eqb _ _ c.if-s-eq-STATUS.true)
 
 pub energy_in-requires : goal.energy_in-requires
 energy_in-requires c =
@@ -42,6 +41,6 @@ energy_in-requires c =
 pub returns : goal.returns
 returns c =
     let sized = sym c.good_length.ensures ∙ c.if-not-good_length.false in
-    ap Data c.energy_in.ensures
-    ∙ some-data _ _ sized (sym c.check-checked.ensures ∙ c.if-not-checked.false) (eq-eqb _ _ c.if-not-ours.false)
+    ap Ok c.energy_in.ensures
+    ∙ some-data _ _ sized (sym c.check.ensures ∙ c.if-not-check.false) (eq-eqb _ _ c.if-s-address.false)
     (ne_eqb _ _ c.if-s-eq-STATUS.false)

@@ -1,10 +1,5 @@
 -- `mercury::asking::ask` meets its contract: a field out of range, too short an output, or the request at its front. Assumes nothing.
-use mathlib.Core.Path.{◌≡◌, sym, ap, ◌∙◌}
-use Prim.Native.Nat.{ℕ}
-use mathlib.Core.List.{List}
-use native.Mathlib.Omega.{arith}
-use borrow.Author.Rules.{rules}
-use borrow.Author.Tests.{not-true, not-false}
+use mathlib.Core.Path.{sym, ap, ◌∙◌}
 use Rattle.text.specs.Writing.{stored}
 use Rattle.mercury.proofs.Ranges.{fields_le}
 use Rattle.mercury.proofs.Asks.{out_of_range, no_room, built, six}
