@@ -10,10 +10,17 @@ use lib.Seq.{length-take-le}
 use Rattle.text.specs.Writing.{stored, holding}
 use Rattle.text.proofs.Beginnings.{one-longest}
 use Rattle.text.proofs.Writing.{stored-holding}
+use Rattle.std.specs.Prelude.{Result, Ok, Err, IsErrAnd}
+use Rattle.post.specs.declared.Refusal as post
+use Rattle.post.specs.declared.Refusal.TheVariants as check
+use Rattle.post.specs.Refusals as checked
 use Rattle.post.specs.Grammar.{IsPost}
 use Rattle.post.specs.Place.{Refused, CheckedAs}
 use Rattle.post.proofs.Reading.{good-rising, one-reading, length-post, count_entries}
 use Rattle.post.proofs.Answers.{longest-text, long-answer}
+use Rattle.export.specs.declared.Refusal.{Refusal}
+use Rattle.export.specs.declared.Refusal.TheVariants.{NoPost, NoRoom, NoEdition}
+use Rattle.export.specs.Refusals.{from_post, refusal_number, answer_number, answer_length, answer_place}
 use Rattle.export.specs.Frames.{frames_of, ExportedAs}
 use Rattle.export.specs.Changed.{changed_lines}
 use Rattle.export.proofs.Lines.{length-lines, lines_are}
@@ -35,6 +42,19 @@ module _ (tables : ℕ) (text : List ℕ) (number place : ℕ) where
   answers-20 out c h =
       let r = refusal-of c h in
       inr (inr (record { refused = refl; no-post = r.no-post; longest = r.longest; no_length = refl; kept = refl }))
+
+-- no refusal has the number of what is done
+pub not-done : (r : Refusal) → refusal_number r ≡ 1 → ⊥
+not-done (NoPost place) e = omega arith
+not-done NoRoom e = omega arith
+not-done NoEdition e = omega arith
+
+-- what the check refuses, the export does
+pub answers-refused : (tables : ℕ) (text out : List ℕ) (r : post.Refusal) (answer : Result ℕ Refusal) → CheckedAs tables text (checked.refusal_number r) (checked.refusal_place r)
+    → IsErrAnd answer (λ e. e ≡ from_post r) → ExportedAs tables text out (answer_number answer) (answer_length answer) (answer_place answer) out
+answers-refused tables text out r (Ok length) c e = absurd e
+answers-refused tables text out (check.NoPost place) (Err why) c e = rw e (answers-20 tables text 20 place out c (λ z. omega arith))
+answers-refused tables text out check.NoEdition (Err why) c e = absurd (omega (arith, (refusal-of tables text 16 0 c (λ z. omega arith)).refused))
 
 module _ (tables : ℕ) (text out : List ℕ) (p : IsPost tables text) where
   lines_of : length text / 36 ≡ length p.entries

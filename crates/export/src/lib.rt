@@ -5,18 +5,53 @@ ghost use Rattle.std.specs.Prelude.{◌≡◌, ◌+◌, ◌*◌, ◌<◌, ◌≤
 ghost use Rattle.text.specs.Writing.{stored};
 ghost use Rattle.export.specs.Frames.{ExportedAs, ExportedFor};
 ghost use Rattle.export.specs.Changed.{change, changed_line, changed_lines};
+ghost use Rattle.export.specs.Refusals.{from_post, refusal_number, refusal_place, answer_number, answer_length, answer_place};
 
 // The line of a table, and the frame that sets it, with LF in the place of the BCC: in which bits a column of the one differs from the other's.
 const LINE: [u8; 36] = *b"131.0.00(111111111111111111111111)\r\n";
 
 const FRAME: [u8; 36] = *b"\x01W1\x02Z(00;111111111111111111111111)\x03\n";
 
-// The export's answer: 1 with the length, 20 with the place, or 21, or 16.
-#[derive(Clone, Copy)]
-pub struct Exported {
-    pub number: u8,
-    pub length: usize,
-    pub place: usize,
+// Why there are no frames: the text is no post, and leaves every post at this place; the buffer is too short; there is no such edition.
+#[derive(Clone, Copy, Debug, PartialEq, Eq)]
+pub enum Refusal {
+    NoPost(usize),
+    NoRoom,
+    NoEdition,
+}
+
+impl Refusal {
+    // Document 01's number: 20, 21 or 16.
+    pub fn number(self) -> u8
+        ensures { result ≡ refusal_number self }
+    {
+        match self {
+            Refusal::NoPost(_) => 20,
+            Refusal::NoRoom => 21,
+            Refusal::NoEdition => 16,
+        }
+    }
+
+    // The place that document 01 gives with it: 0 but for a text that is no post.
+    pub fn place(self) -> usize
+        ensures { result ≡ refusal_place self }
+    {
+        match self {
+            Refusal::NoPost(place) => place,
+            Refusal::NoRoom | Refusal::NoEdition => 0,
+        }
+    }
+}
+
+impl From<post::Refusal> for Refusal {
+    ghost from_gives = { λ p r. r ≡ from_post p };
+
+    fn from(refusal: post::Refusal) -> Refusal {
+        match refusal {
+            post::Refusal::NoPost(place) => Refusal::NoPost(place),
+            post::Refusal::NoEdition => Refusal::NoEdition,
+        }
+    }
 }
 
 // The line at a place, copied: an array of its own is apart from the buffer, so that it is read once for all that is made of it.
@@ -24,13 +59,7 @@ fn line_at(text: &[u8], at: usize) -> [u8; 36]
     requires { at + 36 ≤ length text.now }
     ensures { result ≡ take 36 (drop at text.now) }
 {
-    let mut copy = [0u8; 36];
-    let mut i = 0;
-    while i < 36 {
-        copy[i] = text[at + i];
-        i += 1;
-    }
-    copy
+    <[u8; 36]>::try_from(&text[at..at + 36]).unwrap()
 }
 
 // What a line is changed by, column by column.
@@ -40,10 +69,8 @@ fn differences() -> [u8; 36]
     let line = LINE;
     let frame = FRAME;
     let mut changes = [0u8; 36];
-    let mut i = 0;
-    while i < 36 {
+    for i in 0..36 {
         changes[i] = line[i] ^ frame[i];
-        i += 1;
     }
     changes
 }
@@ -54,10 +81,8 @@ fn write_frame(changes: &[u8; 36], text: &[u8], at: usize, out: &mut [u8])
     ensures { out.new ≡ stored out.old at (changed_line (drop at text.now)) }
 {
     let copy = line_at(text, at);
-    let mut j = 0;
-    while j < 36 {
+    for j in 0..36 {
         out[at + j] = line::wire(copy[j] ^ changes[j]);
-        j += 1;
     }
     // The BCC of the line up to the row's end; 44 is what the fixed parts of line and frame differ in.
     let sum = line::bcc(&copy[..33]);
@@ -70,53 +95,31 @@ fn write_frames(text: &[u8], lines: usize, out: &mut [u8])
     ensures { out.new ≡ stored out.old 0 (changed_lines text.now lines) }
 {
     let changes = differences();
-    let mut i = 0;
-    while i < lines {
+    for i in 0..lines {
         write_frame(&changes, text, 36 * i, out);
-        i += 1;
     }
 }
 
-// The export, for so many tables.
-pub fn export_of(text: &[u8], out: &mut [u8], tables: u8) -> Exported
+// The export, for so many tables: how long the frames are.
+pub fn export_of(text: &[u8], out: &mut [u8], tables: u8) -> Result<usize, Refusal>
     requires { (0 < tables) × (tables < 100) }
-    ensures { ExportedAs tables text.now out.old result.number result.length result.place out.new }
+    ensures { ExportedAs tables text.now out.old (answer_number result) (answer_length result) (answer_place result) out.new }
 {
-    let checked = post::check_of(text, tables);
-    let number = checked.number;
-    if number != 1 {
-        return Exported {
-            number: 20,
-            length: 0,
-            place: checked.place,
-        };
-    }
+    post::check_of(text, tables)?;
     let lines = text.len() / 36;
     if out.len() < 36 * lines {
-        return Exported {
-            number: 21,
-            length: 0,
-            place: 0,
-        };
+        return Err(Refusal::NoRoom);
     }
     write_frames(text, lines, out);
-    Exported {
-        number: 1,
-        length: 36 * lines,
-        place: 0,
-    }
+    Ok(36 * lines)
 }
 
 // The export: the frames of a post for an edition, or why there are none; a refusal leaves the buffer as it was.
-pub fn export(edition: u8, text: &[u8], out: &mut [u8]) -> Exported
-    ensures { ExportedFor edition text.now out.old result.number result.length result.place out.new }
+pub fn export(edition: u8, text: &[u8], out: &mut [u8]) -> Result<usize, Refusal>
+    ensures { ExportedFor edition text.now out.old (answer_number result) (answer_length result) (answer_place result) out.new }
 {
-    if values::is_edition(edition) {
-        return export_of(text, out, values::tables_of(edition));
+    if !values::is_edition(edition) {
+        return Err(Refusal::NoEdition);
     }
-    Exported {
-        number: 16,
-        length: 0,
-        place: 0,
-    }
+    export_of(text, out, values::tables_of(edition))
 }

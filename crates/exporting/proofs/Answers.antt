@@ -1,6 +1,7 @@
 -- What the exporter shows, from what the export answers; a text has one showing; and a text longer than every post is shown as its
 -- beginning is. Assumes nothing.
-use mathlib.Core.Path.{◌≡◌, refl, sym, ap, ◌∙◌}
+use mathlib.Core.Path.{◌≡◌, refl, sym, ap, ap₂, ◌∙◌}
+use mathlib.Core.Bool.{Bool, true, false}
 use mathlib.Core.Logic.{◌⊎◌, inl, inr, ⊎_elim}
 use mathlib.Core.List.{List, ◌++◌}
 use Prim.Native.Nat.{ℕ, ◌+◌, ◌*◌, ◌<◌, ◌≤◌}
@@ -14,14 +15,17 @@ use Rattle.text.specs.Writing.{stored, holding}
 use Rattle.text.proofs.Writing.{stored-holding}
 use Rattle.numerals.specs.Numerals.{number_line}
 use Rattle.numerals.proofs.Widths.{line-few}
+use Rattle.numerals.proofs.Begun.{begun}
+use Rattle.values.specs.Edition.{is_edition, tables_of}
+use Rattle.values.proofs.Editions.{tables-most}
 use Rattle.post.specs.Grammar.{Entry, IsPost, post_text}
 use Rattle.post.proofs.Reading.{good-rising, one-reading}
 use Rattle.post.proofs.Answers.{longest-text}
-use Rattle.export.specs.Frames.{frames_of, Done, NoRoom, NoPost, ExportedAs}
+use Rattle.export.specs.Frames.{frames_of, Done, NoRoom, NoPost, ExportedAs, ExportedFor}
 use Rattle.export.specs.Changed.{changed_lines}
 use Rattle.export.proofs.Lines.{length-lines, lines_are}
 use Rattle.export.proofs.Answers.{room-enough}
-use Rattle.exporting.specs.Shown.{FramesShown, PlaceShown, ExportShown, ShowsExport}
+use Rattle.exporting.specs.Shown.{FramesShown, PlaceShown, ExportShown, ShowsExport, ShownFor}
 
 -- 36 bytes a line
 length-frames : (tables : ℕ) (text : List ℕ) (p : IsPost tables text) → length (frames_of p.entries) ≡ 36 * length p.entries
@@ -65,6 +69,45 @@ module _ (tables : ℕ) (text out : List ℕ) (number size place : ℕ) (after :
       (λ r.
       ⊎_elim (λ n. absurd (⊎_elim (λ one. omega (arith, n.refused)) (λ twenty. omega (arith, n.refused)) answers))
       (refusal-shows room count k last w) r) e
+
+-- the same for an edition, of what the export answers
+module _ (edition : ℕ) (text out : List ℕ) (room : 900 ≤ length out) where
+  pub shows-done : (size : ℕ) (after : List ℕ) → ExportedFor edition text out 1 size 0 after → ShownFor edition text out 1 size after
+  shows-done size after x =
+      record { none = λ e. absurd (omega (arith, (x.none e).0)); some = λ e. shows-frames (tables_of edition) text out 1 size 0 after (x.some e) refl }
+
+  pub shows-refused : (number place : ℕ) (after : List ℕ) → (number ≡ 1 → ⊥) → ExportedFor edition text out number 0 place after → (count : ℕ)
+      → count ≡ 0 + length (number_line number place) → (last : List ℕ) → last ≡ stored after 0 (number_line number place) → ShownFor edition text out number count last
+  shows-refused number place after h x count k last w =
+      record {
+        none =
+            λ e.
+            let n = x.none e in
+            let line : number_line number place ≡ number_line 16 0 = ap₂ number_line n.0 n.2 in (
+              n.0,
+              k ∙ zero-add (length (number_line number place)) ∙ ap length line,
+              w ∙ ap₂ (λ (b l : List ℕ). stored b 0 l) n.3 line ∙ stored-holding out (number_line 16 0) (omega (arith, line-few 16 0)),
+            );
+        some =
+            λ e.
+            let all : 36 * tables_of edition ≤ length out = omega (arith, tables-most edition) in
+            let n : number ≡ 20 = ⊎_elim (λ d. absurd (h d)) (λ d. d) (room-enough (tables_of edition) text out number 0 place after all (x.some e)) in
+            let s : ShowsExport (tables_of edition) text out 20 count last =
+            shows-place (tables_of edition) text out number 0 place after (x.some e) h all (omega arith) count
+            (k ∙ ap (λ (m : ℕ). 0 + length (number_line m place)) n) last (w ∙ ap (λ (m : ℕ). stored after 0 (number_line m place)) n) in
+            rw n s;
+      }
+
+-- what is shown stands at the front of the buffer
+pub shown-within : (edition : ℕ) (text out : List ℕ) (number size : ℕ) (after : List ℕ) → ShownFor edition text out number size after
+    → (size ≤ length after) × (size ≡ length (take size after))
+shown-within edition text out number size after s = ⊎_elim
+    (λ e. let x = s.some e in begun out x.shown size x.long after x.held)
+    (λ e. let x = s.none e in begun out (number_line 16 0) size x.1 after x.2) (one-way (is_edition edition))
+  where
+    one-way : (b : Bool) → (b ≡ true) ⊎ (b ≡ false)
+    one-way true = inl refl
+    one-way false = inr refl
 
 -- a text has one showing
 pub one-showing : (tables : ℕ) (text : List ℕ) (n : ℕ) (s : List ℕ) (m : ℕ) (t : List ℕ) → tables < 100

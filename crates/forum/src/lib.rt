@@ -9,9 +9,16 @@ ghost use Rattle.export.specs.Frames.{ExportedFor};
 pub extern "C" fn dirgemist_post_check(edition: u8, text: &[u8], place: &mut usize) -> u8
     ensures { CheckedFor edition text.now result place.new }
 {
-    let checked = post::check(edition, text);
-    *place = checked.place;
-    checked.number
+    match post::check(edition, text) {
+        Ok(()) => {
+            *place = 0;
+            1
+        }
+        Err(refusal) => {
+            *place = refusal.place();
+            refusal.number()
+        }
+    }
 }
 
 // The frames of a post for an edition: 1, 20, 21 or 16; length and place are always written, the buffer only with 1.
@@ -25,8 +32,16 @@ pub extern "C" fn dirgemist_post_export(
 ) -> u8
     ensures { ExportedFor edition text.now out.old result length.new place.new out.new }
 {
-    let exported = export::export(edition, text, out);
-    *length = exported.length;
-    *place = exported.place;
-    exported.number
+    match export::export(edition, text, out) {
+        Ok(size) => {
+            *length = size;
+            *place = 0;
+            1
+        }
+        Err(refusal) => {
+            *length = 0;
+            *place = refusal.place();
+            refusal.number()
+        }
+    }
 }

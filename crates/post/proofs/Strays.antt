@@ -1,24 +1,13 @@
 -- Where the 36 columns of a line stray: the smallest of those that do, seen in three windows. Assumes nothing.
-use Rattle.std.proofs.Common.{◌≡◌, ℕ, ◌+◌, ◌-◌, ◌<◌, ◌≤◌, Bool, true, false, cond, ltb, ◌⊎◌, List, length, sym, refl, ap, ◌∙◌, inl, inr, ⊎_elim, arith, below_more, le-ltb, lt-ltb}
-use Rattle.post.specs.Columns.{column_fits, columns_fit, straying, smaller, StraysFirst, FirstStray}
+use Rattle.std.proofs.Common.{◌≡◌, ℕ, ◌+◌, ◌-◌, ◌<◌, ◌≤◌, min, Bool, true, false, cond, ltb, ◌⊎◌, List, length, sym, refl, ap, ◌∙◌, inl, inr, ⊎_elim, arith, below_more, le-ltb, lt-ltb}
+use Rattle.std.proofs.Math.Nat.{min-le_left, min-le_right, min-eq_left, min-eq_right}
+use Rattle.post.specs.Columns.{column_fits, columns_fit, straying, StraysFirst, FirstStray}
 use Rattle.text.proofs.Beginnings.{le-or-lt}
 use Rattle.post.proofs.Places.{columns-each, columns-all}
 
 never : (b : Bool) → (b ≡ true → ⊥) → b ≡ false
 never true h = absurd (h refl)
 never false h = refl
-
-pub smaller-left : (a b : ℕ) → smaller a b ≤ a
-unfolding smaller
-smaller-left a b = ⊎_elim (λ h. rw (le-ltb b a h) (omega arith)) (λ h. rw (lt-ltb b a h) (omega arith)) (le-or-lt a b)
-
-pub smaller-right : (a b : ℕ) → smaller a b ≤ b
-unfolding smaller
-smaller-right a b = ⊎_elim (λ h. rw (le-ltb b a h) h) (λ h. rw (lt-ltb b a h) (omega arith)) (le-or-lt a b)
-
-pub smaller-one : (a b : ℕ) → (smaller a b ≡ a) ⊎ (smaller a b ≡ b)
-unfolding smaller
-smaller-one a b = ⊎_elim (λ h. inl (rw (le-ltb b a h))) (λ h. inr (rw (lt-ltb b a h))) (le-or-lt a b)
 
 -- a column that is past its number fits
 below-fits : (fits : Bool) (k end column : ℕ) → column ≤ straying fits k end → k < column → fits ≡ true
@@ -31,9 +20,9 @@ module _ (s : List ℕ) (end : ℕ) where
   unfoldable Stray : ℕ → Type 0
   Stray x = x < end → column_fits s x ≡ false
 
-  stray-smaller : (a b : ℕ) → Stray a → Stray b → Stray (smaller a b)
-  unfolding Stray smaller
-  stray-smaller a b p q = ⊎_elim (λ h. rw (le-ltb b a h) p) (λ h. rw (lt-ltb b a h) q) (le-or-lt a b)
+  stray-min : (a b : ℕ) → Stray a → Stray b → Stray (min a b)
+  unfolding Stray
+  stray-min a b p q = ⊎_elim (λ h. let e : min a b ≡ a = min-eq_left h in rw e p) (λ h. let e : min a b ≡ b = min-eq_right (omega arith) in rw e q) (le-or-lt a b)
 
   stray-if : (fits : Bool) (k : ℕ) → fits ≡ column_fits s k → Stray (straying fits k end)
   unfolding Stray straying
@@ -57,25 +46,25 @@ module _ (s : List ℕ) (b d : ℕ) where
   -- the next column of each window
   module _ (n column : ℕ) (f g h : Bool) (p : f ≡ column_fits s n) (q : g ≡ column_fits s (b + n)) (r : h ≡ column_fits s (d + n)) (l : Least n column) where
     abbrev now-least : ℕ
-    now-least = smaller (smaller column (straying f n (d + 16))) (smaller (straying g (b + n) (d + 16)) (straying h (d + n) (d + 16)))
+    now-least = min (min column (straying f n (d + 16))) (min (straying g (b + n) (d + 16)) (straying h (d + n) (d + 16)))
 
-    to-left : now-least ≤ smaller column (straying f n (d + 16))
-    to-left = smaller-left (smaller column (straying f n (d + 16))) (smaller (straying g (b + n) (d + 16)) (straying h (d + n) (d + 16)))
+    to-left : now-least ≤ min column (straying f n (d + 16))
+    to-left = min-le_left (min column (straying f n (d + 16))) (min (straying g (b + n) (d + 16)) (straying h (d + n) (d + 16)))
 
-    to-right : now-least ≤ smaller (straying g (b + n) (d + 16)) (straying h (d + n) (d + 16))
-    to-right = smaller-right (smaller column (straying f n (d + 16))) (smaller (straying g (b + n) (d + 16)) (straying h (d + n) (d + 16)))
+    to-right : now-least ≤ min (straying g (b + n) (d + 16)) (straying h (d + n) (d + 16))
+    to-right = min-le_right (min column (straying f n (d + 16))) (min (straying g (b + n) (d + 16)) (straying h (d + n) (d + 16)))
 
     no_more : now-least ≤ column
-    no_more = omega (arith, to-left, smaller-left column (straying f n (d + 16)))
+    no_more = omega (arith, to-left, min-le_left column (straying f n (d + 16)))
 
     pub least_more : Least (n + 1) now-least
     least_more =
         record {
           in-line = omega (arith, no_more, l.in-line);
-          one = unfold Stray in (stray-smaller s (d + 16) _ _ (stray-smaller s (d + 16) _ _ l.one (stray-if s (d + 16) f n p)) (stray-smaller s (d + 16) _ _ (stray-if s (d + 16) g (b + n) q) (stray-if s (d + 16) h (d + n) r)));
-          first = below_more _ n (λ i k. omega (arith, no_more, l.first i k)) (rw (← p) (omega (arith, to-left, smaller-right column (straying f n (d + 16)))));
-          second = below_more _ n (λ i k. omega (arith, no_more, l.second i k)) (rw (← q) (omega (arith, to-right, smaller-left (straying g (b + n) (d + 16)) (straying h (d + n) (d + 16)))));
-          third = below_more _ n (λ i k. omega (arith, no_more, l.third i k)) (rw (← r) (omega (arith, to-right, smaller-right (straying g (b + n) (d + 16)) (straying h (d + n) (d + 16)))));
+          one = unfold Stray in (stray-min s (d + 16) _ _ (stray-min s (d + 16) _ _ l.one (stray-if s (d + 16) f n p)) (stray-min s (d + 16) _ _ (stray-if s (d + 16) g (b + n) q) (stray-if s (d + 16) h (d + n) r)));
+          first = below_more _ n (λ i k. omega (arith, no_more, l.first i k)) (rw (← p) (omega (arith, to-left, min-le_right column (straying f n (d + 16)))));
+          second = below_more _ n (λ i k. omega (arith, no_more, l.second i k)) (rw (← q) (omega (arith, to-right, min-le_left (straying g (b + n) (d + 16)) (straying h (d + n) (d + 16)))));
+          third = below_more _ n (λ i k. omega (arith, no_more, l.third i k)) (rw (← r) (omega (arith, to-right, min-le_right (straying g (b + n) (d + 16)) (straying h (d + n) (d + 16)))));
         }
 
   -- where the windows leave no gap, all columns before their end were seen

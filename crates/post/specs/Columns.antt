@@ -89,9 +89,6 @@ pub record StraysFirst (s : List ℕ) (end column : ℕ) : Type 0 where
 unfoldable pub straying : Bool → ℕ → ℕ → ℕ
 straying fits column end = cond fits end column
 
-unfoldable pub smaller : ℕ → ℕ → ℕ
-smaller a b = cond (nat_lt b a) b a
-
 -- the columns at j of the three windows that hold a line's 36: at 0, 16 and 20
 unfoldable pub three : List ℕ → ℕ → Bool
 three s j = (column_fits s j && column_fits s (16 + j)) && column_fits s (20 + j)

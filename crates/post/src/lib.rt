@@ -2,11 +2,12 @@
 // Whole lines are accepted at once; the place is looked for only in the line that failed. All is said over the number of tables.
 #![tactic(auto)]
 
-ghost use Rattle.std.specs.Prelude.{◌≡◌, ℕ, ◌+◌, ◌*◌, ◌<◌, ◌≤◌, true, false, length, drop, slice_index, slice_index_or};
+ghost use Rattle.std.specs.Prelude.{◌≡◌, ℕ, ◌+◌, ◌*◌, ◌<◌, ◌≤◌, true, false, length, drop, slice_index, slice_index_or, MatchOption};
 ghost use Rattle.text.specs.Beginnings.{Longest};
 ghost use Rattle.post.specs.Grammar.{last_line, IsPost};
 ghost use Rattle.post.specs.Place.{CheckedAs, CheckedFor};
-ghost use Rattle.post.specs.Columns.{lowest, highest, column_fits, next_number, straying, smaller, StraysFirst, FirstStray, LinePlace, LastPlace, begins_last, is_last, TookLine, LineRises};
+ghost use Rattle.post.specs.Refusals.{refusal_number, refusal_place, answer_number, answer_place};
+ghost use Rattle.post.specs.Columns.{lowest, highest, column_fits, next_number, straying, StraysFirst, FirstStray, LinePlace, LastPlace, begins_last, is_last, TookLine, LineRises};
 ghost use Rattle.post.specs.Rest.{Rest, Scanned};
 
 // The lowest and the highest character of each column of a line, `131.0.xx(row)` CR LF.
@@ -14,11 +15,33 @@ const LOWEST: [u8; 36] = *b"131.0.00(111111111111111111111111)\r\n";
 
 const HIGHEST: [u8; 36] = *b"131.0.99(444444444444444444444444)\r\n";
 
-// The check's answer: 1, or 20 with the place, or 16.
-#[derive(Clone, Copy)]
-pub struct Checked {
-    pub number: u8,
-    pub place: usize,
+// Why a text is refused: it is no post, and leaves every post at this place; or there is no such edition.
+#[derive(Clone, Copy, Debug, PartialEq, Eq)]
+pub enum Refusal {
+    NoPost(usize),
+    NoEdition,
+}
+
+impl Refusal {
+    // Document 01's number: 20 or 16.
+    pub fn number(self) -> u8
+        ensures { result ≡ refusal_number self }
+    {
+        match self {
+            Refusal::NoPost(_) => 20,
+            Refusal::NoEdition => 16,
+        }
+    }
+
+    // The place that document 01 gives with it: 0 where no text was looked at.
+    pub fn place(self) -> usize
+        ensures { result ≡ refusal_place self }
+    {
+        match self {
+            Refusal::NoPost(place) => place,
+            Refusal::NoEdition => 0,
+        }
+    }
 }
 
 // How far whole lines reach, the number of the last, and the first column that strays below it.
@@ -40,22 +63,11 @@ fn column_fits(low: &[u8; 36], high: &[u8; 36], text: &[u8], at: usize, j: usize
 }
 
 // A column that strays, as its number; the end where it fits.
+#[tactic(auto, unfolding(crate::specs::Columns::straying))]
 fn straying(fits: bool, column: u8, end: u8) -> u8
     ensures { result ≡ straying fits column end }
 {
-    if fits {
-        return end;
-    }
-    column
-}
-
-fn smaller(a: u8, b: u8) -> u8
-    ensures { result ≡ smaller a b }
-{
-    if b < a {
-        return b;
-    }
-    a
+    if fits { end } else { column }
 }
 
 // The first column from a place on that strays, of those that three windows of 16 hold, and their end where none does. All are seen at
@@ -74,9 +86,8 @@ fn stray_in(
     ensures { StraysFirst (drop at text.now) (third + 16) result }
 {
     let end = third + 16;
-    let mut column: u8 = end;
-    let mut j: u8 = 0;
-    while j < 16 {
+    let mut column = end;
+    for j in 0..16u8 {
         let i = j as usize;
         let first = straying(column_fits(low, high, text, at, i), j, end);
         let next = straying(
@@ -89,8 +100,7 @@ fn stray_in(
             third + j,
             end,
         );
-        column = smaller(smaller(column, first), smaller(next, last));
-        j += 1;
+        column = column.min(first).min(next.min(last));
     }
     column as usize
 }
@@ -115,7 +125,7 @@ fn late_stray(s: &[u8]) -> usize
     let low = LOWEST;
     let high = HIGHEST;
     let third = (s.len() - 16) as u8;
-    stray_in(&low, &high, &low, &high, s, 0, smaller(16, third), third)
+    stray_in(&low, &high, &low, &high, s, 0, third.min(16), third)
 }
 
 // The first column that strays in a text shorter than a line.
@@ -128,32 +138,30 @@ fn first_stray(s: &[u8]) -> usize
     }
     let low = LOWEST;
     let high = HIGHEST;
-    let mut j = 0;
-    while j < s.len() {
+    for j in 0..s.len() {
         if !column_fits(&low, &high, s, 0, j) {
             return j;
         }
-        j += 1;
     }
-    j
+    s.len()
 }
 
-// The number of the line that stands at a place, below another, from its first stray column; 0 where none does that may come next.
-fn next_number(text: &[u8], at: usize, stray: usize, above: u8, tables: u8) -> u8
+// The number of the line that stands at a place, below another, from its first stray column, where one does that may come next.
+fn next_number(text: &[u8], at: usize, stray: usize, above: u8, tables: u8) -> Option<u8>
     requires { (at + 36 ≤ length text.now) × FirstStray (drop at text.now) stray }
-    ensures { result ≡ next_number tables above (drop at text.now) }
+    ensures { MatchOption result (next_number tables above (drop at text.now) ≡ 0) (λ n. (above < n) × (n ≡ next_number tables above (drop at text.now))) }
 {
     if stray < 36 {
-        return 0;
+        return None;
     }
     let n = (text[at + 6] - b'0') * 10 + (text[at + 7] - b'0');
     if n <= above {
-        return 0;
+        return None;
     }
     if tables < n {
-        return 0;
+        return None;
     }
-    n
+    Some(n)
 }
 
 // Goes over the lines that stand one below the other with rising numbers.
@@ -163,16 +171,13 @@ fn scan(text: &[u8], tables: u8) -> Reached
 {
     let lines = text.len() / 36;
     let mut above = 0;
-    let mut l = 0;
-    while l < lines {
+    for l in 0..lines {
         let at = 36 * l;
         let stray = stray_at(text, at);
-        let n = next_number(text, at, stray, above, tables);
-        if n == 0 {
+        let Some(n) = next_number(text, at, stray, above, tables) else {
             return Reached { at, above, stray };
-        }
+        };
         above = n;
-        l += 1;
     }
     let at = 36 * lines;
     let stray = first_stray(&text[at..]);
@@ -215,42 +220,27 @@ fn last_place(s: &[u8]) -> usize
     requires { begins_last 1 s.now ≡ true }
     ensures { LastPlace s.now result }
 {
-    if s.len() < 2 {
-        return 1;
+    match s {
+        [_, b'\r', b'\n', ..] => 3,
+        [_, b'\r', ..] => 2,
+        _ => 1,
     }
-    if s[1] != b'\r' {
-        return 1;
-    }
-    if s.len() < 3 {
-        return 2;
-    }
-    if s[2] != b'\n' {
-        return 2;
-    }
-    3
 }
 
 // Whether a text below some line begins like the last line.
+#[tactic(auto, unfolding(crate::specs::Columns::begins_last))]
 fn begins_last(s: &[u8], above: u8) -> bool
     ensures { result ≡ begins_last above s.now }
 {
-    if above == 0 {
-        return false;
-    }
-    if s.len() == 0 {
-        return false;
-    }
-    s[0] == b'!'
+    above > 0 && matches!(s, [b'!', ..])
 }
 
 // Whether a text below some line is the last line.
+#[tactic(auto, unfolding(crate::specs::Columns::is_last, crate::specs::Grammar::last_line))]
 fn is_last(s: &[u8], above: u8) -> bool
     ensures { result ≡ is_last above s.now }
 {
-    if above == 0 {
-        return false;
-    }
-    text::same(s, b"!\r\n")
+    above > 0 && text::same(s, b"!\r\n")
 }
 
 // The place of what stands below the lines, where it begins with no line.
@@ -277,13 +267,11 @@ fn take_line(
     requires { (low.now ≡ lowest) × (high.now ≡ highest) × (floor.now ≡ lowest) × (ceiling.now ≡ highest) × (at + 36 ≤ length text.now) × (length fits.old ≡ 16) }
     ensures { TookLine (drop at text.now) fits.old fits.new 16 }
 {
-    let mut j = 0;
-    while j < 16 {
+    for j in 0..16 {
         let first = column_fits(low, high, text, at, j);
         let second = column_fits(low, high, text, at, 16 + j);
         let third = column_fits(floor, ceiling, text, at, 20 + j);
         fits[j] = fits[j] & ((first & second) & third);
-        j += 1;
     }
 }
 
@@ -292,18 +280,10 @@ fn all_set(fits: &[bool; 16]) -> bool
     ensures { result ≡ true → (i : ℕ) → i < 16 → slice_index_or fits.now i false ≡ true }
 {
     let mut all = true;
-    let mut j = 0;
-    while j < 16 {
-        all = all & fits[j];
-        j += 1;
+    for fit in fits {
+        all = all & *fit;
     }
     all
-}
-
-fn wide(x: u8) -> u16
-    ensures { (result ≡ x) × (result < 256) }
-{
-    x as u16
 }
 
 // The two digits of the line at a place as a number, 528 above the table's.
@@ -311,7 +291,7 @@ fn raw_number(text: &[u8], at: usize) -> u16
     requires { at + 36 ≤ length text.now }
     ensures { result ≡ slice_index text.now (at + 6) * 10 + slice_index text.now (at + 7) }
 {
-    wide(text[at + 6]) * 10 + wide(text[at + 7])
+    u16::from(text[at + 6]) * 10 + u16::from(text[at + 7])
 }
 
 // Whether so many lines stand one below the other with rising numbers, with no way out before their end.
@@ -323,18 +303,16 @@ fn lines_rise(text: &[u8], lines: usize, tables: u8) -> bool
     let high = HIGHEST;
     let floor = LOWEST;
     let ceiling = HIGHEST;
-    let top = 528 + wide(tables);
+    let top = 528 + u16::from(tables);
     let mut fits = [true; 16];
     let mut above: u16 = 528;
     let mut rise = true;
-    let mut l = 0;
-    while l < lines {
+    for l in 0..lines {
         let at = 36 * l;
         take_line(&low, &high, &floor, &ceiling, text, at, &mut fits);
         let raw = raw_number(text, at);
         rise = rise & ((above < raw) & (raw <= top));
         above = raw;
-        l += 1;
     }
     all_set(&fits) & rise
 }
@@ -362,42 +340,28 @@ fn seen_whole(text: &[u8], tables: u8) -> bool
 }
 
 // The check, for so many tables.
-pub fn check_of(text: &[u8], tables: u8) -> Checked
+pub fn check_of(text: &[u8], tables: u8) -> Result<(), Refusal>
     requires { (0 < tables) × (tables < 100) }
-    ensures { CheckedAs tables text.now result.number result.place }
+    ensures { CheckedAs tables text.now (answer_number result) (answer_place result) }
 {
     if seen_whole(text, tables) {
-        return Checked {
-            number: 1,
-            place: 0,
-        };
+        return Ok(());
     }
     let lines = scan(text, tables);
-    let at = lines.at;
-    let above = lines.above;
-    let rest = &text[at..];
-    if is_last(rest, above) {
-        return Checked {
-            number: 1,
-            place: 0,
-        };
+    let rest = &text[lines.at..];
+    if is_last(rest, lines.above) {
+        return Ok(());
     }
-    let place = rest_place(rest, lines.stray, above, tables);
-    Checked {
-        number: 20,
-        place: at + place,
-    }
+    let place = rest_place(rest, lines.stray, lines.above, tables);
+    Err(Refusal::NoPost(lines.at + place))
 }
 
 // The check: whether a text is a post for an edition, and if not, where it leaves every post.
-pub fn check(edition: u8, text: &[u8]) -> Checked
-    ensures { CheckedFor edition text.now result.number result.place }
+pub fn check(edition: u8, text: &[u8]) -> Result<(), Refusal>
+    ensures { CheckedFor edition text.now (answer_number result) (answer_place result) }
 {
-    if values::is_edition(edition) {
-        return check_of(text, values::tables_of(edition));
+    if !values::is_edition(edition) {
+        return Err(Refusal::NoEdition);
     }
-    Checked {
-        number: 16,
-        place: 0,
-    }
+    check_of(text, values::tables_of(edition))
 }

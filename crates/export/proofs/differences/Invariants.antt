@@ -8,6 +8,3 @@ use Rattle.export.proofs.differences.Given as goal
 
 abbrev pub invariant-loop-i : goal.invariant-loop-i
 invariant-loop-i l = (l.i ≤ 36) × (length l.changes ≡ 36) × (l.changes ≡ stored (replicate 36 0) 0 (take l.i change))
-
-abbrev pub decreases-loop-i : goal.decreases-loop-i
-decreases-loop-i l = 36 - l.i

@@ -9,6 +9,3 @@ use Rattle.export.proofs.write_frame.Given as goal
 
 abbrev pub invariant-loop-j : goal.invariant-loop-j
 invariant-loop-j l = (l.j ≤ 36) × (length l.out ≡ length l.initial.out) × (l.out ≡ stored l.initial.out l.at (changed_to (drop l.at l.text) l.j))
-
-abbrev pub decreases-loop-j : goal.decreases-loop-j
-decreases-loop-j l = 36 - l.j

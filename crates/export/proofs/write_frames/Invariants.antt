@@ -8,6 +8,3 @@ use Rattle.export.proofs.write_frames.Given as goal
 
 abbrev pub invariant-loop-i : goal.invariant-loop-i
 invariant-loop-i l = (l.changes ≡ change) × (l.i ≤ l.lines) × (length l.out ≡ length l.initial.out) × (l.out ≡ stored l.initial.out 0 (changed_lines l.text l.i))
-
-abbrev pub decreases-loop-i : goal.decreases-loop-i
-decreases-loop-i l = l.lines - l.i

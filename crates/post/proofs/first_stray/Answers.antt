@@ -35,4 +35,5 @@ loop-j-preserved c =
 pub returns : goal.returns
 returns c =
     let l = c.loop-j in
-    record { in-text = l.invariant.3; in-line = omega arith; before = l.invariant.4; stops = λ h k. absurd (omega arith) }
+    let e : l.j ≡ length c.args.s.now = omega arith in
+    record { in-text = omega arith; in-line = omega arith; before = λ j h. l.invariant.4 j (omega arith); stops = λ h k. absurd (omega arith) }

@@ -6,6 +6,3 @@ use Rattle.post.proofs.first_stray.Given as goal
 
 abbrev pub invariant-loop-j : goal.invariant-loop-j
 invariant-loop-j l = (l.low ≡ lowest) × (l.high ≡ highest) × (length l.s < 36) × (l.j ≤ length l.s) × ((i : ℕ) → i < l.j → column_fits l.s i ≡ true)
-
-abbrev pub decreases-loop-j : goal.decreases-loop-j
-decreases-loop-j l = length l.s - l.j

@@ -1,5 +1,5 @@
--- `post::last_place` meets its contract: each way out is the place that its tests name. Assumes nothing.
-use Rattle.std.proofs.Common.{◌≡◌, ℕ, suc, ◌<◌, ◌≤◌, true, eqb, ltb, List, [], ◌∷◌, length, get_or, take, sym, refl, ap, ◌∙◌, arith, rules, ltb-true, eqb-true}
+-- `post::last_place` meets its contract: each arm is as much of the last line as its pattern names. Assumes nothing.
+use Rattle.std.proofs.Common.{◌≡◌, ℕ, ◌<◌, ◌≤◌, true, eqb, ltb, List, [], ◌∷◌, length, get_or, take, sym, arith, rules, ltb-true, eqb-true}
 use Rattle.line.proofs.Runs.{and_left, and_right}
 use Rattle.post.specs.Grammar.{last_line}
 use Rattle.post.specs.Columns.{begins_last, LastPlace}
@@ -30,34 +30,38 @@ same-three (x ∷ []) h a b d = absurd (omega arith)
 same-three (x ∷ y ∷ []) h a b d = absurd (omega arith)
 same-three (x ∷ y ∷ z ∷ s) h a b d = rw (a, b, d)
 
-pub returns-then-s-lt2 : goal.returns-then-s-lt2
+-- and no more
+one : (s : List ℕ) → begins_last 1 s ≡ true → (1 < length s → get_or s 1 0 ≡ 13 → ⊥) → LastPlace s 1
 unfolding last_line
-returns-then-s-lt2 c =
-    let s = c.args.s.now in
-    let f = first-is s c.requires in
-    record { some = omega arith; in-text = omega (arith, f.0); in-line = omega arith; same = same-one s f.0 f.1; stops = λ a b d. omega (arith, c.if-s-lt2.true) }
+one s e x =
+    let f = first-is s e in
+    record { some = omega arith; in-text = omega (arith, f.0); in-line = omega arith; same = same-one s f.0 f.1; stops = λ a b d. x b (sym d) }
 
-pub returns-then-s-ne13 : goal.returns-then-s-ne13
+two : (s : List ℕ) → begins_last 1 s ≡ true → 1 < length s → get_or s 1 0 ≡ 13 → (2 < length s → get_or s 2 0 ≡ 10 → ⊥) → LastPlace s 2
 unfolding last_line
-returns-then-s-ne13 c =
-    let s = c.args.s.now in
-    let f = first-is s c.requires in
-    record { some = omega arith; in-text = omega (arith, f.0); in-line = omega arith; same = same-one s f.0 f.1; stops = λ a b d. c.if-s-ne13.true (sym d) }
+two s e h b x =
+    let f = first-is s e in
+    record { some = omega arith; in-text = omega arith; in-line = omega arith; same = same-two s h f.1 b; stops = λ a k d. x k (sym d) }
 
-pub returns-then-s-lt3 : goal.returns-then-s-lt3
-unfolding last_line
-returns-then-s-lt3 c =
-    let s = c.args.s.now in
-    let f = first-is s c.requires in
-    record { some = omega arith; in-text = omega arith; in-line = omega arith; same = same-two s (omega arith) f.1 c.if-s-ne13.false; stops = λ a b d. omega arith }
+three : (s : List ℕ) → begins_last 1 s ≡ true → 2 < length s → get_or s 1 0 ≡ 13 → get_or s 2 0 ≡ 10 → LastPlace s 3
+three s e h b d =
+    let f = first-is s e in
+    record { some = omega arith; in-text = omega arith; in-line = omega arith; same = same-three s h f.1 b d; stops = λ a. absurd (omega arith) }
 
-pub returns-then-s-ne10 : goal.returns-then-s-ne10
-unfolding last_line
-returns-then-s-ne10 c = let s = c.args.s.now in
-    let f = first-is s c.requires in
-    record { some = omega arith; in-text = omega arith; in-line = omega arith; same = same-two s (omega arith) f.1 c.if-s-ne13.false; stops = λ a b d. c.if-s-ne10.true (sym d) }
+pub returns-in-13 : goal.returns-in-13
+returns-in-13 c = three c.args.s.now c.requires (omega arith) (search rules) (search rules)
 
-pub returns : goal.returns
-returns c = let s = c.args.s.now in
-    let f = first-is s c.requires in
-    record { some = omega arith; in-text = omega arith; in-line = omega arith; same = same-three s (omega arith) f.1 c.if-s-ne13.false c.if-s-ne10.false; stops = λ a b d. omega arith }
+pub returns-in-13-2 : goal.returns-in-13-2
+returns-in-13-2 c = two c.args.s.now c.requires (omega arith) (search rules) (λ h. absurd (omega arith))
+
+pub returns-in-13-2-2 : goal.returns-in-13-2-2
+returns-in-13-2-2 c = two c.args.s.now c.requires (omega arith) (search rules) (λ h. search rules)
+
+pub returns-in_default : goal.returns-in_default
+returns-in_default c = one c.args.s.now c.requires (λ h. absurd (omega arith))
+
+pub returns-in_default-2 : goal.returns-in_default-2
+returns-in_default-2 c = one c.args.s.now c.requires (λ h. search rules)
+
+pub returns-in_default-3 : goal.returns-in_default-3
+returns-in_default-3 c = one c.args.s.now c.requires (λ h. search rules)

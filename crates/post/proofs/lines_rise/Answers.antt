@@ -10,11 +10,11 @@ unfolding raw_at
 raw-is text l raw e = e
 
 pub overflow_add-top : goal.overflow_add-top
-overflow_add-top c = omega (arith, c.wide-top.ensures.1)
+overflow_add-top c = omega (arith, c.from-top.ensures)
 
 pub loop-l-init : goal.loop-l-init
 unfolding lowest highest
-loop-l-init c = (refl, refl, refl, refl, ap (λ (x : ℕ). 528 + x) c.wide-top.ensures.0, omega arith, rose-none _ _ _ refl)
+loop-l-init c = (refl, refl, refl, refl, ap (λ (x : ℕ). 528 + x) c.from-top.ensures, omega arith, rose-none _ _ _ refl)
 
 pub take_line-requires : goal.take_line-requires
 take_line-requires c =

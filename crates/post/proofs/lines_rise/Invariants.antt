@@ -7,6 +7,3 @@ use Rattle.post.proofs.lines_rise.Given as goal
 
 abbrev pub invariant-loop-l : goal.invariant-loop-l
 invariant-loop-l l = (l.low ≡ lowest) × (l.high ≡ highest) × (l.floor ≡ lowest) × (l.ceiling ≡ highest) × (l.top ≡ 528 + l.tables) × (l.l ≤ l.lines) × (Rose l.tables l.text l.l l.above l.rise l.fits)
-
-abbrev pub decreases-loop-l : goal.decreases-loop-l
-decreases-loop-l l = l.lines - l.l

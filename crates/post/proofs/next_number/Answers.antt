@@ -23,15 +23,15 @@ unfolding number_of
 number_at text at = rw (get_or-drop at text 6 0, get_or-drop at text 7 0)
 
 -- the three ways to find none
-strays : (tables above : ℕ) (s : List ℕ) → columns_fit s 36 ≡ false → 0 ≡ next_number tables above s
+strays : (tables above : ℕ) (s : List ℕ) → columns_fit s 36 ≡ false → next_number tables above s ≡ 0
 unfolding next_number pick
 strays tables above s e = rw e
 
-too-low : (tables above n : ℕ) (s : List ℕ) → columns_fit s 36 ≡ true → number_of s ≡ n → n ≤ above → 0 ≡ next_number tables above s
+too-low : (tables above n : ℕ) (s : List ℕ) → columns_fit s 36 ≡ true → number_of s ≡ n → n ≤ above → next_number tables above s ≡ 0
 unfolding next_number pick may_follow
 too-low tables above n s e q h = rw (e, q, le-ltb above n h)
 
-too-high : (tables above n : ℕ) (s : List ℕ) → columns_fit s 36 ≡ true → number_of s ≡ n → above < n → tables < n → 0 ≡ next_number tables above s
+too-high : (tables above n : ℕ) (s : List ℕ) → columns_fit s 36 ≡ true → number_of s ≡ n → above < n → tables < n → next_number tables above s ≡ 0
 unfolding next_number pick may_follow
 too-high tables above n s e q h k = rw (e, q, lt-ltb above n h, lt-leb n tables k)
 
@@ -68,5 +68,7 @@ returns-then-tables-n c = let a = c.args in
     too-high a.tables a.above _ (drop a.at a.text.now) (whole-fits (drop c.args.at c.args.text.now) c.args.stray c.requires.1 c.if-stray-lt36.false) (number_at a.text.now a.at) (omega (arith, c.if-n-above.false)) c.if-tables-n.true
 
 pub returns : goal.returns
-returns c = let a = c.args in
-    found a.tables a.above _ (drop a.at a.text.now) (whole-fits (drop c.args.at c.args.text.now) c.args.stray c.requires.1 c.if-stray-lt36.false) (number_at a.text.now a.at) (omega (arith, c.if-n-above.false)) c.if-tables-n.false
+returns c = let a = c.args in (
+  omega arith,
+  found a.tables a.above _ (drop a.at a.text.now) (whole-fits (drop c.args.at c.args.text.now) c.args.stray c.requires.1 c.if-stray-lt36.false) (number_at a.text.now a.at) (omega (arith, c.if-n-above.false)) c.if-tables-n.false,
+)

@@ -15,21 +15,18 @@ overflow_mul-at c = omega (arith, c.loop-l.invariant.0)
 pub stray_at-stray-requires : goal.stray_at-stray-requires
 stray_at-stray-requires c = omega (arith, c.loop-l.invariant.0)
 
-pub next_number-n-requires : goal.next_number-n-requires
-next_number-n-requires c = (omega (arith, c.loop-l.invariant.0), c.stray_at-stray.ensures)
+pub next_number-requires : goal.next_number-requires
+next_number-requires c = (omega (arith, c.loop-l.invariant.0), c.stray_at-stray.ensures)
 
-pub returns-then-n-eq0 : goal.returns-then-n-eq0
-returns-then-n-eq0 c = record { passed = c.loop-l.invariant.2; stops = λ h. sym c.next_number-n.ensures ∙ c.if-n-eq0.true; strays = c.stray_at-stray.ensures }
-
-pub overflow_add-l : goal.overflow_add-l
-overflow_add-l c = omega (arith, c.loop-l.invariant.0)
+pub returns-in_default : goal.returns-in_default
+returns-in_default c = record { passed = c.loop-l.invariant.2; stops = λ h. c.in_default.ensures; strays = c.stray_at-stray.ensures }
 
 pub loop-l-preserved : goal.loop-l-preserved
 loop-l-preserved c = let l = c.loop-l in
     let a = c.args in
     let t = a.text.now in
     let h : 36 * l.l + 36 ≤ length t = omega (arith, l.invariant.0) in
-    let st = stands a.tables l.above _ (drop (36 * l.l) t) (rw (length-drop (36 * l.l) t) (omega arith)) (sym c.next_number-n.ensures) c.if-n-eq0.false in
+    let st = stands a.tables l.above _ (drop (36 * l.l) t) (rw (length-drop (36 * l.l) t) (omega arith)) (sym c.in-Some.ensures.1) (λ e. omega (arith, c.in-Some.ensures.0)) in
     let e : 36 * l.l + 36 ≡ 36 * (l.l + 1) = omega arith in
     (l.invariant.0, omega arith, rw e at (passed-more a.tables l.above (36 * l.l) _ t c.requires h l.invariant.2 st))
 

@@ -8,6 +8,3 @@ use Rattle.post.proofs.scan.Given as goal
 
 abbrev pub invariant-loop-l : goal.invariant-loop-l
 invariant-loop-l l = (l.lines ≡ length l.text / 36) × (l.l ≤ l.lines) × (Passed l.tables l.text (36 * l.l) l.above)
-
-abbrev pub decreases-loop-l : goal.decreases-loop-l
-decreases-loop-l l = l.lines - l.l

@@ -1,6 +1,6 @@
 -- `post::stray_in` meets its contract: the smallest of the columns that stray so far, in each window. Assumes nothing.
-use Rattle.std.proofs.Common.{◌≡◌, ℕ, ◌+◌, ◌-◌, ◌<◌, ◌≤◌, length, drop, sym, refl, ap, ◌∙◌, arith}
-use Rattle.post.specs.Columns.{lowest, highest, column_fits, straying, smaller}
+use Rattle.std.proofs.Common.{◌≡◌, ℕ, min, ◌+◌, ◌-◌, ◌<◌, ◌≤◌, length, drop, sym, refl, ap, ◌∙◌, arith}
+use Rattle.post.specs.Columns.{lowest, highest, column_fits, straying}
 use Rattle.post.proofs.Strays.{Least, least-none, least_more, least-all}
 use Rattle.post.proofs.stray_in.Goals as goal
 
@@ -44,10 +44,10 @@ loop-j-preserved c =
     let f = c.column_fits in
     let g = c.column_fits-in-loop-j in
     let h = c.column_fits-in-loop-j-2 in
-    let e : c.smaller-column.result ≡ smaller (smaller l.column (straying f.result l.j (a.third + 16))) (smaller (straying g.result (a.second + l.j) (a.third + 16)) (straying h.result (a.third + l.j) (a.third + 16))) =
-    rw (c.smaller-column.ensures, c.smaller-in-loop-j.ensures, c.smaller.ensures, c.straying-first.ensures, c.straying-next.ensures, c.straying-last.ensures) in (
+    let e : c.min-column.result ≡ min (min l.column (straying f.result l.j (a.third + 16))) (min (straying g.result (a.second + l.j) (a.third + 16)) (straying h.result (a.third + l.j) (a.third + 16))) =
+    rw (c.min-column.ensures, c.min.ensures, c.min-in-loop-j.ensures, c.straying-first.ensures, c.straying-next.ensures, c.straying-last.ensures) in (
       l.invariant.0,
-      omega (arith, c.loop-j-test.true),
+      omega arith,
       rw e (least_more (drop a.at a.text.now) a.second a.third l.j l.column f.result g.result h.result f.ensures g.ensures h.ensures l.invariant.2),
     )
 

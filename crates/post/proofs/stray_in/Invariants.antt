@@ -1,11 +1,8 @@
 -- `post::stray_in` meets its contract: the smallest of the columns that stray so far, in each window. Assumes nothing.
 use Rattle.std.proofs.Common.{◌≡◌, ℕ, ◌+◌, ◌-◌, ◌<◌, ◌≤◌, length, drop, sym, refl, ap, ◌∙◌, arith}
-use Rattle.post.specs.Columns.{lowest, highest, column_fits, straying, smaller}
+use Rattle.post.specs.Columns.{lowest, highest, column_fits, straying}
 use Rattle.post.proofs.Strays.{Least, least-none, least_more, least-all}
 use Rattle.post.proofs.stray_in.Given as goal
 
 abbrev pub invariant-loop-j : goal.invariant-loop-j
 invariant-loop-j l = (l.end ≡ l.third + 16) × (l.j ≤ 16) × (Least (drop l.at l.text) l.second l.third l.j l.column)
-
-abbrev pub decreases-loop-j : goal.decreases-loop-j
-decreases-loop-j l = 16 - l.j

@@ -6,6 +6,3 @@ use Rattle.post.proofs.take_line.Given as goal
 
 abbrev pub invariant-loop-j : goal.invariant-loop-j
 invariant-loop-j l = (l.j ≤ 16) × (length l.fits ≡ 16) × (TookLine (drop l.at l.text) l.initial.fits l.fits l.j)
-
-abbrev pub decreases-loop-j : goal.decreases-loop-j
-decreases-loop-j l = 16 - l.j
