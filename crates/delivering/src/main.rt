@@ -12,6 +12,5 @@ fn main(rt: HostRuntime) {
     let n = input.length;
     let mut out = [0u8; 667];
     let said = reporting::report(streams::edition_told(&rt), &text[..n], &mut out);
-    let length = said.length;
-    streams::write_once(&rt, &out[..length], said.number == 1);
+    streams::write_once(&rt, &out[..said.length], said.outcome.is_ok());
 }

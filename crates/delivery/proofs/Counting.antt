@@ -18,7 +18,12 @@ use Rattle.post.specs.Grammar.{Entry, IsPost}
 use Rattle.post.proofs.Reading.{good-rising, one-reading}
 use Rattle.text.proofs.Beginnings.{one-longest}
 use Rattle.export.specs.Frames.{frames_of, ExportedAs}
-use Rattle.export.proofs.Answers.{room-enough}
+use Rattle.export.proofs.Answers.{room-enough, not-done}
+use Rattle.std.specs.Prelude.{Result, Ok, Err, IsErrAnd}
+use Rattle.export.specs.declared.Refusal.{Refusal}
+use Rattle.export.specs.Refusals.{refusal_number, refusal_place, answer_number, answer_place}
+use Rattle.delivery.specs.declared.Fed.{Fed}
+use Rattle.delivery.specs.Outcome.{acknowledged_in, left_in}
 use Rattle.dialogue.specs.Feeding.{Said, answered, left, full}
 use Rattle.delivery.specs.Acknowledged.{nothing, acknowledgement, is_done, acknowledgements, acknowledged_once}
 use Rattle.delivery.specs.Delivery.{Delivered, DeliveredAs}
@@ -96,12 +101,12 @@ count-once speed (e ∷ es) =
 
 -- what the export's answer comes to
 module _ (m : Meter) (text out : List ℕ) (number size place : ℕ) (after : List ℕ) (room : 900 ≤ length out) where
-  pub not-delivered : (number ≡ 1 → ⊥) → ExportedAs (tables_in m.registers) text out number size place after → DeliveredAs m text 20 place 0 m
+  pub not-delivered : (number ≡ 1 → ⊥) → ExportedAs (tables_in m.registers) text out number size place after → DeliveredAs m text number place 0 m
   unfolding DeliveredAs ExportedAs
   not-delivered other (inl x) = absurd (other x.done)
   not-delivered other (inr (inl x)) =
       absurd (⊎_elim other (λ e. omega (arith, x.refused)) (room-enough (tables_in m.registers) text out number size place after (omega (arith, room, tables-most (edition_of m))) (inr (inl x))))
-  not-delivered other (inr (inr x)) = inr (record { refused = refl; no-post = x.no-post; longest = x.longest; none = refl; kept = refl })
+  not-delivered other (inr (inr x)) = inr (record { refused = x.refused; no-post = x.no-post; longest = x.longest; none = refl; kept = refl })
 
   pub was-delivered : (done : ℕ) (next : Meter) → number ≡ 1 → done ≡ acknowledgements (answered m full (take size after)) → next ≡ left m full (take size after)
       → ExportedAs (tables_in m.registers) text out number size place after → DeliveredAs m text 1 0 done next
@@ -126,6 +131,12 @@ module _ (m : Meter) (text out : List ℕ) (number size place : ℕ) (after : Li
       })
   was-delivered done next one c e (inr (inl x)) = absurd (omega (arith, x.refused))
   was-delivered done next one c e (inr (inr x)) = absurd (omega (arith, x.refused))
+
+-- a refusal of the export is the delivery's
+pub refused : (m : Meter) (text out : List ℕ) (r : Refusal) (after : List ℕ) → 900 ≤ length out → ExportedAs (tables_in m.registers) text out (refusal_number r) 0 (refusal_place r) after
+    → (answer : Result Fed Refusal) → IsErrAnd answer (λ e. e ≡ r) → DeliveredAs m text (answer_number answer) (answer_place answer) (acknowledged_in answer) (left_in m answer)
+refused m text out r after room x (Ok fed) e = absurd e
+refused m text out r after room x (Err why) e = rw e (not-delivered m text out (refusal_number r) 0 (refusal_place r) after room (not-done r) x)
 
 -- any two answers that are right are equal, with the next state
 pub one-delivery : (m : Meter) (text : List ℕ) (n p k : ℕ) (x : Meter) (i q j : ℕ) (y : Meter) → DeliveredAs m text n p k x → DeliveredAs m text i q j y

@@ -1,7 +1,7 @@
 -- The delivery of a post, over all posts and all states: the frames of its entries fed to a meter that is ready, with rooms of 4,096 or more.
 -- Assumes nothing.
 use mathlib.Core.Path.{◌≡◌, refl, sym, ap, ap₂, subst, ◌∙◌}
-use mathlib.Core.Bool.{true, false}
+use mathlib.Core.Bool.{true}
 use mathlib.Core.List.{List, [], ◌∷◌, map}
 use Prim.Native.Nat.{ℕ, ◌*◌, ◌≤◌}
 use native.Mathlib.Omega.{arith}
@@ -10,7 +10,6 @@ use lib.Dec.{leb}
 use lib.ListN.{length, take, drop, length-append, length-map}
 use lib.Seq.{take-append_seam}
 use Rattle.line.specs.Characters.{sent}
-use Rattle.line.specs.Runs.{every}
 use Rattle.line.proofs.Runs.{and_left}
 use Rattle.text.specs.Classes.{between}
 use Rattle.text.specs.Writing.{holding}
@@ -21,7 +20,7 @@ use Rattle.values.proofs.Editions.{tables-most, tables-least}
 use Rattle.state.specs.declared.Meter.{Meter}
 use Rattle.state.specs.Link.{link_of, is_wired}
 use Rattle.state.specs.WellFormed.{tables_in, edition_of}
-use Rattle.state.proofs.Parts.{formed, long}
+use Rattle.state.proofs.Parts.{long}
 use Rattle.frames.specs.Frames.{frame_of}
 use Rattle.frames.specs.Commands.{W1, set_table}
 use Rattle.frames.proofs.Table.{length-table-frame}

@@ -1,22 +1,17 @@
 -- Rows put into the tables: each named table holds its row, and every other is as before.
 -- A row is put at its own place, apart from every other table's. Assumes nothing.
 use mathlib.Core.Path.{◌≡◌, refl, ap, ◌∙◌}
-use mathlib.Core.Bool.{Bool, true}
+use mathlib.Core.Bool.{true}
 use mathlib.Core.Logic.{◌⊎◌, inl, inr, ⊎_elim}
 use mathlib.Core.List.Memᴰ
 use mathlib.Core.List.{List, [], ◌∷◌, ◌++◌, append_assoc, Memᴰ}
-use Prim.Native.Nat.{ℕ, zero, suc, ◌+◌, ◌-◌, ◌*◌, ◌≤◌, ◌<◌}
+use Prim.Native.Nat.{ℕ, ◌+◌, ◌-◌, ◌*◌, ◌≤◌, ◌<◌}
 use native.Mathlib.Omega.{arith}
-use lib.Dec.{eqb}
 use lib.ListN.{length, take, drop, set}
 use lib.Seq.{drop-set-lt, drop-set-add, take-set-le, length-take-le, take_at, drop_at}
-use Rattle.line.specs.Runs.{every}
-use Rattle.line.proofs.Runs.{and_left, and_right, and_both}
-use Rattle.text.specs.Classes.{between}
 use Rattle.text.specs.Writing.{stored}
-use Rattle.text.proofs.Writing.{length-stored, stored_is, every-stored}
+use Rattle.text.proofs.Writing.{length-stored, stored_is}
 use Rattle.state.specs.Sizes.{row_length, table_places}
-use Rattle.state.specs.WellFormed.{tables_good}
 use Rattle.replies.specs.Shown.{row_of}
 use Rattle.post.specs.Grammar.{Entry, rising}
 use Rattle.post.proofs.Lines.{row-length}

@@ -1,5 +1,5 @@
 -- Demand 3: what a meter answers to the bytes of a post's frames, and the tables that they leave.
-use Rattle.std.specs.Prelude.{cond, List, [], ◌∷◌, ◌++◌, ℕ, ◌+◌, ◌-◌, ◌*◌, eqb, replicate}
+use Rattle.std.specs.Prelude.{cond, List, [], ◌∷◌, ◌++◌, ℕ, ◌+◌, eqb, replicate}
 use Rattle.state.specs.declared.Meter.{Meter}
 use Rattle.post.specs.Grammar.{Entry}
 use Rattle.state.specs.Setting.{with_registers, with_tables, with_row}

@@ -1,3 +1,4 @@
 pub mod Acknowledged
 pub mod Other
 pub mod Delivery
+pub mod Outcome

@@ -5,25 +5,19 @@ ghost use Rattle.std.specs.Prelude.{◌≡◌, ◌+◌, ◌<◌};
 ghost use Rattle.state.specs.Sizes.{reply_room};
 ghost use Rattle.meter.specs.Outcomes.{answer_of};
 ghost use Rattle.meter.specs.Character.{character};
+ghost use Rattle.export.specs.Refusals.{answer_number, answer_place};
 ghost use Rattle.dialogue.specs.Feeding.{answered, left, full};
 ghost use Rattle.delivery.specs.Acknowledged.{is_done, acknowledgements};
 ghost use Rattle.delivery.specs.Delivery.{DeliveredAs};
+ghost use Rattle.delivery.specs.Outcome.{acknowledged_in, left_in};
 
+use export::Refusal;
 use meter::Answer;
 use state::{Meter, REPLY_ROOM};
 
 // How many bytes were answered 1, and the state after them.
 #[derive(Clone, Copy)]
 pub struct Fed {
-    pub acknowledged: usize,
-    pub next: Meter,
-}
-
-// What became of a text: 1 with the acknowledgements, or 20 with the place.
-#[derive(Clone, Copy)]
-pub struct Delivered {
-    pub number: u8,
-    pub place: usize,
     pub acknowledged: usize,
     pub next: Meter,
 }
@@ -36,27 +30,16 @@ fn give(m: Meter, b: u8) -> Answer
     meter::receive(m, b, &mut reply)
 }
 
-fn is_done(number: u8) -> usize
-    ensures { result ≡ is_done number }
-{
-    if number == 1 {
-        return 1;
-    }
-    0
-}
-
 // One byte more.
 fn step(f: Fed, b: u8) -> Fed
     requires { f.acknowledged < 18446744073709551615 }
     ensures acknowledged { result.acknowledged ≡ f.acknowledged + is_done (character f.next reply_room b).number }
     ensures next { result.next ≡ (character f.next reply_room b).next }
 {
-    let before = f.next;
-    let answer = give(before, b);
-    let next = answer.next;
+    let answer = give(f.next, b);
     Fed {
-        acknowledged: f.acknowledged + is_done(answer.number),
-        next,
+        acknowledged: f.acknowledged + usize::from(answer.number == 1),
+        next: answer.next,
     }
 }
 
@@ -69,39 +52,18 @@ pub fn feed(m: Meter, bytes: &[u8]) -> Fed
         acknowledged: 0,
         next: m,
     };
-    let mut i = 0;
-    while i < bytes.len() {
-        fed = step(fed, bytes[i]);
-        i += 1;
+    for b in bytes {
+        fed = step(fed, *b);
     }
     fed
 }
 
-// A text, exported for the meter's edition and fed to it.
-pub fn deliver(m: Meter, text: &[u8]) -> Delivered
-    ensures { DeliveredAs m text.now result.number result.place result.acknowledged result.next }
+// A text, exported for the meter's edition and fed to it; a refusal leaves the meter that the caller has.
+pub fn deliver(m: Meter, text: &[u8]) -> Result<Fed, Refusal>
+    ensures { DeliveredAs m text.now (answer_number result) (answer_place result) (acknowledged_in result) (left_in m result) }
 {
-    let g = m.registers;
-    let f = g.facts;
-    let tables = values::tables_of(f.edition);
+    let tables = values::tables_of(m.registers.facts.edition);
     let mut out = [0u8; 900];
-    let exported = export::export_of(text, &mut out, tables);
-    let number = exported.number;
-    let length = exported.length;
-    if number != 1 {
-        return Delivered {
-            number: 20,
-            place: exported.place,
-            acknowledged: 0,
-            next: m,
-        };
-    }
-    let fed = feed(m, &out[..length]);
-    let next = fed.next;
-    Delivered {
-        number: 1,
-        place: 0,
-        acknowledged: fed.acknowledged,
-        next,
-    }
+    let length = export::export_of(text, &mut out, tables)?;
+    Ok(feed(m, &out[..length]))
 }

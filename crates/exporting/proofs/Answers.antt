@@ -3,29 +3,27 @@
 use mathlib.Core.Path.{◌≡◌, refl, sym, ap, ap₂, ◌∙◌}
 use mathlib.Core.Bool.{Bool, true, false}
 use mathlib.Core.Logic.{◌⊎◌, inl, inr, ⊎_elim}
-use mathlib.Core.List.{List, ◌++◌}
+use mathlib.Core.List.{List}
 use Prim.Native.Nat.{ℕ, ◌+◌, ◌*◌, ◌<◌, ◌≤◌}
 use native.Mathlib.Nat.{zero-add}
 use native.Mathlib.Omega.{arith}
-use lib.ListN.{length, take, drop, length-append, length-drop}
+use lib.ListN.{length, take}
 use lib.Seq.{length-take-le}
-use Rattle.text.specs.Beginnings.{Longest}
 use Rattle.text.proofs.Beginnings.{one-longest, longest-whole}
-use Rattle.text.specs.Writing.{stored, holding}
+use Rattle.text.specs.Writing.{stored}
 use Rattle.text.proofs.Writing.{stored-holding}
 use Rattle.numerals.specs.Numerals.{number_line}
 use Rattle.numerals.proofs.Widths.{line-few}
 use Rattle.numerals.proofs.Begun.{begun}
 use Rattle.values.specs.Edition.{is_edition, tables_of}
 use Rattle.values.proofs.Editions.{tables-most}
-use Rattle.post.specs.Grammar.{Entry, IsPost, post_text}
+use Rattle.post.specs.Grammar.{IsPost, post_text}
 use Rattle.post.proofs.Reading.{good-rising, one-reading}
 use Rattle.post.proofs.Answers.{longest-text}
-use Rattle.export.specs.Frames.{frames_of, Done, NoRoom, NoPost, ExportedAs, ExportedFor}
-use Rattle.export.specs.Changed.{changed_lines}
+use Rattle.export.specs.Frames.{frames_of, Done, NoPost, ExportedAs, ExportedFor}
 use Rattle.export.proofs.Lines.{length-lines, lines_are}
 use Rattle.export.proofs.Answers.{room-enough}
-use Rattle.exporting.specs.Shown.{FramesShown, PlaceShown, ExportShown, ShowsExport, ShownFor}
+use Rattle.exporting.specs.Shown.{ExportShown, ShowsExport, ShownFor}
 
 -- 36 bytes a line
 length-frames : (tables : ℕ) (text : List ℕ) (p : IsPost tables text) → length (frames_of p.entries) ≡ 36 * length p.entries

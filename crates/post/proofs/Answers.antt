@@ -1,16 +1,24 @@
 -- What the check answers: any two right answers are equal, and a text longer than the longest post is answered by its beginning.
 -- Assumes nothing.
-use Rattle.std.proofs.Common.{◌≡◌, ℕ, zero, suc, ◌+◌, ◌-◌, ◌*◌, ◌<◌, ◌≤◌, ◌⊎◌, List, [], ◌∷◌, ◌++◌, length, take, drop, sym, refl, ap, ◌∙◌, ap₂, inl, inr, ⊎_elim, arith, length-drop, length-take-le, take_all}
+use Rattle.std.proofs.Common.{◌≡◌, ℕ, ◌+◌, ◌-◌, ◌*◌, ◌<◌, ◌≤◌, List, length, take, drop, sym, refl, ap, ◌∙◌, inl, inr, arith, length-drop, length-take-le, take_all}
 use Rattle.text.specs.Beginnings.{Longest}
 use Rattle.text.proofs.Beginnings.{one-longest, longest-with, longest-whole}
-use Rattle.post.specs.Grammar.{Entry, last_line, post_text, rising, IsPost}
-use Rattle.post.specs.Place.{Accepted, Refused, CheckedAs}
-use Rattle.post.specs.Rest.{Rest, Passed, Scanned}
+use Rattle.post.specs.declared.Refusal.{Refusal}
+use Rattle.post.specs.declared.Refusal.TheVariants.{NoPost, NoEdition}
+use Rattle.post.specs.Refusals.{refusal_number}
+use Rattle.post.specs.Grammar.{last_line, IsPost}
+use Rattle.post.specs.Place.{CheckedAs}
+use Rattle.post.specs.Rest.{Rest, Scanned}
 use Rattle.post.proofs.Reading.{post-rest, rest-post, good-rising, length-post, count_entries}
 use Rattle.post.proofs.Places.{ends-post, no-rest-here}
 
 pub longest-post : (tables : ℕ) (text : List ℕ) (k : ℕ) → Longest (Rest tables 0) text k → Longest (IsPost tables) text k
 longest-post tables text k g = longest-with (Rest tables 0) (IsPost tables) (rest-post tables) (post-rest tables) text k g
+
+-- no refusal has the number of a post
+pub not-done : (r : Refusal) → refusal_number r ≡ 1 → ⊥
+not-done (NoPost place) e = omega arith
+not-done NoEdition e = omega arith
 
 -- any two answers that are right are equal
 pub one_answer : (tables : ℕ) (text : List ℕ) (n p m q : ℕ) → CheckedAs tables text n p → CheckedAs tables text m q → (n ≡ m) × (p ≡ q)

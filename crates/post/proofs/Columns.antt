@@ -1,8 +1,6 @@
 -- Columns and lines: a line's columns are good, columns that are shared are good as well, and good columns can be completed to a line.
 -- Assumes nothing.
-use Rattle.std.proofs.Common.{◌≡◌, ℕ, zero, suc, ◌+◌, ◌-◌, ◌*◌, ◌/◌, ◌%◌, ◌<◌, ◌≤◌, Bool, true, false, ◌&&◌, leb, ◌⊎◌, List, [], ◌∷◌, ◌++◌, length, get_or, take, drop, replicate, sym, refl, ap, ◌∙◌, ap₂, inl, inr, ⊎_elim, le_of_suc-le-suc, zero-lt-suc, arith, length-append, length-drop, length-take-le, get_or-drop, take_all, get_or-take, take_at, get_or-append-add, le-leb, leb-true}
-use lib.ListN.{get_or-append}
-use lib.Seq.{take-append-le}
+use Rattle.std.proofs.Common.{◌≡◌, ℕ, ◌+◌, ◌-◌, ◌*◌, ◌/◌, ◌%◌, ◌<◌, ◌≤◌, Bool, true, false, leb, List, length, get_or, take, replicate, sym, refl, ap, ◌∙◌, ⊎_elim, arith, le-leb, leb-true}
 use Rattle.line.proofs.Runs.{every-at}
 use Rattle.line.specs.Runs.{every}
 use Rattle.text.specs.Classes.{between}

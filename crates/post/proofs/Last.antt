@@ -1,5 +1,5 @@
 -- What the tests for the last line, and for its first character, say. Assumes nothing.
-use Rattle.std.proofs.Common.{◌≡◌, ℕ, ◌<◌, ◌≤◌, true, false, ◌&&◌, eqb, ltb, List, length, get_or, arith, ltb-true, lt-ltb, eq-eqb, eqb-true}
+use Rattle.std.proofs.Common.{◌≡◌, ℕ, ◌<◌, true, false, ◌&&◌, eqb, ltb, List, length, get_or, arith, ltb-true, lt-ltb, eq-eqb, eqb-true}
 use Rattle.line.proofs.Runs.{and_left, and_right}
 use Rattle.text.specs.Classes.{same_text}
 use Rattle.text.proofs.Matching.{same-is, same_self}

@@ -1,7 +1,6 @@
 -- The place in a line, from its first stray column and its number: a tens digit needs some number, a unit digit has to make one.
 -- Assumes nothing.
-use Rattle.std.proofs.Common.{◌≡◌, ℕ, ◌+◌, ◌-◌, ◌*◌, ◌<◌, ◌≤◌, true, false, List, length, get_or, sym, refl, ap, ◌∙◌, arith, lt-ltb, le-leb}
-use Rattle.text.specs.Classes.{between}
+use Rattle.std.proofs.Common.{◌≡◌, ℕ, ◌+◌, ◌-◌, ◌*◌, ◌<◌, ◌≤◌, true, List, length, get_or, refl, arith, lt-ltb, le-leb}
 use Rattle.post.specs.Columns.{lowest, highest, column_fits, columns_fit, tens_of, number_of, may_follow, pick, next_number, Column, LinePlace, FirstStray}
 use Rattle.post.proofs.Lines.{between-low, between-high}
 

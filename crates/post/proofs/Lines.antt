@@ -1,6 +1,6 @@
 -- A line, column by column: what it holds, that just that is a line, and that number and row are read back.
 -- Assumes nothing.
-use Rattle.std.proofs.Common.{◌≡◌, ℕ, zero, suc, ◌+◌, ◌-◌, ◌*◌, ◌/◌, ◌%◌, ◌<◌, ◌≤◌, Bool, true, false, ◌&&◌, eqb, leb, List, [], ◌∷◌, ◌++◌, length, get_or, take, drop, replicate, sym, refl, ap, ◌∙◌, ap₂, le_of_suc-le-suc, arith, length-append, length-drop, take-append-drop, drop_of_length-le, length-take-le, get_or-drop, drop-cons, get_or-take, drop-drop, take_at, get_or-append-add, eq-eqb, eqb-true, le-leb, leb-true}
+use Rattle.std.proofs.Common.{◌≡◌, ℕ, zero, suc, ◌+◌, ◌/◌, ◌%◌, ◌<◌, ◌≤◌, Bool, true, eqb, leb, List, [], ◌∷◌, ◌++◌, length, get_or, take, drop, replicate, sym, refl, ap, ◌∙◌, ap₂, le_of_suc-le-suc, arith, length-append, length-drop, take-append-drop, drop_of_length-le, length-take-le, get_or-drop, drop-cons, get_or-take, drop-drop, take_at, eq-eqb, eqb-true, le-leb, leb-true}
 use lib.ListN.{length-replicate, get_or-replicate, get_or-append}
 use Rattle.line.specs.Runs.{every}
 use Rattle.line.proofs.Runs.{and_left, and_right, and_both}
@@ -10,7 +10,7 @@ use Rattle.text.specs.Layout.{layout_text}
 use Rattle.values.specs.Registers.{good_row}
 use Rattle.values.specs.Texts.{table_text}
 use Rattle.post.specs.Grammar.{line_text}
-use Rattle.post.specs.Columns.{lowest, highest, column_fits, columns_fit, number_of, row_of}
+use Rattle.post.specs.Columns.{lowest, highest, column_fits, number_of, row_of}
 
 -- CR LF behind the bracket
 abbrev ending : List ℕ

@@ -1,6 +1,6 @@
 -- The first characters of a text, and then those of a sample: what stands before a stray can be completed, whatever the columns are tested for.
 -- Assumes nothing.
-use Rattle.std.proofs.Common.{◌≡◌, ℕ, ◌+◌, ◌-◌, ◌<◌, ◌≤◌, Bool, true, List, ◌++◌, length, get_or, take, drop, sym, ap, ◌∙◌, ⊎_elim, arith, length-append, length-drop, length-take-le, get_or-drop, take_at, get_or-append-add}
+use Rattle.std.proofs.Common.{◌≡◌, ℕ, ◌-◌, ◌<◌, ◌≤◌, Bool, true, List, ◌++◌, length, get_or, take, drop, ap, ◌∙◌, ⊎_elim, arith, length-append, length-drop, length-take-le, get_or-drop, take_at, get_or-append-add}
 use Rattle.text.proofs.Beginnings.{le-or-lt, same_at}
 
 unfoldable pub mixed : ℕ → List ℕ → List ℕ → List ℕ

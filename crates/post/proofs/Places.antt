@@ -1,17 +1,17 @@
 -- The longest shared beginning, line by line: a line that stands at the front is passed, and below the last of them the place
 -- is that of the next line's columns, or of the last line. Assumes nothing.
-use Rattle.std.proofs.Common.{◌≡◌, ℕ, zero, suc, ◌+◌, ◌-◌, ◌*◌, ◌<◌, ◌≤◌, Bool, true, false, ◌&&◌, ltb, leb, ◌⊎◌, List, [], ◌∷◌, ◌++◌, length, get_or, take, drop, sym, refl, ap, ◌∙◌, ap₂, inl, inr, ⊎_elim, zero-add, add-one, arith, length-append, length-drop, take-append-drop, length-take-le, take_all, get_or-take, take-take, drop-drop, take_at, take-add, drop_at, ltb-true, lt-ltb, le-leb, leb-true}
-use lib.Seq.{take-append-add, take-append-le}
+use Rattle.std.proofs.Common.{◌≡◌, ℕ, zero, suc, ◌+◌, ◌<◌, ◌≤◌, Bool, true, false, ◌&&◌, ltb, leb, List, [], ◌∷◌, ◌++◌, length, get_or, take, drop, sym, refl, ap, ◌∙◌, ⊎_elim, zero-add, arith, length-append, take-append-drop, length-take-le, take_all, get_or-take, take-take, drop-drop, take_at, drop_at, ltb-true, lt-ltb, le-leb, leb-true}
+use lib.Seq.{take-append-le}
 use Rattle.line.proofs.Runs.{and_left, and_right, and_both}
 use Rattle.text.specs.Beginnings.{Shares, Longest}
 use Rattle.text.proofs.Beginnings.{le-or-lt, same_at, same-front, longest-below}
 use Rattle.values.specs.Registers.{good_row}
-use Rattle.post.specs.Grammar.{Entry, line_text, lines_text, last_line, post_text, rising, IsPost}
+use Rattle.post.specs.Grammar.{Entry, line_text, lines_text, last_line, post_text, rising}
 use Rattle.post.specs.Columns.{column_fits, columns_fit, number_of, row_of, may_follow, pick, next_number, Column, LinePlace, LastPlace}
 use Rattle.post.specs.Rest.{Rest, Passed}
 use Rattle.post.proofs.Lines.{length-line, fits_line, fits-row}
-use Rattle.post.proofs.Reading.{post-cons, rising-number, rising-rest, rising-table, rising-row, rising-cons, line_first, last-first, same_number, same_row, take-line, drop-line, length_last, length-post-none, length-post-cons}
-use Rattle.post.proofs.Columns.{shared-column, line-column, Completed, complete, same-fits, same-number-of}
+use Rattle.post.proofs.Reading.{post-cons, rising-number, rising-rest, rising-table, rising-row, rising-cons, line_first, last-first, same_number, take-line, drop-line, length_last, length-post-none, length-post-cons}
+use Rattle.post.proofs.Columns.{shared-column, line-column, complete, same-fits, same-number-of}
 
 -- a line, with what may stand below it
 module _ (tables above n : ℕ) (row : List ℕ) (few : tables < 100) (low : above < n) (high : n ≤ tables) (good : good_row row ≡ true) where

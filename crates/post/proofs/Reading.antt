@@ -1,6 +1,6 @@
 -- Entries line by line: what good entries are, one by one, and that a text has one reading. Assumes nothing.
-use Rattle.std.proofs.Common.{◌≡◌, ℕ, zero, suc, ◌+◌, ◌-◌, ◌*◌, ◌<◌, ◌≤◌, Bool, true, false, ◌&&◌, ltb, leb, List, [], ◌∷◌, ◌++◌, length, get_or, take, drop, sym, refl, ap, ◌∙◌, ap₂, append_assoc, arith, length-append, take_at, drop_at, ltb-true, lt-ltb, le-leb, leb-true}
-use Rattle.line.proofs.Runs.{and_left, and_right, and_both}
+use Rattle.std.proofs.Common.{◌≡◌, ℕ, ◌+◌, ◌*◌, ◌<◌, ◌≤◌, true, ◌&&◌, ltb, leb, List, [], ◌∷◌, ◌++◌, length, get_or, take, drop, sym, refl, ap, ◌∙◌, ap₂, append_assoc, arith, length-append, take_at, drop_at, ltb-true, lt-ltb, le-leb, leb-true}
+use Rattle.line.proofs.Runs.{and_left, and_right}
 use Rattle.text.specs.Classes.{between}
 use Rattle.values.specs.Registers.{good_row, good_table}
 use Rattle.post.specs.Grammar.{Entry, line_text, lines_text, last_line, post_text, good_entry, rising, good_entries, IsPost}

@@ -1,9 +1,9 @@
 -- Lines that stand one below the other with rising numbers, from flags and raw digits, are passed one by one. Assumes nothing.
-use Rattle.std.proofs.Common.{◌≡◌, ℕ, zero, suc, ◌+◌, ◌-◌, ◌*◌, ◌<◌, ◌≤◌, Bool, true, false, ◌&&◌, ltb, leb, List, [], ◌∷◌, ◌++◌, length, get_or, drop, sym, refl, ap, ◌∙◌, ap₂, ⊎_elim, add-one, arith, length-drop, get_or-drop, below_more, ltb-true, leb-true}
+use Rattle.std.proofs.Common.{◌≡◌, ℕ, zero, suc, ◌+◌, ◌-◌, ◌*◌, ◌<◌, ◌≤◌, Bool, true, false, ◌&&◌, ltb, leb, List, length, get_or, drop, sym, refl, ◌∙◌, add-one, arith, length-drop, get_or-drop, below_more, ltb-true, leb-true}
 use Rattle.line.proofs.Runs.{and_left, and_right}
 use Rattle.post.specs.Grammar.{last_line, IsPost}
-use Rattle.post.specs.Columns.{column_fits, columns_fit, number_of, next_number, three, TookLine, raw_at, raw_before, LineRises}
-use Rattle.post.specs.Rest.{Rest, Passed}
+use Rattle.post.specs.Columns.{columns_fit, number_of, three, TookLine, raw_at, raw_before, LineRises}
+use Rattle.post.specs.Rest.{Passed}
 use Rattle.post.proofs.Places.{columns-each, columns-all, Stands, stands, passed_none, passed-more, ends-post}
 use Rattle.post.proofs.Reading.{rest-post}
 use Rattle.post.proofs.LinePlaces.{tens-fits, unit-fits, found}

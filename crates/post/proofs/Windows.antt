@@ -1,6 +1,6 @@
 -- Flags for 16 columns take in a line by three windows, at 0, 16 and 20, which hold all its 36 columns. Assumes nothing.
-use Rattle.std.proofs.Common.{◌≡◌, ℕ, zero, suc, ◌+◌, ◌-◌, ◌<◌, ◌≤◌, Bool, true, false, ◌&&◌, List, length, get_or, set, sym, refl, ap, ◌∙◌, ap₂, ⊎_elim, arith, length-set, get_or-set_other, get_or-set_same}
-use Rattle.line.proofs.Runs.{and_left, and_right, and_both}
+use Rattle.std.proofs.Common.{◌≡◌, ℕ, ◌+◌, ◌-◌, ◌<◌, Bool, true, false, ◌&&◌, List, length, get_or, set, sym, refl, ap, ◌∙◌, ap₂, ⊎_elim, arith, length-set, get_or-set_other, get_or-set_same}
+use Rattle.line.proofs.Runs.{and_left, and_right}
 use Rattle.post.specs.Columns.{column_fits, three, TookLine}
 use Rattle.text.proofs.Beginnings.{le-or-lt}
 

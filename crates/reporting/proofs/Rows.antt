@@ -1,13 +1,12 @@
 -- The rows of a report, line by line, and what a report begins a buffer with. Assumes nothing.
-use mathlib.Core.Path.{◌≡◌, refl, sym, ap, ap₂, ◌∙◌}
+use mathlib.Core.Path.{◌≡◌, refl, sym, ap, ap₂, subst, ◌∙◌}
 use mathlib.Core.List.{List, [], ◌∷◌, ◌++◌}
 use Prim.Native.Nat.{ℕ, zero, suc, ◌+◌, ◌-◌, ◌*◌, ◌<◌, ◌≤◌}
-use native.Mathlib.Nat.{zero-add}
 use native.Mathlib.Numerals.{add-one}
 use native.Mathlib.Omega.{arith}
 use lib.ListN.{length, take, drop, length-append, length-drop}
 use lib.Seq.{length-take-le}
-use Rattle.text.specs.Writing.{stored, holding}
+use Rattle.text.specs.Writing.{stored}
 use Rattle.text.proofs.Writing.{and_then, stored-holding}
 use Rattle.numerals.specs.Numerals.{number_line}
 use Rattle.numerals.proofs.Widths.{line-few}
@@ -15,6 +14,9 @@ use Rattle.values.proofs.Editions.{tables-most}
 use Rattle.state.specs.declared.Meter.{Meter}
 use Rattle.state.specs.WellFormed.{tables_in}
 use Rattle.replies.specs.Shown.{row_of}
+use Rattle.export.specs.declared.Refusal.{Refusal}
+use Rattle.export.specs.declared.Refusal.TheVariants.{NoPost, NoRoom, NoEdition}
+use Rattle.export.specs.Refusals.{refusal_number, refusal_place}
 use Rattle.delivery.specs.Delivery.{DeliveredAs}
 use Rattle.delivery.proofs.Counting.{one-delivery}
 use Rattle.reporting.specs.Report.{opened_meter, row_lines, detail, Reported, ShowsReport}
@@ -71,6 +73,26 @@ shows-report edition text out number place acknowledged next size after room tab
       long = e ∙ sym long;
       held = w ∙ stored-holding out (line ++ rows) (omega (arith, long, tables-most next.registers.facts.edition, line-few number (detail number place acknowledged)));
     }
+
+-- the same of what a meter that was opened makes of a text
+module _ (edition : ℕ) (text out : List ℕ) (m : Meter) (opened : m ≡ opened_meter edition) (size : ℕ) (after : List ℕ) (room : 667 ≤ length out) where
+  pub shows-delivered : (acknowledged : ℕ) (next : Meter) → length next.registers.tables ≡ 600 → DeliveredAs m text 1 0 acknowledged next
+      → size ≡ length (number_line 1 acknowledged) + tables_in next.registers * 25
+      → after ≡ stored out 0 (number_line 1 acknowledged ++ row_lines (tables_in next.registers) next.registers.tables) → ShowsReport edition text out 1 size after
+  unfolding detail
+  shows-delivered acknowledged next tables d =
+      shows-report edition text out 1 0 acknowledged next size after room tables (subst (λ (x : Meter). DeliveredAs x text 1 0 acknowledged next) opened d)
+
+  pub shows-undelivered : (r : Refusal) → length m.registers.tables ≡ 600 → DeliveredAs m text (refusal_number r) (refusal_place r) 0 m
+      → size ≡ length (number_line (refusal_number r) (refusal_place r)) + tables_in m.registers * 25
+      → after ≡ stored out 0 (number_line (refusal_number r) (refusal_place r) ++ row_lines (tables_in m.registers) m.registers.tables)
+      → ShowsReport edition text out (refusal_number r) size after
+  unfolding detail
+  shows-undelivered (NoPost place) tables d =
+      shows-report edition text out 20 place 0 m size after room tables (subst (λ (x : Meter). DeliveredAs x text 20 place 0 m) opened d)
+  shows-undelivered NoRoom tables d = shows-report edition text out 21 0 0 m size after room tables (subst (λ (x : Meter). DeliveredAs x text 21 0 0 m) opened d)
+  shows-undelivered NoEdition tables d =
+      shows-report edition text out 16 0 0 m size after room tables (subst (λ (x : Meter). DeliveredAs x text 16 0 0 m) opened d)
 
 -- a text has one report
 pub one-report : (edition : ℕ) (text : List ℕ) (n : ℕ) (s : List ℕ) (m : ℕ) (t : List ℕ) → Reported edition text n s → Reported edition text m t → (n ≡ m) × (s ≡ t)

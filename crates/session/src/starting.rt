@@ -269,10 +269,8 @@ pub fn start(
     if kind != 1 {
         return refuse(9, 0);
     }
-    let checked = post::check(edition, work);
-    let number = checked.number;
-    if number != 1 {
-        return refuse(20, checked.place);
+    if let Err(refusal) = post::check(edition, work) {
+        return refuse(refusal.number(), refusal.place());
     }
     open_post(
         edition,

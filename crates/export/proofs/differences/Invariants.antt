@@ -1,6 +1,6 @@
 -- `export::differences` meets its contract: the columns gone through hold what they differ in. Assumes nothing.
 use mathlib.Core.Path.{◌≡◌}
-use Prim.Native.Nat.{◌-◌, ◌≤◌}
+use Prim.Native.Nat.{◌≤◌}
 use lib.ListN.{length, take, replicate}
 use Rattle.text.specs.Writing.{stored}
 use Rattle.export.specs.Changed.{change}

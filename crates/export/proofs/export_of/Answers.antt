@@ -1,5 +1,5 @@
 -- `export::export_of` meets its contract: each way out is the answer that the check and the room name. Assumes nothing.
-use Rattle.std.proofs.Common.{◌≡◌, refl, rules, arith}
+use Rattle.std.proofs.Common.{refl}
 use Rattle.export.proofs.Answers.{post-of, answers-refused, answers-21, answers-1}
 use Rattle.export.proofs.export_of.Goals as goal
 

@@ -1,7 +1,7 @@
 -- `export::write_frame` meets its contract: what is written so far is the line, changed as far as it was gone through; the BCC
 -- is written over the last byte. Assumes nothing.
 use mathlib.Core.Path.{◌≡◌}
-use Prim.Native.Nat.{◌-◌, ◌≤◌}
+use Prim.Native.Nat.{◌≤◌}
 use lib.ListN.{length, drop}
 use Rattle.text.specs.Writing.{stored}
 use Rattle.export.specs.Changed.{changed_to}

@@ -1,6 +1,6 @@
 -- `export::write_frames` meets its contract: what is written so far is the lines gone through, changed. Assumes nothing.
 use mathlib.Core.Path.{◌≡◌}
-use Prim.Native.Nat.{◌-◌, ◌≤◌}
+use Prim.Native.Nat.{◌≤◌}
 use lib.ListN.{length}
 use Rattle.text.specs.Writing.{stored}
 use Rattle.export.specs.Changed.{change, changed_lines}

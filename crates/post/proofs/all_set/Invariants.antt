@@ -1,5 +1,5 @@
 -- `post::all_set` meets its contract: if the flag is still set, so is every one passed. Assumes nothing.
-use Rattle.std.proofs.Common.{◌≡◌, ℕ, ◌<◌, ◌≤◌, true, false, get_or}
+use Rattle.std.proofs.Common.{◌≡◌, ℕ, ◌<◌, true, false, get_or}
 use Rattle.post.proofs.all_set.Given as goal
 
 abbrev pub invariant-loop-fit : goal.invariant-loop-fit

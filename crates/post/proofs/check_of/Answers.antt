@@ -1,5 +1,5 @@
 -- `post::check_of` meets its contract: a post seen whole, or the answer from where the lines end. Assumes nothing.
-use Rattle.std.proofs.Common.{◌≡◌, sym, refl, ◌∙◌, rules}
+use Rattle.std.proofs.Common.{sym, ◌∙◌}
 use Rattle.post.proofs.Answers.{part-is, answers-post, accepted, refused}
 use Rattle.post.proofs.Last.{last-is, not_last}
 use Rattle.post.proofs.check_of.Goals as goal

@@ -1,5 +1,5 @@
 -- `post::column_fits` meets its contract: one comparison of a difference that wraps stands for both bounds. Assumes nothing.
-use Rattle.std.proofs.Common.{◌≡◌, ℕ, suc, ◌+◌, ◌-◌, ◌*◌, ◌%◌, ◌<◌, ◌≤◌, Bool, true, false, ◌&&◌, leb, List, [], ◌∷◌, ◌++◌, get_or, drop, sym, refl, ap, ◌∙◌, arith, get_or-drop, rules}
+use Rattle.std.proofs.Common.{◌≡◌, ℕ, ◌+◌, ◌-◌, ◌%◌, ◌<◌, leb, List, get_or, drop, arith, get_or-drop}
 use Rattle.post.specs.Columns.{column_fits, lowest, highest}
 use Rattle.post.proofs.Columns.{bounds-order, bounds-small, fits-wrapped}
 use Rattle.post.proofs.column_fits.Goals as goal

@@ -1,7 +1,6 @@
 -- `post::first_stray` meets its contract: every column passed fits. Assumes nothing.
-use Rattle.std.proofs.Common.{◌≡◌, ℕ, suc, ◌+◌, ◌-◌, ◌*◌, ◌<◌, ◌≤◌, Bool, true, false, ◌&&◌, List, [], ◌∷◌, ◌++◌, length, sym, refl, ap, ◌∙◌, arith, below_more}
-use borrow.Author.Tests.{not-true, not-false}
-use Rattle.post.specs.Columns.{lowest, highest, column_fits, FirstStray}
+use Rattle.std.proofs.Common.{◌≡◌, length, sym, refl, ◌∙◌, arith, below_more}
+use Rattle.post.specs.Columns.{lowest, highest}
 use Rattle.post.proofs.first_stray.Goals as goal
 
 pub late_stray-requires : goal.late_stray-requires

@@ -1,7 +1,6 @@
 -- `post::first_stray` meets its contract: every column passed fits. Assumes nothing.
-use Rattle.std.proofs.Common.{◌≡◌, ℕ, suc, ◌+◌, ◌-◌, ◌*◌, ◌<◌, ◌≤◌, Bool, true, false, ◌&&◌, List, [], ◌∷◌, ◌++◌, length, sym, refl, ap, ◌∙◌, arith, below_more}
-use borrow.Author.Tests.{not-true, not-false}
-use Rattle.post.specs.Columns.{lowest, highest, column_fits, FirstStray}
+use Rattle.std.proofs.Common.{◌≡◌, ℕ, ◌<◌, ◌≤◌, true, length}
+use Rattle.post.specs.Columns.{lowest, highest, column_fits}
 use Rattle.post.proofs.first_stray.Given as goal
 
 abbrev pub invariant-loop-j : goal.invariant-loop-j

@@ -1,5 +1,5 @@
 -- `post::last_place` meets its contract: each arm is as much of the last line as its pattern names. Assumes nothing.
-use Rattle.std.proofs.Common.{◌≡◌, ℕ, ◌<◌, ◌≤◌, true, eqb, ltb, List, [], ◌∷◌, length, get_or, take, sym, arith, rules, ltb-true, eqb-true}
+use Rattle.std.proofs.Common.{◌≡◌, ℕ, ◌<◌, true, eqb, ltb, List, [], ◌∷◌, length, get_or, take, sym, arith, rules, ltb-true, eqb-true}
 use Rattle.line.proofs.Runs.{and_left, and_right}
 use Rattle.post.specs.Grammar.{last_line}
 use Rattle.post.specs.Columns.{begins_last, LastPlace}

@@ -1,5 +1,5 @@
 -- `post::late_stray` meets its contract: the last window ends where the text does, and the one before it leaves no gap. Assumes nothing.
-use Rattle.std.proofs.Common.{◌≡◌, ℕ, ◌+◌, ◌-◌, ◌<◌, ◌≤◌, length, refl, ⊎_elim, arith, rules}
+use Rattle.std.proofs.Common.{◌+◌, ◌-◌, ◌≤◌, length, refl, arith}
 use Rattle.post.specs.Columns.{lowest, highest}
 use Rattle.post.proofs.Strays.{first_of}
 use Rattle.post.proofs.late_stray.Goals as goal

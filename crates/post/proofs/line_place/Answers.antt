@@ -1,6 +1,5 @@
 -- `post::line_place` meets its contract: each way out is the place that its tests name. Assumes nothing.
-use Rattle.std.proofs.Common.{◌≡◌, sym, refl, ap, ◌∙◌, arith, rules}
-use Rattle.post.specs.Columns.{FirstStray}
+use Rattle.std.proofs.Common.{arith}
 use Rattle.post.proofs.LinePlaces.{tens-fits, unit-fits, place_none, place-stray, place-tens, place-unit}
 use Rattle.post.proofs.line_place.Goals as goal
 

@@ -1,8 +1,8 @@
 -- `post::lines_rise` meets its contract: what is known of the lines gone through is kept in the flags. Assumes nothing.
-use Rattle.std.proofs.Common.{◌≡◌, ℕ, suc, ◌+◌, ◌-◌, ◌*◌, ◌<◌, ◌≤◌, Bool, true, false, ◌&&◌, List, [], ◌∷◌, ◌++◌, length, get_or, drop, sym, refl, ap, ◌∙◌, arith}
+use Rattle.std.proofs.Common.{◌≡◌, ℕ, ◌+◌, ◌*◌, List, get_or, refl, ap, arith}
 use Rattle.line.proofs.Runs.{and_left, and_right}
-use Rattle.post.specs.Columns.{lowest, highest, raw_at, LineRises}
-use Rattle.post.proofs.Rise.{Rose, rose-none, rose-more, rose-end}
+use Rattle.post.specs.Columns.{lowest, highest, raw_at}
+use Rattle.post.proofs.Rise.{rose-none, rose-more, rose-end}
 use Rattle.post.proofs.lines_rise.Goals as goal
 
 raw-is : (text : List ℕ) (l raw : ℕ) → raw ≡ get_or text (36 * l + 6) 0 * 10 + get_or text (36 * l + 7) 0 → raw ≡ raw_at text l

@@ -1,8 +1,7 @@
 -- `post::lines_rise` meets its contract: what is known of the lines gone through is kept in the flags. Assumes nothing.
-use Rattle.std.proofs.Common.{◌≡◌, ℕ, suc, ◌+◌, ◌-◌, ◌*◌, ◌<◌, ◌≤◌, Bool, true, false, ◌&&◌, List, [], ◌∷◌, ◌++◌, length, get_or, drop, sym, refl, ap, ◌∙◌, arith}
-use Rattle.line.proofs.Runs.{and_left, and_right}
-use Rattle.post.specs.Columns.{lowest, highest, raw_at, LineRises}
-use Rattle.post.proofs.Rise.{Rose, rose-none, rose-more, rose-end}
+use Rattle.std.proofs.Common.{◌≡◌, ◌+◌, ◌≤◌}
+use Rattle.post.specs.Columns.{lowest, highest}
+use Rattle.post.proofs.Rise.{Rose}
 use Rattle.post.proofs.lines_rise.Given as goal
 
 abbrev pub invariant-loop-l : goal.invariant-loop-l

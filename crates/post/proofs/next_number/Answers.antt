@@ -1,5 +1,5 @@
 -- `post::next_number` meets its contract: each way out is the case of the definition that its tests name. Assumes nothing.
-use Rattle.std.proofs.Common.{◌≡◌, ℕ, suc, ◌+◌, ◌-◌, ◌*◌, ◌<◌, ◌≤◌, Bool, true, false, ◌&&◌, List, [], ◌∷◌, ◌++◌, length, get_or, drop, sym, refl, ap, ◌∙◌, arith, length-drop, get_or-drop, rules, le-ltb, lt-ltb, le-leb}
+use Rattle.std.proofs.Common.{◌≡◌, ℕ, ◌+◌, ◌-◌, ◌*◌, ◌<◌, ◌≤◌, true, false, List, get_or, drop, arith, length-drop, get_or-drop, le-ltb, lt-ltb}
 use borrow.Author.Tests.{lt-leb}
 use Rattle.post.specs.Columns.{columns_fit, number_of, may_follow, pick, next_number}
 use Rattle.post.proofs.Places.{columns-each}

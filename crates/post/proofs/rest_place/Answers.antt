@@ -1,7 +1,5 @@
 -- `post::rest_place` meets its contract: the place is the last line's or the next line's. Assumes nothing.
-use Rattle.std.proofs.Common.{◌≡◌, ℕ, ◌<◌, ◌≤◌, Bool, true, false, ◌&&◌, eqb, ltb, List, length, get_or, sym, refl, ap, ◌∙◌, arith, rules, ltb-true, lt-ltb, eq-eqb, eqb-true}
-use Rattle.line.proofs.Runs.{and_left, and_right}
-use Rattle.post.specs.Columns.{begins_last}
+use Rattle.std.proofs.Common.{sym, ◌∙◌}
 use Rattle.post.proofs.Places.{no_line, longest-line, longest-last}
 use Rattle.post.proofs.Last.{begins-above, begins-first, begins-one, not-begun}
 use Rattle.post.proofs.rest_place.Goals as goal

@@ -1,9 +1,6 @@
 -- `post::scan` meets its contract: what is right below the lines passed is right of the whole. Assumes nothing.
-use Rattle.std.proofs.Common.{◌≡◌, ℕ, ◌+◌, ◌-◌, ◌*◌, ◌/◌, ◌<◌, ◌≤◌, length, drop, sym, refl, ap, ◌∙◌, arith, length-drop}
-use Rattle.post.specs.Columns.{next_number}
-use Rattle.post.specs.Rest.{Passed, Scanned}
-use Rattle.post.proofs.Places.{stands, passed_none, passed-more}
-use Rattle.post.proofs.Answers.{part-is}
+use Rattle.std.proofs.Common.{◌≡◌, ◌*◌, ◌/◌, ◌≤◌, length}
+use Rattle.post.specs.Rest.{Passed}
 use Rattle.post.proofs.scan.Given as goal
 
 abbrev pub invariant-loop-l : goal.invariant-loop-l

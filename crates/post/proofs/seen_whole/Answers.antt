@@ -1,6 +1,5 @@
 -- `post::seen_whole` meets its contract: yes is said below rising lines and before the last line alone. Assumes nothing.
-use Rattle.std.proofs.Common.{◌≡◌, ℕ, suc, ◌+◌, ◌-◌, ◌*◌, ◌/◌, ◌<◌, ◌≤◌, Bool, true, false, ◌&&◌, List, [], ◌∷◌, ◌++◌, length, sym, refl, ap, ◌∙◌, arith, rules}
-use borrow.Author.Tests.{not-false}
+use Rattle.std.proofs.Common.{◌≡◌, ℕ, ◌*◌, ◌/◌, length, sym, ◌∙◌, arith}
 use Rattle.post.proofs.Answers.{part-is}
 use Rattle.post.proofs.Rise.{whole_post}
 use Rattle.post.proofs.Last.{last-is}

@@ -1,5 +1,5 @@
 -- `post::stray_at` meets its contract: windows at 0, 16 and 20 hold a line. Assumes nothing.
-use Rattle.std.proofs.Common.{◌≡◌, ℕ, ◌+◌, ◌<◌, ◌≤◌, length, drop, refl, arith, length-drop}
+use Rattle.std.proofs.Common.{drop, refl, arith, length-drop}
 use Rattle.post.specs.Columns.{lowest, highest}
 use Rattle.post.proofs.Strays.{first_of}
 use Rattle.post.proofs.stray_at.Goals as goal

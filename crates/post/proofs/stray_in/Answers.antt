@@ -1,7 +1,7 @@
 -- `post::stray_in` meets its contract: the smallest of the columns that stray so far, in each window. Assumes nothing.
-use Rattle.std.proofs.Common.{◌≡◌, ℕ, min, ◌+◌, ◌-◌, ◌<◌, ◌≤◌, length, drop, sym, refl, ap, ◌∙◌, arith}
-use Rattle.post.specs.Columns.{lowest, highest, column_fits, straying}
-use Rattle.post.proofs.Strays.{Least, least-none, least_more, least-all}
+use Rattle.std.proofs.Common.{◌≡◌, min, ◌+◌, drop, refl, arith}
+use Rattle.post.specs.Columns.{straying}
+use Rattle.post.proofs.Strays.{least-none, least_more, least-all}
 use Rattle.post.proofs.stray_in.Goals as goal
 
 pub overflow_add-end : goal.overflow_add-end

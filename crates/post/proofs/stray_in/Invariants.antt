@@ -1,7 +1,6 @@
 -- `post::stray_in` meets its contract: the smallest of the columns that stray so far, in each window. Assumes nothing.
-use Rattle.std.proofs.Common.{◌≡◌, ℕ, ◌+◌, ◌-◌, ◌<◌, ◌≤◌, length, drop, sym, refl, ap, ◌∙◌, arith}
-use Rattle.post.specs.Columns.{lowest, highest, column_fits, straying}
-use Rattle.post.proofs.Strays.{Least, least-none, least_more, least-all}
+use Rattle.std.proofs.Common.{◌≡◌, ◌+◌, ◌≤◌, drop}
+use Rattle.post.proofs.Strays.{Least}
 use Rattle.post.proofs.stray_in.Given as goal
 
 abbrev pub invariant-loop-j : goal.invariant-loop-j

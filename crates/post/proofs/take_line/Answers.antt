@@ -1,6 +1,5 @@
 -- `post::take_line` meets its contract: the flags passed took the line in, the others are as they were. Assumes nothing.
-use Rattle.std.proofs.Common.{◌≡◌, ℕ, suc, ◌+◌, ◌-◌, ◌*◌, ◌<◌, ◌≤◌, Bool, true, false, ◌&&◌, List, [], ◌∷◌, ◌++◌, length, drop, sym, refl, ap, ◌∙◌, arith, length-set, rules}
-use Rattle.post.specs.Columns.{TookLine}
+use Rattle.std.proofs.Common.{◌≡◌, drop, arith, length-set}
 use Rattle.post.proofs.Windows.{took-none, took_more}
 use Rattle.post.proofs.take_line.Goals as goal
 

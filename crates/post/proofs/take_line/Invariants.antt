@@ -1,7 +1,6 @@
 -- `post::take_line` meets its contract: the flags passed took the line in, the others are as they were. Assumes nothing.
-use Rattle.std.proofs.Common.{◌≡◌, ℕ, suc, ◌+◌, ◌-◌, ◌*◌, ◌<◌, ◌≤◌, Bool, true, false, ◌&&◌, List, [], ◌∷◌, ◌++◌, length, drop, sym, refl, ap, ◌∙◌, arith, length-set, rules}
+use Rattle.std.proofs.Common.{◌≡◌, ◌≤◌, length, drop}
 use Rattle.post.specs.Columns.{TookLine}
-use Rattle.post.proofs.Windows.{took-none, took_more}
 use Rattle.post.proofs.take_line.Given as goal
 
 abbrev pub invariant-loop-j : goal.invariant-loop-j

@@ -11,7 +11,6 @@ use Rattle.frames.specs.Session.{sign_on, confirmation, password_data}
 use Rattle.state.specs.declared.Meter.{Meter}
 use Rattle.dialogue.specs.Feeding.{left, full}
 use Rattle.reporting.specs.Report.{opening, opened_meter}
-use borrow.Author.Rules.{rules}
 use Rattle.reporting.proofs.opened.Goals as goal
 
 bytes : List ℕ
@@ -23,4 +22,4 @@ opening-is = refl
 
 pub returns : goal.returns
 unfolding opened_meter bytes
-returns c = c.feed-session.ensures.next ∙ ap (λ (m : Meter). left m full bytes) c.new_meter.ensures ∙ ap (left _ full) opening-is
+returns c = c.feed.ensures.next ∙ ap (λ (m : Meter). left m full bytes) c.new_meter.ensures ∙ ap (left _ full) opening-is

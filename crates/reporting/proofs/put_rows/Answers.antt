@@ -1,14 +1,12 @@
 -- `reporting::put_rows` meets its contract: what is put in so far is the rows gone through. Assumes nothing.
 use mathlib.Core.Path.{◌≡◌, refl, ap, ◌∙◌}
-use Prim.Native.Nat.{ℕ, ◌+◌, ◌-◌, ◌*◌, ◌≤◌}
+use Prim.Native.Nat.{ℕ, ◌+◌, ◌-◌, ◌*◌}
 use native.Mathlib.Omega.{arith}
-use lib.ListN.{length, take, drop, length-drop}
+use lib.ListN.{take, drop, length-drop}
 use lib.Seq.{length-take-le}
 use Rattle.text.specs.Writing.{stored}
-use Rattle.text.proofs.Writing.{length-stored}
 use Rattle.reporting.specs.Report.{row_lines}
 use Rattle.reporting.proofs.Rows.{row_more, row-place}
-use borrow.Author.Rules.{rules}
 use Rattle.reporting.proofs.put_rows.Goals as goal
 
 pub loop-i-init : goal.loop-i-init

@@ -1,18 +1,10 @@
 -- `reporting::put_rows` meets its contract: what is put in so far is the rows gone through. Assumes nothing.
-use mathlib.Core.Path.{◌≡◌, refl, ap, ◌∙◌}
-use Prim.Native.Nat.{ℕ, ◌+◌, ◌-◌, ◌*◌, ◌≤◌}
-use native.Mathlib.Omega.{arith}
-use lib.ListN.{length, take, drop, length-drop}
-use lib.Seq.{length-take-le}
+use mathlib.Core.Path.{◌≡◌}
+use Prim.Native.Nat.{◌+◌, ◌*◌, ◌≤◌}
+use lib.ListN.{length}
 use Rattle.text.specs.Writing.{stored}
-use Rattle.text.proofs.Writing.{length-stored}
 use Rattle.reporting.specs.Report.{row_lines}
-use Rattle.reporting.proofs.Rows.{row_more, row-place}
-use borrow.Author.Rules.{rules}
 use Rattle.reporting.proofs.put_rows.Given as goal
 
 abbrev pub invariant-loop-i : goal.invariant-loop-i
 invariant-loop-i l = (l.i ≤ l.tables) × (l.to ≡ l.at + l.i * 25) × (length l.out ≡ length l.initial.out) × (l.out ≡ stored l.initial.out l.at (row_lines l.i l.rows))
-
-abbrev pub decreases-loop-i : goal.decreases-loop-i
-decreases-loop-i l = l.tables - l.i

@@ -8,6 +8,8 @@ use Rattle.values.specs.Edition.{tables_of}
 use Rattle.values.proofs.Editions.{tables-most}
 use Rattle.frames.specs.Frames.{on_wire}
 use Rattle.session.specs.Starting.{told_of, started_of, unopened, opened_reads, opened_post, unknown, strange, small, nothing, reads, posts, others}
+use Rattle.post.specs.Refusals.{refusal_place}
+use Rattle.post.proofs.Answers.{not-done}
 use Rattle.session.proofs.Checked.{not-post, a-post, lines-counted}
 use Rattle.session.proofs.starting.start.Goals as goal
 
@@ -45,17 +47,17 @@ returns-then-kind-ne1 c =
     let has = sym c.is_family.ensures ∙ c.if-not-is_family.false in
     record { opening = unopened 9 0; opens = nothing (is, has) c.if-buf-lt-ROOM.false c.if-kind-eq0.false c.if-kind-ne1.true refl; answer = c.refuse-then-kind-ne1.ensures; held = refl }
 
-pub returns-then-number-ne1 : goal.returns-then-number-ne1
+pub returns-in-Err : goal.returns-in-Err
 unfolding holding
-returns-then-number-ne1 c =
+returns-in-Err c =
     let a = c.args in
     let is = sym c.is_edition.ensures ∙ c.if-not-is_edition.false in
     let has = sym c.is_family.ensures ∙ c.if-not-is_family.false in
-    let r = not-post (tables_of a.edition) a.work.now _ _ (c.check-checked.ensures.some is) c.if-number-ne1.true in
+    let r = not-post (tables_of a.edition) a.work.now _ _ (c.in-Err.ensures.some is) (not-done c.in-Err.refusal) in
     record {
-      opening = unopened 20 c.check-checked.result.place;
+      opening = unopened 20 (refusal_place c.in-Err.refusal);
       opens = others (is, has) c.if-buf-lt-ROOM.false c.if-kind-ne1.false (record { no-post = r.no-post; longest = r.longest; refused = refl });
-      answer = c.refuse-then-number-ne1.ensures;
+      answer = rw c.refuse-in-Err.ensures (rw (c.number.ensures, r.refused, c.place.ensures));
       held = refl;
     }
 
@@ -64,7 +66,7 @@ returns c =
     let a = c.args in
     let is = sym c.is_edition.ensures ∙ c.if-not-is_edition.false in
     let has = sym c.is_family.ensures ∙ c.if-not-is_family.false in
-    let p = a-post (tables_of a.edition) a.work.now _ _ (c.check-checked.ensures.some is) c.if-number-ne1.false in
+    let p = a-post (tables_of a.edition) a.work.now _ _ (c.in_default.ensures.some is) refl in
     let n = lines-counted (tables_of a.edition) a.work.now p (omega (arith, tables-most a.edition)) in
     let t = told_of a.edition a.decimals a.named a.serial.now a.access a.password.now a.kind in
     record {
