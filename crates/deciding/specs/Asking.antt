@@ -7,8 +7,7 @@ use Rattle.values.specs.declared.Energy.{Energy}
 use Rattle.values.specs.declared.Energy.TheVariants.{Total}
 use Rattle.values.specs.Family.{is_eqm}
 use Rattle.values.specs.Registers.{zone_energy}
-use Rattle.values.specs.Reading.{table_read}
-use Rattle.values.specs.declared.reading.TableRead.{TableRead}
+use Rattle.values.specs.Reading.{TableRead, table_read}
 use Rattle.frames.specs.Commands.{ask_clock, ask_serial, ask_account, lettered}
 use Rattle.replies.specs.declared.Ask.TheVariants.{Clock, Serial, Account, Energy as energy_ask, Export, Table}
 use Rattle.deciding.specs.declared.Verdict.{Verdict}

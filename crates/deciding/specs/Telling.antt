@@ -2,9 +2,7 @@
 use Rattle.std.specs.Prelude.{Bool, cond, ◌&&◌, List, ℕ, ◌-◌, eqb, leb, length, get_or, take, drop}
 use Rattle.line.specs.Quoted.{char}
 use Rattle.values.specs.Registers.{good_account, good_row}
-use Rattle.values.specs.Reading.{clock_read, table_read}
-use Rattle.values.specs.declared.reading.ClockRead.{ClockRead}
-use Rattle.values.specs.declared.reading.TableRead.{TableRead}
+use Rattle.values.specs.Reading.{ClockRead, TableRead, clock_read, table_read}
 use Rattle.deciding.specs.declared.Verdict.{Verdict}
 use Rattle.deciding.specs.declared.Verdict.TheVariants.{Refuse, WriteClock, WriteAccount, WriteTable}
 

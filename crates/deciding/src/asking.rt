@@ -10,15 +10,13 @@ use values::{Energy, ZoneNo};
 fn table(d: &[u8], tables: u8) -> Verdict
     ensures { result ≡ table_asked tables d.now }
 {
-    if text::has_form(b"Z(##)", d) {
-        let t = values::reading::read_table(text::first(text::rest(d, 2), 2), tables);
-        if t.ok {
-            let named = t.table;
-            return Verdict::Read(Ask::Table(named));
-        }
+    if !text::has_form(b"Z(##)", d) {
         return Verdict::Refuse(9);
     }
-    Verdict::Refuse(9)
+    match values::reading::read_table(text::first(text::rest(d, 2), 2), tables) {
+        Some(named) => Verdict::Read(Ask::Table(named)),
+        None => Verdict::Refuse(9),
+    }
 }
 
 // The energy that a letter with a number names: 0 the total, 1 to 4 a zone's, 5 none.

@@ -26,12 +26,10 @@ fn inside(d: &[u8]) -> &[u8]
 fn clock(x: &[u8]) -> Verdict
     ensures { result ≡ clock_told x.now }
 {
-    let c = values::reading::read_clock(x);
-    if c.ok {
-        let told = c.clock;
-        return Verdict::WriteClock(told);
+    match values::reading::read_clock(x) {
+        Some(told) => Verdict::WriteClock(told),
+        None => Verdict::Refuse(9),
     }
-    Verdict::Refuse(9)
 }
 
 // account; of the two tests the one that a record is not tested by, so that there it is compiled in
@@ -49,15 +47,13 @@ fn table(x: &[u8], tables: u8) -> Verdict
     ensures { result ≡ table_told tables x.now }
 {
     let good = (text::at(x, 2) == b';') & values::is_row(text::rest(x, 3));
-    if good {
-        let t = values::reading::read_table(text::first(x, 2), tables);
-        if t.ok {
-            let named = t.table;
-            return Verdict::WriteTable(named);
-        }
+    if !good {
         return Verdict::Refuse(9);
     }
-    Verdict::Refuse(9)
+    match values::reading::read_table(text::first(x, 2), tables) {
+        Some(named) => Verdict::WriteTable(named),
+        None => Verdict::Refuse(9),
+    }
 }
 
 pub fn tells(d: &[u8], tables: u8) -> Verdict

@@ -23,8 +23,7 @@ use Rattle.values.specs.declared.Energy.TheVariants.{Total}
 use Rattle.values.specs.Family.{is_eqm}
 use Rattle.values.specs.Registers.{zone_energy, good_zone, good_digits, good_password, good_account, good_row, good_table}
 use Rattle.values.specs.Texts.{table_text, clock_text, table_form}
-use Rattle.values.specs.Reading.{table_read, some_table, no_table}
-use Rattle.values.specs.declared.reading.TableRead.{TableRead}
+use Rattle.values.specs.Reading.{TableRead, table_read, some_table, no_table}
 use Rattle.values.proofs.RoundTrip.{clock-reads-back, table-reads-back}
 use Rattle.values.proofs.Rules.{digits_long}
 use Rattle.frames.specs.Commands.{bracketed, ask_clock, ask_serial, ask_account, ask_energy, ask_export, ask_table, set_clock, set_account, set_table}

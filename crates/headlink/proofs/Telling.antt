@@ -10,10 +10,7 @@ use Rattle.text.specs.Writing.{stored}
 use Rattle.text.proofs.Writing.{stored-holding}
 use Rattle.values.specs.Edition.{row_length}
 use Rattle.values.specs.Registers.{good_account, good_row}
-use Rattle.values.specs.Serials.{serial_form, no_serial, no_account, no_row, serial_read, account_read, row_read}
-use Rattle.values.specs.declared.characters.SerialRead.{SerialRead}
-use Rattle.values.specs.declared.characters.AccountRead.{AccountRead}
-use Rattle.values.specs.declared.characters.RowRead.{RowRead}
+use Rattle.values.specs.Serials.{SerialRead, AccountRead, RowRead, serial_form, no_serial, no_account, no_row, serial_read, account_read, row_read}
 use Rattle.values.proofs.Serials.{serial-read-long, account-read-long, row-read-long}
 use Rattle.headlink.specs.Telling.{value_number, Tells}
 

@@ -1,11 +1,30 @@
 // Values read back, for C: 1, or 25 with zeros; a buffer under a value's size is kept, with 26.
 ghost use Rattle.std.specs.Prelude.{◌≡◌, length};
 ghost use Rattle.clock.specs.Seconds.{date_of};
-ghost use Rattle.values.specs.Reading.{date_read, time_read, stamp_read, energy_read};
+ghost use Rattle.values.specs.Reading.{counter_found, date_read, time_read, stamp_read, energy_read};
 ghost use Rattle.values.specs.Serials.{serial_read, account_read, row_read};
 ghost use Rattle.headlink.specs.Telling.{value_number, Tells, eqm_told};
 
-use values::reading::CounterRead;
+use clock::{Date, Stamp, Time};
+
+// What is told where nothing was read.
+const NO_DATE: Date = Date {
+    year: 0,
+    month: 0,
+    day: 0,
+};
+
+const NO_TIME: Time = Time {
+    hour: 0,
+    minute: 0,
+    second: 0,
+};
+
+const NO_STAMP: Stamp = Stamp {
+    date: NO_DATE,
+    hour: 0,
+    minute: 0,
+};
 
 pub const SHORT: u8 = 26;
 
@@ -86,11 +105,11 @@ pub extern "C" fn dirgemist_head_value_date(
     ensures date { record { year = year.exit.now; month = month.new; day = day.new } ≡ (date_read value.now).date }
 {
     let v = values::reading::read_date(value);
-    let d = v.date;
+    let d = v.unwrap_or(NO_DATE);
     *year = d.year;
     *month = d.month;
     *day = d.day;
-    number(v.ok)
+    number(v.is_some())
 }
 
 // A time.
@@ -105,11 +124,11 @@ pub extern "C" fn dirgemist_head_value_time(
     ensures time { record { hour = hour.exit.now; minute = minute.new; second = second.new } ≡ (time_read value.now).time }
 {
     let v = values::reading::read_time(value);
-    let t = v.time;
+    let t = v.unwrap_or(NO_TIME);
     *hour = t.hour;
     *minute = t.minute;
     *second = t.second;
-    number(v.ok)
+    number(v.is_some())
 }
 
 // A closed period's time.
@@ -126,14 +145,13 @@ pub extern "C" fn dirgemist_head_value_period(
     ensures period { record { date = date_of year.new month.new day.new; hour = hour.new; minute = minute.new } ≡ (stamp_read value.now).stamp }
 {
     let v = values::reading::read_stamp(value);
-    let t = v.stamp;
-    let on = t.date;
-    *year = on.year;
-    *month = on.month;
-    *day = on.day;
+    let t = v.unwrap_or(NO_STAMP);
+    *year = t.date.year;
+    *month = t.date.month;
+    *day = t.date.day;
     *hour = t.hour;
     *minute = t.minute;
-    number(v.ok)
+    number(v.is_some())
 }
 
 // A counter's Wh.
@@ -143,8 +161,8 @@ pub extern "C" fn dirgemist_head_value_counter(value: &[u8], wh: &mut u32) -> u8
     ensures wh { wh.new ≡ (energy_read 0 value.now).number }
 {
     let v = values::reading::read_counter(value, 0);
-    *wh = v.number;
-    number(v.ok)
+    *wh = v.unwrap_or(0);
+    number(v.is_some())
 }
 
 // What is told of an EQM meter's counter.
@@ -155,16 +173,14 @@ pub struct Counted {
 }
 
 // The decimals are told apart once, and each has its code.
-fn read_family(decimals: u8, value: &[u8]) -> CounterRead
-    ensures { result ≡ energy_read decimals value.now }
+fn read_family(decimals: u8, value: &[u8]) -> Option<u32>
+    ensures { counter_found result ≡ energy_read decimals value.now }
 {
-    if decimals == 2 {
-        return values::reading::read_counter(value, 2);
+    match decimals {
+        2 => values::reading::read_counter(value, 2),
+        3 => values::reading::read_counter(value, 3),
+        _ => values::reading::read_counter(value, decimals),
     }
-    if decimals == 3 {
-        return values::reading::read_counter(value, 3);
-    }
-    values::reading::read_counter(value, decimals)
 }
 
 fn read_eqm(decimals: u8, value: &[u8]) -> Counted
@@ -174,8 +190,8 @@ fn read_eqm(decimals: u8, value: &[u8]) -> Counted
     if known {
         let v = read_family(decimals, value);
         return Counted {
-            number: number(v.ok),
-            count: v.number,
+            number: number(v.is_some()),
+            count: v.unwrap_or(0),
         };
     }
     Counted {

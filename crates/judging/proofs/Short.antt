@@ -2,30 +2,25 @@
 use mathlib.Core.Path.{◌≡◌, refl, sym, ap, ap₂, ◌∙◌}
 use mathlib.Core.Bool.{Bool, true, false, cond, ◌&&◌}
 use mathlib.Core.List.{List, [], ◌∷◌, ◌++◌, map}
-use Prim.Native.Nat.{ℕ, ◌+◌, ◌-◌, ◌≤◌, ◌<◌}
+use Prim.Native.Nat.{ℕ, ◌+◌, ◌-◌, ◌≤◌}
 use native.Mathlib.Omega.{arith}
 use borrow.Author.Tests.{leb-true, eqb-true, ltb-true}
 use lib.Dec.{leb, eqb, ltb}
-use lib.ListN.{length, take, drop, length-append, length-take, length-drop, length-map}
+use lib.ListN.{length, take, drop, length-append, length-drop, length-map}
 use lib.Seq.{length-take-le, take_at}
 use Rattle.line.specs.Characters.{seven, undamaged_all}
 use Rattle.line.specs.Quoted.{char, chars}
-use Rattle.line.specs.Runs.{every}
 use Rattle.line.proofs.Runs.{and_left, and_right}
-use Rattle.text.specs.Classes.{between, same_text}
 use Rattle.text.specs.Decimal.{decimal}
 use Rattle.text.specs.Layout.{pattern, fits, agrees, layout_text}
 use Rattle.text.proofs.Decimal.{length-decimal}
 use Rattle.text.proofs.Matching.{matched-length}
-use Rattle.values.specs.Registers.{good_account, good_row, is_account_character}
+use Rattle.values.specs.Registers.{good_account, good_row}
 use Rattle.values.specs.Family.{import_name, export_name}
 use Rattle.values.proofs.Families.{shown, energy-long, energy-read-is-text}
 use Rattle.values.specs.Texts.{table_text, time_form, date_form}
-use Rattle.values.specs.Serials.{serial_form, serial_read, no_serial}
-use Rattle.values.specs.declared.characters.SerialRead.{SerialRead}
-use Rattle.values.specs.declared.reading.DateRead.{DateRead}
-use Rattle.values.specs.declared.reading.TimeRead.{TimeRead}
-use Rattle.values.specs.Reading.{date_read, time_read, energy_read, no_date, no_time}
+use Rattle.values.specs.Serials.{SerialRead, serial_form, serial_read, no_serial}
+use Rattle.values.specs.Reading.{DateRead, TimeRead, date_read, time_read, energy_read, no_date, no_time}
 use Rattle.text.specs.Writing.{holding}
 use Rattle.blocks.specs.Stripping.{stripped_by, stripped_of, stripped_into, Strips}
 use Rattle.blocks.specs.declared.Stripped.{Stripped}

@@ -70,7 +70,7 @@ fn tells_time(s: &[u8]) -> bool
     ensures { result ≡ tells_time s.now }
 {
     let read = values::reading::read_time(value_in(b"0.9.1(", s));
-    is_line(b"0.9.1(", s) & read.ok
+    is_line(b"0.9.1(", s) & read.is_some()
 }
 
 // The date's line.
@@ -78,7 +78,7 @@ fn tells_date(s: &[u8]) -> bool
     ensures { result ≡ tells_date s.now }
 {
     let read = values::reading::read_date(value_in(b"0.9.2(", s));
-    is_line(b"0.9.2(", s) & read.ok
+    is_line(b"0.9.2(", s) & read.is_some()
 }
 
 // Both, in the order of the answer to T().
@@ -92,7 +92,7 @@ fn tells_serial(s: &[u8]) -> bool
     ensures { result ≡ tells_serial s.now }
 {
     let read = values::characters::read_serial(value_in(b"C.1.0(", s));
-    is_line(b"C.1.0(", s) & read.ok
+    is_line(b"C.1.0(", s) & read.is_some()
 }
 
 fn tells_account(s: &[u8]) -> bool
@@ -108,7 +108,7 @@ fn tells_counter(family: u8, opening: &[u8], s: &[u8]) -> bool
     ensures { result ≡ tells_counter family opening.now s.now }
 {
     let read = values::reading::read_counter(value_in(opening, s), family);
-    is_line(opening, s) & read.ok
+    is_line(opening, s) & read.is_some()
 }
 
 // An energy at the address of the one asked; 0 is the total.

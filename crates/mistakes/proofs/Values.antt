@@ -12,21 +12,12 @@ use Rattle.clock.specs.declared.Stamp.{Stamp}
 use Rattle.clock.specs.Dates.{leap, thirty, days_in, real_date, real_time}
 use Rattle.clock.specs.Seconds.{real_clock, real_stamp, next_month, next_day, next_second}
 use Rattle.clock.specs.Weekday.{days_before, day_number, weekday}
-use Rattle.values.specs.declared.reading.DateRead.{DateRead}
-use Rattle.values.specs.declared.reading.TimeRead.{TimeRead}
-use Rattle.values.specs.declared.reading.ClockRead.{ClockRead}
-use Rattle.values.specs.declared.reading.StampRead.{StampRead}
-use Rattle.values.specs.declared.reading.CounterRead.{CounterRead}
-use Rattle.values.specs.declared.reading.TableRead.{TableRead}
-use Rattle.values.specs.declared.characters.SerialRead.{SerialRead}
-use Rattle.values.specs.declared.characters.AccountRead.{AccountRead}
-use Rattle.values.specs.declared.characters.RowRead.{RowRead}
+use Rattle.values.specs.Reading.{DateRead, TimeRead, ClockRead, StampRead, CounterRead, TableRead, date_read, time_read, clock_read, stamp_read, counter_read, energy_read, table_read}
+use Rattle.values.specs.Serials.{SerialRead, AccountRead, RowRead, serial_read, account_read, row_read}
 use Rattle.values.specs.Edition.{is_edition, tables_of}
 use Rattle.values.specs.Family.{is_family, is_eqm, counter_digits, counter_decimals, counter_end, export_end}
 use Rattle.values.specs.Registers.{good_digits, is_account_character, good_account, good_row, good_table, good_zone, energy_no}
 use Rattle.values.specs.Texts.{serial_text, table_text, date_text, time_text, clock_text, stamp_text, counter_text, energy_text}
-use Rattle.values.specs.Reading.{date_read, time_read, clock_read, stamp_read, counter_read, energy_read, table_read}
-use Rattle.values.specs.Serials.{serial_read, account_read, row_read}
 use Rattle.mistakes.specs.Samples.{serial}
 use Rattle.mistakes.specs.Values.{Clock, Rules, Families, Reading, Characters, Writing}
 use Rattle.mistakes.proofs.Differing.{seen, number, flag, byte}

@@ -20,9 +20,7 @@ use Rattle.text.specs.Layout.{fits, pattern}
 use Rattle.frames.specs.Commands.{ask_clock, ask_serial, ask_account}
 use Rattle.values.specs.Family.{is_eqm}
 use Rattle.values.specs.Registers.{good_account, good_row, good_table}
-use Rattle.values.specs.Reading.{clock_read, clock_in, some_clock, no_clock, table_read, some_table, no_table}
-use Rattle.values.specs.declared.reading.ClockRead.{ClockRead}
-use Rattle.values.specs.declared.reading.TableRead.{TableRead}
+use Rattle.values.specs.Reading.{ClockRead, TableRead, clock_read, clock_in, some_clock, no_clock, table_read, some_table, no_table}
 use Rattle.values.specs.declared.TableNo.{TableNo}
 use Rattle.values.specs.Texts.{clock_form, table_form}
 use Rattle.replies.specs.Answers.{answerable}

@@ -6,9 +6,7 @@ use Rattle.line.specs.Quoted.{chars}
 use Rattle.clock.specs.Seconds.{real_clock}
 use Rattle.clock.specs.declared.Clock.{Clock}
 use Rattle.values.specs.declared.TableNo.{TableNo}
-use Rattle.values.specs.Reading.{clock_read, table_read}
-use Rattle.values.specs.declared.reading.ClockRead.{ClockRead}
-use Rattle.values.specs.declared.reading.TableRead.{TableRead}
+use Rattle.values.specs.Reading.{ClockRead, TableRead, clock_read, table_read}
 use Rattle.values.specs.Registers.{good_account, good_row, good_table}
 use Rattle.frames.specs.Session.{closing_sign_on}
 use Rattle.state.specs.WellFormed.{family_of, tables_in, marked}

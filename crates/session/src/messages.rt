@@ -108,7 +108,7 @@ fn write_row(tables: u8, family: u8, s: &[u8], buf: &mut [u8]) -> Result<usize, 
         return commands::write_table_of(buf, tables, TableNo(0), b"");
     }
     let read = values::reading::read_table(text::first(text::rest(s, NUMBER), 2), tables);
-    let table = read.table;
+    let table = read.unwrap_or(TableNo(0));
     commands::write_table_of(
         buf,
         tables,

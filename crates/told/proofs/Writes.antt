@@ -15,9 +15,7 @@ use Rattle.clock.specs.Seconds.{real_clock}
 use Rattle.clock.specs.declared.Clock.{Clock}
 use Rattle.values.specs.Texts.{clock_text, table_text}
 use Rattle.values.specs.Registers.{good_account, good_row, good_table}
-use Rattle.values.specs.Reading.{clock_read, table_read}
-use Rattle.values.specs.declared.reading.ClockRead.{ClockRead}
-use Rattle.values.specs.declared.reading.TableRead.{TableRead}
+use Rattle.values.specs.Reading.{ClockRead, TableRead, clock_read, table_read}
 use Rattle.values.specs.declared.TableNo.{TableNo}
 use Rattle.values.proofs.RoundTrip.{clock-reads-back, clock-read-is-text, table-reads-back, table-read-is-text}
 use Rattle.values.proofs.Rules.{row-long, table-text-long}

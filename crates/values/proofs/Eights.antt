@@ -1,6 +1,6 @@
 -- A text of eight characters, or one that two times eight cover, tested by its form as numbers, and the numbers of two digits in it.
 -- Assumes nothing.
-use mathlib.Core.Path.{◌≡◌, refl, sym, ap, ap₂, ◌∙◌}
+use mathlib.Core.Path.{◌≡◌, sym, ap, ap₂, ◌∙◌}
 use mathlib.Core.Bool.{Bool, true, ◌&&◌}
 use mathlib.Core.List.{List, map}
 use Prim.Native.Nat.{ℕ, ◌+◌, ◌-◌, ◌/◌, ◌%◌, ◌≤◌}
@@ -16,7 +16,6 @@ use Rattle.text.specs.Decimal.{number_at}
 use Rattle.text.specs.Layout.{agrees, fits}
 use Rattle.eights.specs.Lanes.{lanes, least, common, spare, keeps, paired, is_byte}
 use Rattle.eights.proofs.Windows.{window, window-kept, window-least, window-few, window-two, covered}
-use Rattle.values.specs.declared.number.Three.{Three}
 use Rattle.values.specs.Numbers.{Above, three_in, three_of}
 
 abbrev pub low_bytes : List ℕ → Bool

@@ -1,14 +1,12 @@
 -- What a text's form says of the numbers that stand in it: where they are, and that each is within its digits.
 -- All of it is `form-within`, read at one form. Assumes nothing.
-use mathlib.Core.Path.{◌≡◌, refl, sym, ap, ◌∙◌}
-use mathlib.Core.Bool.{Bool, true, false, ◌&&◌}
-use mathlib.Core.List.{List, [], ◌∷◌}
-use Prim.Native.Nat.{ℕ, ◌+◌, ◌<◌, ◌≤◌, ◌^◌}
+use mathlib.Core.Path.{◌≡◌, sym}
+use mathlib.Core.Bool.{true, false}
+use mathlib.Core.List.{List}
+use Prim.Native.Nat.{ℕ}
 use native.Mathlib.Omega.{arith}
 use lib.ListN.{length}
-use Rattle.text.specs.Classes.{matching}
-use Rattle.text.specs.Decimal.{number_at}
-use Rattle.text.specs.Layout.{Piece, pattern, fits, numbers_from, agrees}
+use Rattle.text.specs.Layout.{pattern, fits, numbers_from, agrees}
 use Rattle.text.proofs.Matching.{matched-length, matching-length}
 use Rattle.text.proofs.Forms.{form-within}
 use Rattle.values.specs.Texts.{three_twos, clock_form, table_form}

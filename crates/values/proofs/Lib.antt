@@ -8,3 +8,4 @@ pub mod Eights
 pub mod Counters
 pub mod Digits
 pub mod Around
+pub mod Found

@@ -1,17 +1,17 @@
 -- Of each value: its text reads back to it, and a text that reads as a value is the text that writes it.
 -- The law of forms (`text-fits`, `text-reads`, `form-is-text`) read at one form each. Assumes nothing.
-use mathlib.Core.Path.{◌≡◌, refl, sym, ap, ◌∙◌}
-use mathlib.Core.Bool.{Bool, true, false, cond, ◌&&◌}
+use mathlib.Core.Path.{◌≡◌, refl, ap, ◌∙◌}
+use mathlib.Core.Bool.{true, false}
 use mathlib.Core.List.{List, [], ◌∷◌}
-use Prim.Native.Nat.{ℕ, zero, suc, ◌+◌, ◌-◌, ◌*◌, ◌/◌, ◌%◌, ◌^◌, ◌≤◌, ◌<◌}
+use Prim.Native.Nat.{ℕ, ◌+◌, ◌-◌, ◌*◌, ◌/◌, ◌%◌, ◌^◌, ◌≤◌, ◌<◌}
 use native.Mathlib.Nat.{mod-lt, div-lt_iff_lt-mul, div-add-mod'}
 use native.Mathlib.Omega.{arith}
 use borrow.Author.Tests.{lt-ltb, leb-true}
 use lib.Arith.{digits_div, digits_mod}
 use lib.Pow.{pow-add}
-use lib.Dec.{leb, ltb}
-use lib.ListN.{length, get_or}
-use Rattle.line.proofs.Runs.{and_left, and_right, and_both, chosen}
+use lib.Dec.{leb}
+use lib.ListN.{get_or}
+use Rattle.line.proofs.Runs.{and_left, and_right, chosen}
 use Rattle.line.specs.Runs.{every}
 use Rattle.text.specs.Classes.{between}
 use Rattle.text.specs.Decimal.{number_at}
@@ -19,21 +19,15 @@ use Rattle.text.proofs.Decimal.{ten-pos}
 use Rattle.text.specs.Layout.{Piece, layout_text, numbers_from, pattern, fits, numbers_fit, plain}
 use Rattle.text.proofs.Forms.{text-fits, text-reads, form-is-text, form-within}
 use Rattle.clock.specs.Dates.{real_date, real_time}
-use Rattle.clock.specs.Seconds.{date_of, time_of, real_clock, real_stamp}
+use Rattle.clock.specs.Seconds.{real_clock, real_stamp}
 use Rattle.clock.specs.declared.Date.{Date}
 use Rattle.clock.specs.declared.Time.{Time}
 use Rattle.clock.specs.declared.Clock.{Clock}
 use Rattle.clock.specs.declared.Stamp.{Stamp}
 use Rattle.clock.proofs.Real.{RealDate, RealTime, date-facts, time-facts, days-most}
-use Rattle.values.specs.declared.reading.DateRead.{DateRead}
-use Rattle.values.specs.declared.reading.TimeRead.{TimeRead}
-use Rattle.values.specs.declared.reading.ClockRead.{ClockRead}
-use Rattle.values.specs.declared.reading.StampRead.{StampRead}
-use Rattle.values.specs.declared.reading.CounterRead.{CounterRead}
-use Rattle.values.specs.declared.reading.TableRead.{TableRead}
+use Rattle.values.specs.Reading.{DateRead, TimeRead, ClockRead, StampRead, CounterRead, TableRead, date_read, time_read, clock_read, stamp_read, counter_read, table_read, some_date, some_time, some_clock, some_stamp, some_table, no_date, no_time, no_clock, no_stamp, no_table, clock_in, stamp_in}
 use Rattle.values.specs.Registers.{good_table}
 use Rattle.values.specs.Texts.{date_form, time_form, clock_form, stamp_form, counter_form, table_form, date_text, time_text, clock_text, stamp_text, counter_text, table_text}
-use Rattle.values.specs.Reading.{date_read, time_read, clock_read, stamp_read, counter_read, table_read, some_date, some_time, some_clock, some_stamp, some_table, no_date, no_time, no_clock, no_stamp, no_table, clock_in, stamp_in, counter_in}
 
 -- the n-th number that a text's form has
 nth : (s : List ℕ) (ps : List Piece) (ns : List ℕ) (n : ℕ) → numbers_from 0 ps s ≡ ns → get_or (numbers_from 0 ps s) n 0 ≡ get_or ns n 0

@@ -3,14 +3,14 @@
 use mathlib.Core.Path.{◌≡◌, refl, sym, ap, ap₂, ◌∙◌}
 use mathlib.Core.Bool.{Bool, true, false, cond}
 use mathlib.Core.List.{List, [], ◌∷◌, ◌++◌, append-nil}
-use Prim.Native.Nat.{ℕ, zero, suc, ◌+◌, ◌<◌, ◌^◌}
+use Prim.Native.Nat.{ℕ, ◌+◌, ◌<◌, ◌^◌}
 use native.Mathlib.Omega.{arith}
 use borrow.Author.Tests.{lt-ltb}
 use lib.Dec.{eqb}
 use lib.ListN.{length, take, drop, take-append-drop, length-drop, length-append}
 use lib.Seq.{take_at, drop_at, length-take-le, drop-append-add}
 use Rattle.line.specs.Runs.{every}
-use Rattle.line.proofs.Runs.{and_left, and_right, chosen, every_take, every_drop}
+use Rattle.line.proofs.Runs.{and_right, chosen, every_take, every_drop}
 use Rattle.text.specs.Classes.{is_digit}
 use Rattle.text.specs.Decimal.{decimal, value_of, number_at}
 use Rattle.text.specs.Layout.{layout_text, numbers_from, pattern, fits, numbers_fit, plain}
@@ -19,10 +19,7 @@ use Rattle.text.proofs.Forms.{text-fits, form-is-text}
 use Rattle.values.specs.Edition.{row_length}
 use Rattle.values.specs.Registers.{good_digits, good_serial, good_account, good_row}
 use Rattle.values.specs.Texts.{serial_text}
-use Rattle.values.specs.Serials.{serial_form, no_serial, serial_read, account_read, row_read}
-use Rattle.values.specs.declared.characters.SerialRead.{SerialRead}
-use Rattle.values.specs.declared.characters.AccountRead.{AccountRead}
-use Rattle.values.specs.declared.characters.RowRead.{RowRead}
+use Rattle.values.specs.Serials.{SerialRead, AccountRead, RowRead, serial_form, no_serial, serial_read, account_read, row_read}
 use Rattle.values.proofs.Rules.{digits_long, account-long, row-long}
 use Rattle.values.proofs.Fields.{fits-long}
 

@@ -1,5 +1,5 @@
 -- Document 01, "The state": what each register may hold.
-use Rattle.std.specs.Prelude.{Bool, ◌&&◌, ◌||◌, List, ℕ, eqb, leb, length}
+use Rattle.std.specs.Prelude.{Bool, ◌&&◌, ◌||◌, List, ℕ, eqb, length}
 use Rattle.line.specs.Quoted.{char}
 use Rattle.line.specs.Runs.{every}
 use Rattle.text.specs.Classes.{between, is_digit, is_letter}

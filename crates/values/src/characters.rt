@@ -1,27 +1,9 @@
-// Serial, account and row read back from their texts to the characters that made them; zeros where a text has not their form.
+// Serial, account and row read back from their texts to the characters that made them; nothing where a text has not their form.
 ghost use Rattle.std.specs.Prelude.{◌≡◌, true, ◌++◌, length, take, drop};
 ghost use Rattle.values.specs.Edition.{row_length};
 ghost use Rattle.text.specs.Layout.{pattern, fits};
 ghost use Rattle.eights.specs.Lanes.{lanes};
-ghost use Rattle.values.specs.Serials.{serial_form, no_serial, no_account, no_row, serial_read, account_read, row_read};
-
-#[derive(Clone, Copy)]
-pub struct SerialRead {
-    pub ok: bool,
-    pub serial: [u8; 10],
-}
-
-#[derive(Clone, Copy)]
-pub struct AccountRead {
-    pub ok: bool,
-    pub account: [u8; 10],
-}
-
-#[derive(Clone, Copy)]
-pub struct RowRead {
-    pub ok: bool,
-    pub row: [u8; crate::ROW_LENGTH],
-}
+ghost use Rattle.values.specs.Serials.{serial_form, serial_found, account_found, row_found, serial_read, account_read, row_read};
 
 // What `### ####` and ` #######`, the first and the last eight, have in their lanes: the least characters, the bits that those of a lane share,
 // and what a digit has to spare.
@@ -68,27 +50,14 @@ pub fn digits_of(s: &[u8]) -> [u8; 10]
     [d[0], d[1], d[2], d[3], d[4], d[5], d[6], d[7], s[9], s[10]]
 }
 
-fn no_serial() -> SerialRead
-    ensures { result ≡ no_serial }
-{
-    SerialRead {
-        ok: false,
-        serial: [0u8; 10],
-    }
-}
-
 // A serial from `nnn nnnnnnn`.
-pub fn read_serial(s: &[u8]) -> SerialRead
-    ensures { result ≡ serial_read s.now }
+pub fn read_serial(s: &[u8]) -> Option<[u8; 10]>
+    ensures { serial_found result ≡ serial_read s.now }
 {
     if is_serial(s) {
-        let digits = digits_of(s);
-        return SerialRead {
-            ok: true,
-            serial: digits,
-        };
+        return Some(digits_of(s));
     }
-    no_serial()
+    None
 }
 
 // Ten characters, copied.
@@ -101,30 +70,17 @@ pub fn ten_of(s: &[u8]) -> [u8; 10]
     copy
 }
 
-fn no_account() -> AccountRead
-    ensures { result ≡ no_account }
-{
-    AccountRead {
-        ok: false,
-        account: [0u8; 10],
-    }
-}
-
 // An account, as it stands. The length is tested first, so that the test of the characters is compiled for it.
-pub fn read_account(s: &[u8]) -> AccountRead
-    ensures { result ≡ account_read s.now }
+pub fn read_account(s: &[u8]) -> Option<[u8; 10]>
+    ensures { account_found result ≡ account_read s.now }
 {
     if s.len() != 10 {
-        return no_account();
+        return None;
     }
     if crate::is_whole_account(s) {
-        let account = ten_of(s);
-        return AccountRead {
-            ok: true,
-            account: account,
-        };
+        return Some(ten_of(s));
     }
-    no_account()
+    None
 }
 
 // A row's characters, copied.
@@ -137,25 +93,15 @@ pub fn row_of(s: &[u8]) -> [u8; crate::ROW_LENGTH]
     copy
 }
 
-fn no_row() -> RowRead
-    ensures { result ≡ no_row }
-{
-    RowRead {
-        ok: false,
-        row: [0u8; crate::ROW_LENGTH],
-    }
-}
-
 // A table's row, as it stands.
-pub fn read_row(s: &[u8]) -> RowRead
-    ensures { result ≡ row_read s.now }
+pub fn read_row(s: &[u8]) -> Option<[u8; crate::ROW_LENGTH]>
+    ensures { row_found result ≡ row_read s.now }
 {
     if s.len() != crate::ROW_LENGTH {
-        return no_row();
+        return None;
     }
     if crate::is_row(s) {
-        let row = row_of(s);
-        return RowRead { ok: true, row: row };
+        return Some(row_of(s));
     }
-    no_row()
+    None
 }

@@ -1,8 +1,9 @@
 -- `judging::tells_counter` meets its contract: the line, and the value that it holds. Assumes nothing.
+use mathlib.Core.Path.{ap}
+use Rattle.values.specs.Reading.{CounterRead}
 use Rattle.judging.specs.Right.{tells_counter}
-use borrow.Author.Rules.{rules}
 use Rattle.judging.proofs.tells_counter.Goals as goal
 
 pub returns : goal.returns
 unfolding tells_counter
-returns c = rw (c.is_line.ensures, c.read_counter-read.ensures, c.value_in.ensures)
+returns c = rw (c.is_line.ensures, c.is_some.ensures, ap (λ (r : CounterRead). r.ok) c.read_counter-read.ensures, c.value_in.ensures)

@@ -1,6 +1,5 @@
 -- `values::account_takes` meets its contract: a letter is such a character. Assumes nothing.
 use Rattle.values.specs.Registers.{is_account_character}
-use borrow.Author.Rules.{rules}
 use Rattle.values.proofs.account_takes.Goals as goal
 
 pub returns-then-is_letter : goal.returns-then-is_letter

@@ -1,6 +1,5 @@
 -- `values::energy_no` meets its contract: each way out is the case of the definition that its tests name. Assumes nothing.
 use Rattle.values.specs.Registers.{energy_no}
-use borrow.Author.Rules.{rules}
 use Rattle.values.proofs.energy_no.Goals as goal
 
 pub returns-in-Total : goal.returns-in-Total

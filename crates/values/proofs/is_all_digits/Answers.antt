@@ -1,9 +1,7 @@
 -- `values::is_all_digits` meets its contract: the first eight characters and the last decide. Assumes nothing.
-use mathlib.Core.Path.{◌≡◌, refl}
 use Prim.Native.Nat.{◌-◌}
 use native.Mathlib.Omega.{arith}
 use lib.ListN.{length}
-use borrow.Author.Rules.{rules}
 use Rattle.values.proofs.Digits.{digits-kept}
 use Rattle.values.proofs.is_all_digits.Goals as goal
 

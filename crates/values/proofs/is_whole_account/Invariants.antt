@@ -1,14 +1,10 @@
 -- `values::is_whole_account` meets its contract: the flag, with what is left, says it of the whole. Assumes nothing.
-use mathlib.Core.Path.{◌≡◌, refl, ◌∙◌}
+use mathlib.Core.Path.{◌≡◌}
 use mathlib.Core.Bool.{◌&&◌}
 use Prim.Native.Nat.{◌-◌, ◌≤◌}
-use native.Mathlib.Omega.{arith}
-use borrow.Author.Tests.{eq-eqb}
 use lib.ListN.{length, drop}
 use Rattle.line.specs.Runs.{every}
-use Rattle.line.proofs.Runs.{every-turn, every-end}
-use Rattle.values.specs.Registers.{is_account_character, good_account}
-use Rattle.values.proofs.Rules.{no-account}
+use Rattle.values.specs.Registers.{is_account_character}
 use Rattle.values.proofs.is_whole_account.Given as goal
 
 abbrev pub invariant-loop-i : goal.invariant-loop-i

@@ -1,16 +1,15 @@
 -- `deciding::asking::table` meets its contract: each way out is the case of the definition that its tests name. Assumes nothing.
 use Rattle.deciding.specs.Asking.{table_asked}
-use borrow.Author.Rules.{rules}
 use Rattle.deciding.proofs.asking.table.Goals as goal
 
-pub returns-then-t : goal.returns-then-t
+pub returns-then-not-has_form : goal.returns-then-not-has_form
 unfolding table_asked
-returns-then-t c = rw (← c.has_form.ensures, c.if-has_form.true, ← c.rest.ensures.result_value, ← c.first.ensures.result_value, ← c.read_table-t.ensures, c.if-t.true)
+returns-then-not-has_form c = rw (← c.has_form.ensures, c.if-not-has_form.true)
 
-pub returns-then-has_form : goal.returns-then-has_form
+pub returns-in-Some : goal.returns-in-Some
 unfolding table_asked
-returns-then-has_form c = rw (← c.has_form.ensures, c.if-has_form.true, ← c.rest.ensures.result_value, ← c.first.ensures.result_value, ← c.read_table-t.ensures, c.if-t.false)
+returns-in-Some c = rw (← c.has_form.ensures, c.if-not-has_form.false, ← c.rest.ensures.result_value, ← c.first.ensures.result_value, ← c.in-Some.ensures)
 
-pub returns : goal.returns
+pub returns-in-None : goal.returns-in-None
 unfolding table_asked
-returns c = rw (← c.has_form.ensures, c.if-has_form.false)
+returns-in-None c = rw (← c.has_form.ensures, c.if-not-has_form.false, ← c.rest.ensures.result_value, ← c.first.ensures.result_value, ← c.in-None.ensures)

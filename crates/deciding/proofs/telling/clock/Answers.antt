@@ -1,12 +1,11 @@
 -- `deciding::telling::clock` meets its contract: each way out is the case of the definition that its tests name. Assumes nothing.
 use Rattle.deciding.specs.Telling.{clock_told}
-use borrow.Author.Rules.{rules}
 use Rattle.deciding.proofs.telling.clock.Goals as goal
 
-pub returns-then-c : goal.returns-then-c
+pub returns-in-Some : goal.returns-in-Some
 unfolding clock_told
-returns-then-c c = rw (← c.read_clock-c.ensures, c.if-c.true)
+returns-in-Some c = rw (← c.in-Some.ensures)
 
-pub returns : goal.returns
+pub returns-in-None : goal.returns-in-None
 unfolding clock_told
-returns c = rw (← c.read_clock-c.ensures, c.if-c.false)
+returns-in-None c = rw (← c.in-None.ensures)

@@ -1,16 +1,15 @@
 -- `deciding::telling::table` meets its contract: each way out is the case of the definition that its tests name. Assumes nothing.
 use Rattle.deciding.specs.Telling.{table_told}
-use borrow.Author.Rules.{rules}
 use Rattle.deciding.proofs.telling.table.Goals as goal
 
-pub returns-then-t : goal.returns-then-t
+pub returns-then-not-good : goal.returns-then-not-good
 unfolding table_told
-returns-then-t c = rw (← c.at.ensures, ← c.rest.ensures.result_value, ← c.is_row.ensures, c.if-good.true, ← c.first.ensures.result_value, ← c.read_table-t.ensures, c.if-t.true)
+returns-then-not-good c = rw (← c.at.ensures, ← c.rest.ensures.result_value, ← c.is_row.ensures, c.if-not-good.true)
 
-pub returns-then-good : goal.returns-then-good
+pub returns-in-Some : goal.returns-in-Some
 unfolding table_told
-returns-then-good c = rw (← c.at.ensures, ← c.rest.ensures.result_value, ← c.is_row.ensures, c.if-good.true, ← c.first.ensures.result_value, ← c.read_table-t.ensures, c.if-t.false)
+returns-in-Some c = rw (← c.at.ensures, ← c.rest.ensures.result_value, ← c.is_row.ensures, c.if-not-good.false, ← c.first.ensures.result_value, ← c.in-Some.ensures)
 
-pub returns : goal.returns
+pub returns-in-None : goal.returns-in-None
 unfolding table_told
-returns c = rw (← c.at.ensures, ← c.rest.ensures.result_value, ← c.is_row.ensures, c.if-good.false)
+returns-in-None c = rw (← c.at.ensures, ← c.rest.ensures.result_value, ← c.is_row.ensures, c.if-not-good.false, ← c.first.ensures.result_value, ← c.in-None.ensures)

@@ -1,6 +1,5 @@
 -- `headlink::fields::dirgemist_head_value_account` meets its contract: the characters of a good one, or zeros. Assumes nothing.
 use mathlib.Core.Path.{sym, ap, ◌∙◌}
-use borrow.Author.Rules.{rules}
 use Rattle.values.specs.Registers.{good_account}
 use Rattle.values.proofs.Rules.{no-account}
 use Rattle.headlink.proofs.Telling.{account-told, account-untold}

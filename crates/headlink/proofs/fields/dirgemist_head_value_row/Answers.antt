@@ -1,6 +1,5 @@
 -- `headlink::fields::dirgemist_head_value_row` meets its contract: the characters of a good one, or zeros. Assumes nothing.
 use mathlib.Core.Path.{sym, ap, ◌∙◌}
-use borrow.Author.Rules.{rules}
 use Rattle.values.specs.Registers.{good_row}
 use Rattle.values.proofs.Rules.{no_row}
 use Rattle.headlink.proofs.Telling.{row_told, row-untold}

@@ -1,6 +1,5 @@
 -- `headlink::fields::dirgemist_head_value_serial` meets its contract: the digits of a text that has the form, or zeros. Assumes nothing.
 use mathlib.Core.Path.{sym, ◌∙◌}
-use borrow.Author.Rules.{rules}
 use Rattle.headlink.proofs.Telling.{serial-told, serial-untold}
 use Rattle.headlink.proofs.fields.dirgemist_head_value_serial.Goals as goal
 

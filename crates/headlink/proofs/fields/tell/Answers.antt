@@ -1,5 +1,4 @@
 -- `headlink::fields::tell` meets its contract: a short buffer is kept, another tells the value. Assumes nothing.
-use borrow.Author.Rules.{rules}
 use Rattle.headlink.proofs.Telling.{kept, told}
 use Rattle.headlink.proofs.fields.tell.Goals as goal
 

@@ -10,4 +10,4 @@ returns-then-not-is_whole c = rw (← c.is_whole.ensures, c.if-not-is_whole.true
 pub returns : goal.returns
 unfolding row_in good_fields spoken letters_of data_of
 returns c =
-    rw (← c.is_whole.ensures, c.if-not-is_whole.false, ← c.rest.ensures.result_value, ← c.first.ensures.result_value, ← c.read_table-read.ensures, ← c.rest-2.ensures.result_value, ← c.first-2.ensures.result_value) c.write_table_of-2.ensures
+    rw (← c.is_whole.ensures, c.if-not-is_whole.false, ← c.rest.ensures.result_value, ← c.first.ensures.result_value, ← c.read_table-read.ensures, ← c.unwrap_or-table.ensures, ← c.rest-2.ensures.result_value, ← c.first-2.ensures.result_value) c.write_table_of-2.ensures

@@ -1,7 +1,5 @@
 -- `values::characters::digits_of` meets its contract: eight digits taken apart, and the last two. Assumes nothing.
-use mathlib.Core.Path.{◌≡◌}
 use native.Mathlib.Omega.{arith}
-use borrow.Author.Rules.{rules}
 use Rattle.eights.proofs.Windows.{all-bytes}
 use Rattle.values.proofs.Around.{serial-long, serial-apart}
 use Rattle.values.proofs.characters.digits_of.Goals as goal

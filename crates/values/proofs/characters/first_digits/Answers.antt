@@ -1,10 +1,5 @@
 -- `values::characters::first_digits` meets its contract: what is before the space and what is after it, joined. Assumes nothing.
-use mathlib.Core.Path.{◌≡◌}
 use native.Mathlib.Omega.{arith}
-use borrow.Author.Rules.{rules}
-use lib.ListN.{length}
-use Rattle.text.specs.Layout.{pattern}
-use Rattle.values.specs.Serials.{serial_form}
 use Rattle.values.proofs.Around.{serial-around, serial-first, serial-long}
 use Rattle.values.proofs.characters.first_digits.Goals as goal
 

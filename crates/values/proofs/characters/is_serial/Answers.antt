@@ -1,8 +1,6 @@
 -- `values::characters::is_serial` meets its contract: the length, and the form in the first and the last eight characters. Assumes nothing.
-use mathlib.Core.Path.{◌≡◌, refl}
-use mathlib.Core.List.{List}
+use mathlib.Core.Path.{refl}
 use native.Mathlib.Omega.{arith}
-use borrow.Author.Rules.{rules}
 use Rattle.line.specs.Runs.{every}
 use Rattle.text.specs.Layout.{pattern}
 use Rattle.eights.specs.Lanes.{lanes, least, common, spare}

@@ -1,6 +1,5 @@
 -- `values::characters::row_of` meets its contract: the text fills the array. Assumes nothing.
 use mathlib.Core.Path.{◌∙◌}
-use borrow.Author.Rules.{rules}
 use Rattle.text.proofs.Writing.{filled}
 use Rattle.values.proofs.characters.row_of.Goals as goal
 

@@ -1,5 +1,4 @@
 -- `values::counter::counter_in` meets its contract: the pairs of both, above the least of their forms. Assumes nothing.
-use borrow.Author.Rules.{rules}
 use Rattle.values.proofs.counter.counter_in.Goals as goal
 
 pub pairs-requires : goal.pairs-requires

@@ -1,5 +1,4 @@
 -- `values::counter::is_counter` meets its contract: the first eight and the last are tested. Assumes nothing.
-use borrow.Author.Rules.{rules}
 use Rattle.values.proofs.counter.is_counter.Goals as goal
 
 pub returns : goal.returns

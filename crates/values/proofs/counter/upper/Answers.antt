@@ -1,7 +1,6 @@
 -- `values::counter::upper` meets its contract: each way out is the case of the definition that its tests name. Assumes nothing.
 use native.Mathlib.Omega.{arith}
 use borrow.Author.Tests.{eq-eqb, ne_eqb}
-use borrow.Author.Rules.{rules}
 use Rattle.values.specs.Counters.{upper_of}
 use Rattle.values.proofs.counter.upper.Goals as goal
 

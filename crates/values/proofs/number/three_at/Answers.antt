@@ -1,5 +1,4 @@
 -- `values::number::three_at` meets its contract: each way out is the case of the definition that its tests name. Assumes nothing.
-use borrow.Author.Rules.{rules}
 use Rattle.values.proofs.number.three_at.Goals as goal
 
 pub returns : goal.returns

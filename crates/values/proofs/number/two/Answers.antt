@@ -1,7 +1,6 @@
 -- `values::number::two` meets its contract: each way out is the case of the definition that its tests name. Assumes nothing.
 use mathlib.Core.Path.{sym}
 use Rattle.text.proofs.Decimal.{two_at}
-use borrow.Author.Rules.{rules}
 use Rattle.values.proofs.number.two.Goals as goal
 
 pub returns : goal.returns

@@ -1,7 +1,6 @@
 -- `values::reading::clock_in` meets its contract: each way out is the case of the definition that its tests name. Assumes nothing.
 use native.Mathlib.Omega.{arith}
 use Rattle.text.proofs.Decimal.{four-at}
-use borrow.Author.Rules.{rules}
 use Rattle.values.proofs.reading.clock_in.Goals as goal
 
 pub overflow_mul-y : goal.overflow_mul-y

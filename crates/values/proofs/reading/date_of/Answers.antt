@@ -1,9 +1,7 @@
--- `values::reading::date_of` meets its contract: each way out is the case of the definition that its tests name. Assumes nothing.
-use borrow.Author.Rules.{rules}
+-- `values::reading::date_of` meets its contract: the rule decides. Assumes nothing.
+use Rattle.values.specs.Reading.{date_found}
+use Rattle.values.proofs.Found.{let-through}
 use Rattle.values.proofs.reading.date_of.Goals as goal
 
-pub returns-then-is_date : goal.returns-then-is_date
-returns-then-is_date c = rw (← c.is_date.ensures, c.if-is_date.true)
-
 pub returns : goal.returns
-returns c = rw (← c.is_date.ensures, c.if-is_date.false)
+returns c = rw (c.then_some.ensures, c.is_date.ensures) (let-through date_found _ _)

@@ -1,7 +1,6 @@
 -- `values::reading::read_counter` meets its contract: the form decides, in its first and its last eight characters, and the number is that of the pairs.
 -- Assumes nothing.
 use mathlib.Core.Path.{◌≡◌, sym, ◌∙◌}
-use borrow.Author.Rules.{rules}
 use lib.ListN.{length}
 use Rattle.values.specs.Counters.{counter_pattern}
 use Rattle.values.specs.Reading.{counter_read, energy_read}
@@ -14,7 +13,6 @@ unfolding counter_read energy_read
 returns-then-s-at c =
     let a = c.args in
     rw (misfit (counter_pattern a.family) a.s.now (λ (e : length a.s.now ≡ length (counter_pattern a.family)). c.if-s-at.true (rw c.counter_digits-at.ensures.value (e ∙ counter-pattern-long a.family))))
-    c.no_counter.ensures
 
 pub counter_in-requires : goal.counter_in-requires
 counter_in-requires c =
@@ -43,4 +41,3 @@ returns c =
     let e = c.eight-w.ensures in
     let f = c.eight-v.ensures.0 in
     rw (← counter-kept a.family _ a.s.now _ _ c.counter_digits-at.ensures.value c.if-s-at.false e.0 f e.1, ← c.is_counter.ensures, c.if-is_counter.false)
-    c.no_counter-2.ensures

@@ -3,7 +3,6 @@ use mathlib.Core.Path.{◌≡◌, refl, sym, ◌∙◌}
 use mathlib.Core.Bool.{Bool, true}
 use mathlib.Core.List.{List}
 use Prim.Native.Nat.{ℕ, ◌-◌}
-use borrow.Author.Rules.{rules}
 use lib.ListN.{length}
 use Rattle.line.specs.Runs.{every}
 use Rattle.text.specs.Layout.{pattern, fits}
@@ -34,7 +33,7 @@ read s w m e h = eight-three (pattern date_form) s w refl m e h (record { a = re
 
 pub returns-then-s-ne8 : goal.returns-then-s-ne8
 unfolding date_read pattern
-returns-then-s-ne8 c = rw (misfit (pattern date_form) c.args.s.now c.if-s-ne8.true) c.no_date.ensures
+returns-then-s-ne8 c = rw (misfit (pattern date_form) c.args.s.now c.if-s-ne8.true)
 
 pub three_above-requires : goal.three_above-requires
 three_above-requires c =
@@ -61,4 +60,4 @@ pub returns : goal.returns
 unfolding date_read
 returns c =
     let s = c.args.s.now in
-    rw (← fitted s _ _ c.if-s-ne8.false c.eight-w.ensures c.keeps_form.ensures, c.if-keeps_form.false) c.no_date-2.ensures
+    rw (← fitted s _ _ c.if-s-ne8.false c.eight-w.ensures c.keeps_form.ensures, c.if-keeps_form.false)

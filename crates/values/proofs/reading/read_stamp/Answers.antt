@@ -3,9 +3,8 @@
 use mathlib.Core.Path.{◌≡◌, refl, sym, ◌∙◌}
 use mathlib.Core.Bool.{Bool, true, ◌&&◌}
 use mathlib.Core.List.{List}
-use Prim.Native.Nat.{ℕ, ◌+◌, ◌-◌}
+use Prim.Native.Nat.{ℕ, ◌-◌}
 use native.Mathlib.Omega.{arith}
-use borrow.Author.Rules.{rules}
 use lib.ListN.{length, take, drop}
 use Rattle.line.specs.Runs.{every}
 use Rattle.text.specs.Layout.{pattern, fits}
@@ -13,8 +12,9 @@ use Rattle.eights.specs.Lanes.{lanes, least, common, spare, keeps, paired, is_by
 use Rattle.eights.proofs.Windows.{window}
 use Rattle.values.specs.Numbers.{Above, three_in, three_of}
 use Rattle.values.specs.Texts.{stamp_form}
-use Rattle.values.specs.Reading.{stamp_read}
+use Rattle.values.specs.Reading.{stamp_read, stamp_found}
 use Rattle.values.proofs.Fields.{misfit}
+use Rattle.values.proofs.Found.{let-through}
 use Rattle.values.proofs.Eights.{kept-both, front_fits, end_fits, is-above, three-read}
 use Rattle.values.proofs.reading.read_stamp.Goals as goal
 
@@ -59,7 +59,7 @@ module _ (s : List ℕ) (w v : ℕ) (m : length s ≡ 14) (e : w ≡ lanes (wind
 
 pub returns-then-s-ne14 : goal.returns-then-s-ne14
 unfolding stamp_read pattern
-returns-then-s-ne14 c = rw (misfit form c.args.s.now c.if-s-ne14.true) c.no_stamp.ensures
+returns-then-s-ne14 c = rw (misfit form c.args.s.now c.if-s-ne14.true)
 
 pub three_above-requires : goal.three_above-requires
 three_above-requires c =
@@ -85,11 +85,13 @@ returns-then-first-last c =
     let h = sym (fitted s _ _ m e.0 f _ _ e.1 c.keeps_form-first.ensures c.keeps_form-last.ensures) ∙ c.if-first-last.true in
     rw (
       h,
-      c.stamp_if_real.ensures,
-      c.stamp_of.ensures,
+      c.then_some.ensures,
+      c.is_stamp.ensures,
+      c.stamp_of-t.ensures,
       c.three_above-then-first-last.ensures ∙ hours-read s _ _ m e.0 f h,
       c.three_above.ensures ∙ date-read s _ _ m e.0 f h,
     )
+    (let-through stamp_found _ _)
 
 pub returns : goal.returns
 unfolding stamp_read
@@ -97,4 +99,3 @@ returns c =
     let s = c.args.s.now in
     let e = c.eight-w.ensures in
     rw (← fitted s _ _ c.if-s-ne14.false e.0 c.eight-v.ensures.0 _ _ e.1 c.keeps_form-first.ensures c.keeps_form-last.ensures, c.if-first-last.false)
-    c.no_stamp-2.ensures

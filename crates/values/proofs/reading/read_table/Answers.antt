@@ -4,7 +4,6 @@ use Rattle.text.specs.Layout.{pattern}
 use Rattle.values.proofs.Fields.{table-fields}
 use mathlib.Core.Path.{sym, ◌∙◌}
 use native.Mathlib.Omega.{arith}
-use borrow.Author.Rules.{rules}
 use Rattle.values.proofs.reading.read_table.Goals as goal
 
 pub two-requires : goal.two-requires

@@ -1,5 +1,4 @@
 -- `values::reading::three_above` meets its contract: three lanes of the pairs. Assumes nothing.
-use borrow.Author.Rules.{rules}
 use Rattle.values.proofs.reading.three_above.Goals as goal
 
 pub returns : goal.returns

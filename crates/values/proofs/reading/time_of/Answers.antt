@@ -1,9 +1,7 @@
--- `values::reading::time_of` meets its contract: each way out is the case of the definition that its tests name. Assumes nothing.
-use borrow.Author.Rules.{rules}
+-- `values::reading::time_of` meets its contract: the rule decides. Assumes nothing.
+use Rattle.values.specs.Reading.{time_found}
+use Rattle.values.proofs.Found.{let-through}
 use Rattle.values.proofs.reading.time_of.Goals as goal
 
-pub returns-then-is_time : goal.returns-then-is_time
-returns-then-is_time c = rw (← c.is_time.ensures, c.if-is_time.true)
-
 pub returns : goal.returns
-returns c = rw (← c.is_time.ensures, c.if-is_time.false)
+returns c = rw (c.then_some.ensures, c.is_time.ensures) (let-through time_found _ _)

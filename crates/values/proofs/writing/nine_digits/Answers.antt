@@ -1,10 +1,9 @@
 -- `values::writing::nine_digits` meets its contract: one digit, four and four, those in pairs, each digit by digit. Assumes nothing.
-use mathlib.Core.Path.{◌≡◌, refl, sym, ap, ap₂, ◌∙◌}
+use mathlib.Core.Path.{◌≡◌, sym, ap, ap₂, ◌∙◌}
 use mathlib.Core.List.{List, ◌++◌}
 use Prim.Native.Nat.{ℕ, ◌/◌, ◌%◌}
 use Rattle.text.specs.Decimal.{decimal}
 use Rattle.text.proofs.Decimal.{decimal-split, decimal-mod}
-use borrow.Author.Rules.{rules}
 use Rattle.values.proofs.writing.nine_digits.Goals as goal
 
 -- the last four digits are those of what is left below ten thousand

@@ -1,7 +1,7 @@
 -- `values::writing::put_counter` meets its contract: each family's places are those of its digits and decimals. Assumes nothing.
 use mathlib.Core.Path.{◌≡◌, ap, ◌∙◌}
 use mathlib.Core.List.{List}
-use Prim.Native.Nat.{ℕ, ◌+◌, ◌-◌, ◌/◌, ◌%◌, ◌^◌, ◌≤◌}
+use Prim.Native.Nat.{ℕ, ◌+◌, ◌-◌, ◌≤◌}
 use native.Mathlib.Omega.{arith}
 use borrow.Author.Tests.{eq-eqb, ne_eqb}
 use lib.ListN.{length}
@@ -12,7 +12,6 @@ use Rattle.text.proofs.Decimal.{length-decimal}
 use Rattle.values.specs.Family.{counter_digits, counter_decimals}
 use Rattle.values.specs.Texts.{pointed, counter_text, energy_text}
 use Rattle.values.proofs.Families.{before-point, after-point}
-use borrow.Author.Rules.{rules}
 use Rattle.values.proofs.writing.put_counter.Goals as goal
 
 -- so many of a number's nine digits, so many of them behind the point

@@ -2,7 +2,6 @@
 use Rattle.values.specs.Texts.{date_text}
 use Rattle.text.specs.Layout.{layout_text}
 use Rattle.text.specs.Decimal.{decimal}
-use borrow.Author.Rules.{rules}
 use Rattle.values.proofs.writing.put_date.Goals as goal
 
 pub returns : goal.returns

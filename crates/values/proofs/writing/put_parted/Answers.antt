@@ -8,7 +8,6 @@ use lib.ListN.{length, take, drop, length-append, length-drop}
 use lib.Seq.{take_all, length-take-le}
 use Rattle.text.specs.Writing.{stored}
 use Rattle.text.proofs.Writing.{and_then}
-use borrow.Author.Rules.{rules}
 use Rattle.values.proofs.writing.put_parted.Goals as goal
 
 -- three digits, the character and the other seven, put in one after the other

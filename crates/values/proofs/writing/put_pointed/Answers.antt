@@ -8,7 +8,6 @@ use lib.Seq.{length-take-le}
 use Rattle.text.specs.Writing.{stored}
 use Rattle.text.proofs.Writing.{and_then}
 use Rattle.values.specs.Texts.{pointed}
-use borrow.Author.Rules.{rules}
 use Rattle.values.proofs.writing.put_pointed.Goals as goal
 
 -- what is before the point, the point, what is after it and the unit, one after the other

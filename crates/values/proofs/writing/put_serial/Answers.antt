@@ -1,6 +1,5 @@
 -- `values::writing::put_serial` meets its contract: the serial, parted by its character. Assumes nothing.
 use Rattle.values.specs.Texts.{serial_text}
-use borrow.Author.Rules.{rules}
 use Rattle.values.proofs.writing.put_serial.Goals as goal
 
 pub returns : goal.returns

@@ -4,7 +4,6 @@ use Rattle.text.specs.Layout.{layout_text}
 use Rattle.text.specs.Decimal.{decimal}
 use native.Mathlib.Omega.{arith}
 use Rattle.text.proofs.Writing.{and_then}
-use borrow.Author.Rules.{rules}
 use Rattle.values.proofs.writing.put_stamp.Goals as goal
 
 pub returns : goal.returns

@@ -2,7 +2,6 @@
 use Rattle.values.specs.Texts.{time_text}
 use Rattle.text.specs.Layout.{layout_text}
 use Rattle.text.specs.Decimal.{decimal}
-use borrow.Author.Rules.{rules}
 use Rattle.values.proofs.writing.put_time.Goals as goal
 
 pub returns : goal.returns

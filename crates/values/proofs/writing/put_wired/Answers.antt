@@ -1,6 +1,5 @@
 -- `values::writing::put_wired` meets its contract: the serial, parted by its character. Assumes nothing.
 use Rattle.values.specs.Texts.{wired_text}
-use borrow.Author.Rules.{rules}
 use Rattle.values.proofs.writing.put_wired.Goals as goal
 
 pub returns : goal.returns
