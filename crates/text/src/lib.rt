@@ -1,10 +1,10 @@
 // Text: characters put into a lent buffer, texts compared, and the form of a line with numbers in it.
 #![tactic(auto)]
 
-ghost use Rattle.std.specs.Prelude.{◌≡◌, ◌+◌, ◌-◌, ◌≤◌, min, length, take, drop, get_or};
+ghost use Rattle.std.specs.Prelude.{◌≡◌, ◌+◌, ◌-◌, ◌≤◌, min, length, take, drop, get_or, ℕ, Bool};
 ghost use Rattle.line.specs.Runs.{every};
 ghost use Rattle.text.specs.Writing.{stored};
-ghost use Rattle.text.specs.Classes.{between, same_text, is_digit};
+ghost use Rattle.text.specs.Classes.{between, matching, same_text, is_digit};
 ghost use Rattle.text.specs.Decimal.{decimal, number_at};
 ghost use Rattle.text.specs.Layout.{agrees, fits};
 
@@ -44,18 +44,29 @@ pub fn at(s: &[u8], i: usize) -> u8
     s.get(i).copied().unwrap_or(0)
 }
 
-// Whether two texts are the same.
-pub fn same(s: &[u8], t: &[u8]) -> bool
-    ensures { result ≡ same_text s.now t.now }
+// Whether two texts are of one length and agree at each place, by a test. Every place is looked at: with no early way out the compiler
+// makes vector code.
+fn agreeing<F: Fn(u8, u8) -> bool>(s: &[u8], t: &[u8], agree: F) -> bool
+    ghost p: { ℕ → ℕ → Bool }
+    requires callable { F.IsAlwaysCallable agree }
+    requires tests { (a b : ℕ) (r : Bool) → F.post agree a b r → r ≡ p a b }
+    ensures { result ≡ matching p s.now t.now }
 {
     if s.len() != t.len() {
         return false;
     }
-    let mut equal = true;
+    let mut all = true;
     for (a, b) in s.iter().zip(t) {
-        equal &= a == b;
+        all &= agree(*a, *b);
     }
-    equal
+    all
+}
+
+// Whether two texts are the same.
+pub fn same(s: &[u8], t: &[u8]) -> bool
+    ensures { result ≡ same_text s.now t.now }
+{
+    agreeing(s, t, |a, b| a == b)
 }
 
 // Whether every character is one of lo to hi.
@@ -87,12 +98,5 @@ pub fn agree(p: u8, c: u8) -> bool
 pub fn has_form(p: &[u8], s: &[u8]) -> bool
     ensures { result ≡ fits p.now s.now }
 {
-    if p.len() != s.len() {
-        return false;
-    }
-    let mut ok = true;
-    for (mark, c) in p.iter().zip(s) {
-        ok &= agree(*mark, *c);
-    }
-    ok
+    agreeing(p, s, agree)
 }

