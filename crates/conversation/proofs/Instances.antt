@@ -17,12 +17,10 @@ use Rattle.state.specs.Sizes.{reply_room}
 use Rattle.state.specs.Making.{blank_meter}
 use Rattle.state.specs.Link.{is_wired}
 use Rattle.promises.proofs.Beginning.{blank-well-formed}
-use Rattle.session.specs.declared.Started.{Started}
-use Rattle.session.specs.declared.Step.{Step}
 use Rattle.session.specs.Messages.{read_of, reads_good}
 use Rattle.session.specs.Standing.{told_good}
-use Rattle.session.specs.Starting.{Told, told_of, reads, opened, opened_reads, Starts}
-use Rattle.session.specs.Turns.{Turn, step_of}
+use Rattle.session.specs.Starting.{Told, Started, told_of, reads, opened, opened_reads, Starts}
+use Rattle.session.specs.Turns.{Turn, Step, step_of}
 use Rattle.commands.specs.Spoken.{good_fields}
 use Rattle.conversation.specs.Ends.{Waits, anyone, plainly, ReadsDone}
 use Rattle.conversation.proofs.Readings.{reads-done}

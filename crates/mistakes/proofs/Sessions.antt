@@ -28,17 +28,15 @@ use Rattle.commands.specs.Spoken.{good_fields, letters_of, data_of, spoken}
 use Rattle.commands.specs.Messages.{text_of, good_message}
 use Rattle.judging.specs.Lines.{is_line, value_in}
 use Rattle.judging.specs.Right.{identifies, asks_password, accepts, refuses, tells_account, tells_counter, tells_energy, tells_export, tells, data_in, answers_in, answers}
-use Rattle.session.specs.declared.Started.{Started}
-use Rattle.session.specs.declared.Step.{Step}
 use Rattle.session.specs.Messages.{calling, entering, read_of, read_at, work_at, reads_good, message_at}
 use Rattle.session.specs.Standing.{told_good, kept_good, work_good, place_good, fact_good, session_told, session_good}
-use Rattle.session.specs.Turns.{right_read, right_work, right_at, answered_right, answered, replied, silent}
-use Rattle.session.specs.Starting.{told_of, started_of, Opening, Opens, unknown, strange, small, nothing, reads, posts, others, session_of, opened, opened_reads, opened_post, Starts}
+use Rattle.session.specs.Turns.{Step, right_read, right_work, right_at, answered_right, answered, replied, silent}
+use Rattle.session.specs.Starting.{Started, told_of, started_of, Opening, Opens, unknown, strange, small, nothing, reads, posts, others, session_of, opened, opened_reads, opened_post, Starts}
 use Rattle.mistakes.specs.RuledOut.{RuledOut}
 use Rattle.mistakes.specs.Commands.{room}
 use Rattle.mistakes.specs.Posts.{one}
-use Rattle.mistakes.specs.Sessions.{total_read, waiting, energy_block, Judging, Sessions, Starting}
-use Rattle.mistakes.proofs.Differing.{seen, flag, long}
+use Rattle.mistakes.specs.Sessions.{total_read, waiting, energy_block, Judging, Refusals, Facts, Sessions, Starting}
+use Rattle.mistakes.proofs.Differing.{seen, number, flag, long}
 use Rattle.mistakes.proofs.Posts.{post-of, good-one}
 
 pub judging : Judging
@@ -54,6 +52,12 @@ judging =
       takes-any-energy = flag refl;
       leaves-the-end-open = flag refl;
     }
+
+pub refusals : Refusals
+refusals = record { number = (number refl, number refl) }
+
+pub facts : Facts
+facts = record { number = (number refl, number refl) }
 
 -- how a session stands, or goes on
 by-fact : {right wrong : Step} → eqb wrong.fact right.fact ≡ false → RuledOut right wrong

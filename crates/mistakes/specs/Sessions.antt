@@ -10,6 +10,9 @@ use Rattle.commands.specs.Spoken.{good_fields}
 use Rattle.commands.specs.Messages.{text_of}
 use Rattle.judging.specs.Right.{identifies, asks_password, accepts, refuses, answers}
 use Rattle.session.specs.declared.Session.{Session}
+use Rattle.session.specs.declared.Refusal.TheVariants.{Short, NoPost}
+use Rattle.session.specs.declared.Fact.TheVariants.{Done, Silent}
+use Rattle.session.specs.Refusals.{number_of, fact_number}
 use Rattle.session.specs.Messages.{entering, read_of}
 use Rattle.session.specs.Turns.{ends, goes_on, step_of, replied, silent}
 use Rattle.session.specs.Starting.{told_of, Starts}
@@ -49,6 +52,16 @@ pub record Judging : Type 0 where
   pub takes-any-energy : RuledOut (answers 0 (char "E") 1 (energy_block (chars "0"))) true
   -- an account that does not end with its bracket
   pub leaves-the-end-open : RuledOut (answers 0 (char "K") 0 (on_wire (block_of (chars "0.0.0(Kiln_7 old]\r\n")))) true
+
+-- of `session::Refusal`
+pub record Refusals : Type 0 where
+  -- 18 for a short buffer; the place for the number
+  pub number : RuledOut (number_of Short) 18 × RuledOut (number_of (NoPost 5)) 5
+
+-- of `session::Fact`
+pub record Facts : Type 0 where
+  -- done as a session that goes on; silence as a wrong reply
+  pub number : RuledOut (fact_number Done) 0 × RuledOut (fact_number Silent) 3
 
 -- of `session`
 pub record Sessions : Type 0 where

@@ -2,20 +2,21 @@
 use mathlib.Core.Path.{◌≡◌, refl, sym, ap, ◌∙◌}
 use mathlib.Core.Bool.{Bool, true, false, cond, ◌&&◌, ◌||◌}
 use mathlib.Core.List.{List}
-use Prim.Native.Nat.{ℕ, ◌+◌, ◌≤◌}
+use Prim.Native.Nat.{ℕ, ◌+◌, ◌≤◌, ◌<◌}
 use native.Mathlib.Omega.{arith}
-use borrow.Author.Tests.{leb-true, le-ltb, eqb-true}
+use borrow.Author.Tests.{leb-true, le-ltb, eqb-true, eq-eqb, ne_eqb}
 use lib.Dec.{eqb, leb}
 use lib.ListN.{length, replicate}
 use Rattle.line.proofs.Runs.{and_left, and_right}
 use Rattle.text.specs.Writing.{holding}
 use Rattle.values.specs.Edition.{tables_of}
 use Rattle.values.specs.Family.{is_eqm}
-use Rattle.values.specs.Registers.{good_serial, good_password, good_zone}
+use Rattle.values.specs.Registers.{good_digits, good_serial, good_zone}
 use Rattle.commands.specs.Spoken.{read_total, read_zone, read_total_out, read_zone_out, good_fields}
 use Rattle.values.proofs.Rules.{digits_long}
 use Rattle.commands.specs.Messages.{call, call_to, good_message}
-use Rattle.std.specs.Prelude.{Result, Ok, Err, IsOk}
+use Rattle.std.specs.Prelude.{Result, Ok, Err, IsOk, Option, Some, None, IfSome, IfNone, unwrap_or}
+use mathlib.Core.Logic.{◌⊎◌, inl, inr}
 use Rattle.commands.specs.declared.Refusal.{Refusal}
 use Rattle.commands.specs.declared.Refusal.TheVariants.{Field, NoEdition, Short}
 use Rattle.commands.specs.Building.{Built, number_of, told, built_in, kept_or, Builds}
@@ -23,6 +24,10 @@ use Rattle.session.proofs.Pairs.{and-all}
 use Rattle.session.specs.declared.Session.{Session}
 use Rattle.session.specs.Messages.{calling, read_of}
 use Rattle.session.specs.Starting.{Told, session_of}
+use Rattle.session.specs.declared.Fact.{Fact}
+use Rattle.session.specs.declared.Fact.TheVariants.{Done, Nak, Wrong, Silent}
+use Rattle.session.specs.Refusals.{fact_number}
+use Rattle.session.specs.Turns.{ends}
 use Rattle.session.specs.Standing.{told_good, work_good, place_good, fact_good, session_told, session_good}
 
 module _ (s : Session) (good : session_good s ≡ true) where
@@ -44,6 +49,33 @@ module _ (s : Session) (good : session_good s ≡ true) where
   pub sent-least : 1 ≤ s.sent
   unfolding place_good
   sent-least = leb-true 1 s.sent (and_left (leb 1 s.sent) _ (and_right (leb 1 s.count && leb s.count 32) _ placed))
+
+  stood : fact_good s.count s.sent s.fact ≡ true
+  unfolding session_good
+  stood =
+      let told = session_told s && work_good (tables_of s.edition) s.work s.access s.count in
+      and_right (place_good s.count s.sent) _ (and_right told (place_good s.count s.sent && fact_good s.count s.sent s.fact) good)
+
+  pub fact-most : s.fact ≤ 4
+  unfolding fact_good
+  fact-most = leb-true s.fact 4 (and_left (leb s.fact 4) _ stood)
+
+-- no end has the number of a session that goes on
+pub some-end : (f : Fact) (n : ℕ) → fact_number f ≡ n → n ≡ 0 → ⊥
+some-end Done n e z = omega arith
+some-end Nak n e z = omega arith
+some-end Wrong n e z = omega arith
+some-end Silent n e z = omega arith
+
+pub no-end : (n : ℕ) → (n ≡ 0) ⊎ (4 < n) → n ≤ 4 → n ≡ 0
+no-end n (inl z) h = z
+no-end n (inr k) h = absurd (omega arith)
+
+-- an ended session says the same again, and silence ends another one
+pub ends-again : (s : Session) (o : Option Fact) → IfSome o (λ f. fact_number f ≡ s.fact) → IfNone o ((s.fact ≡ 0) ⊎ (4 < s.fact)) → s.fact ≤ 4
+    → ends s (fact_number (unwrap_or o Silent)) ≡ cond (eqb s.fact 0) (ends s 4) (ends s s.fact)
+ends-again s (Some f) e none h = rw (ne_eqb s.fact 0 (some-end f s.fact e), e)
+ends-again s None e none h = rw (eq-eqb s.fact 0 (no-end s.fact none h))
 
 -- a builder with room: 1 just where the fields are good, and then the command stands at the front
 module _ (buf command after : List ℕ) (good : Bool) (r : Built) (b : Builds buf good command r after) (room : 64 ≤ length buf) where
@@ -152,11 +184,8 @@ pub told_is : (flag : ℕ) (g : Bool) → told_good flag g ≡ true → flag ≡
 unfolding told_good
 told_is flag g h e = rw e at h
 
-pub serial-long : (flag : ℕ) (s : List ℕ) → told_good flag (good_serial s) ≡ true → flag ≡ 1 → length s ≡ 10
-serial-long flag s h e = digits_long 10 s (told_is flag (good_serial s) h e)
-
-pub password-long : (flag : ℕ) (s : List ℕ) → told_good flag (good_password s) ≡ true → flag ≡ 1 → length s ≡ 8
-password-long flag s h e = digits_long 8 s (told_is flag (good_password s) h e)
+pub digits-told : (n flag : ℕ) (s : List ℕ) → told_good flag (good_digits n s) ≡ true → flag ≡ 1 → length s ≡ n
+digits-told n flag s h e = digits_long n s (told_is flag (good_digits n s) h e)
 
 call_by : (tables family : ℕ) (k : Bool) (flag : ℕ) (serial other : List ℕ) → eqb flag 1 ≡ k → told_good flag (good_serial serial) ≡ true
     → good_message tables family (cond k (call_to (cond k serial other)) call) ≡ true

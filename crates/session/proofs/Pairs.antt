@@ -1,22 +1,14 @@
 -- A list of reads, two characters at a time. Assumes nothing.
-use mathlib.Core.Path.{◌≡◌, refl, sym, ap, ◌∙◌}
+use mathlib.Core.Path.{◌≡◌, refl, ap, ◌∙◌}
 use mathlib.Core.Bool.{Bool, true, false, ◌&&◌}
 use mathlib.Core.List.{List, [], ◌∷◌}
-use Prim.Native.Nat.{ℕ, suc, ◌+◌, ◌≤◌, ◌<◌}
+use Prim.Native.Nat.{ℕ, suc, ◌-◌, ◌≤◌, ◌<◌}
 use native.Mathlib.Omega.{arith}
-use lib.ListN.{length, get_or, drop, drop_of_length-le}
-use lib.Seq.{drop-cons}
+use lib.Dec.{eqb}
+use lib.ListN.{length, get_or, take, drop}
+use lib.Seq.{take_all}
 use Rattle.commands.specs.Spoken.{good_fields}
 use Rattle.session.specs.Messages.{read_of, reads_good}
-
-two-more : (work : List ℕ) (i : ℕ) → i + 2 ≤ length work → drop i work ≡ get_or work i 0 ∷ get_or work (i + 1) 0 ∷ drop (i + 2) work
-two-more work i h =
-    drop-cons work i 0 (omega arith)
-    ∙ ap (λ (l : List ℕ). get_or work i 0 ∷ l) (ap (λ (k : ℕ). drop k work) {x = suc i} {y = i + 1} (omega arith) ∙ drop-cons work (i + 1) 0 (omega arith)
-    ∙ ap (λ (k : ℕ). get_or work (i + 1) 0 ∷ drop k work) {x = suc (i + 1)} {y = i + 2} (omega arith))
-
-one_more : (work : List ℕ) (i : ℕ) → i < length work → length work < i + 2 → drop i work ≡ get_or work i 0 ∷ []
-one_more work i h k = drop-cons work i 0 h ∙ ap (λ (l : List ℕ). get_or work i 0 ∷ l) (drop_of_length-le work {i = suc i} (omega arith))
 
 and_assoc : (a b c : Bool) → ((a && b) && c) ≡ (a && (b && c))
 and_assoc true b c = refl
@@ -30,18 +22,19 @@ pub and-all : (a : Bool) → (a && true) ≡ a
 and-all true = refl
 and-all false = refl
 
-module _ (tables family : ℕ) (work : List ℕ) (i : ℕ) (good whole : Bool) (so : (good && reads_good tables family (drop i work)) ≡ whole) where
-  pub reads-turn : i + 2 ≤ length work
-      → ((good && good_fields tables family (read_of (get_or work i 0) (get_or work (i + 1) 0))) && reads_good tables family (drop (i + 2) work)) ≡ whole
+-- what was looked at and what is left decide: two more, and the end
+module _ (tables family : ℕ) (good whole : Bool) where
+  pub reads-turn : (rest : List ℕ) → 2 ≤ length rest → (good && reads_good tables family rest) ≡ whole
+      → ((good && good_fields tables family (read_of (get_or rest 0 0) (get_or rest 1 0))) && reads_good tables family (take (length rest - 2) (drop 2 rest))) ≡ whole
   unfolding reads_good
-  reads-turn h =
-      and_assoc good (good_fields tables family (read_of (get_or work i 0) (get_or work (i + 1) 0))) (reads_good tables family (drop (i + 2) work))
-      ∙ ap (λ (l : List ℕ). good && reads_good tables family l) (sym (two-more work i h)) ∙ so
+  reads-turn [] h so = absurd (omega arith)
+  reads-turn (x ∷ []) h so = absurd (omega arith)
+  reads-turn (letter ∷ n ∷ more) h so =
+      ap (λ (l : List ℕ). (good && good_fields tables family (read_of letter n)) && reads_good tables family l) (take_all (suc (suc (length more)) - 2) more (omega arith))
+      ∙ and_assoc good (good_fields tables family (read_of letter n)) (reads_good tables family more) ∙ so
 
-  pub reads-odd : i < length work → length work < i + 2 → false ≡ whole
+  pub reads_end : (rest : List ℕ) → length rest < 2 → (good && reads_good tables family rest) ≡ whole → (good && eqb (length rest) 0) ≡ whole
   unfolding reads_good
-  reads-odd h k = sym (and-nothing good) ∙ ap (λ (l : List ℕ). good && reads_good tables family l) (sym (one_more work i h k)) ∙ so
-
-  pub reads_end : length work ≤ i → good ≡ whole
-  unfolding reads_good
-  reads_end h = sym (and-all good) ∙ ap (λ (l : List ℕ). good && reads_good tables family l) (sym (drop_of_length-le work h)) ∙ so
+  reads_end [] h so = so
+  reads_end (x ∷ []) h so = so
+  reads_end (x ∷ y ∷ more) h so = absurd (omega arith)

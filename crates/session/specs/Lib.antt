@@ -2,3 +2,4 @@ pub mod Messages
 pub mod Standing
 pub mod Turns
 pub mod Starting
+pub mod Refusals

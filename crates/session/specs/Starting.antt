@@ -1,5 +1,5 @@
 -- Request [7]: what a session is told, and how it starts. 16, 18, 28, 29, 20, 30 and 9 in this order, before anything is sent.
-use Rattle.std.specs.Prelude.{◌≡◌, Bool, true, false, cond, ◌&&◌, List, [], ℕ, ◌/◌, ◌≤◌, ◌<◌, eqb, ltb, length, replicate}
+use Rattle.std.specs.Prelude.{◌≡◌, Bool, true, false, cond, ◌&&◌, List, [], ℕ, Result, Ok, Err, ◌/◌, ◌≤◌, ◌<◌, eqb, ltb, length, replicate}
 use Rattle.text.specs.Writing.{holding}
 use Rattle.values.specs.Edition.{is_edition, tables_of}
 use Rattle.values.specs.Family.{is_family}
@@ -9,7 +9,9 @@ use Rattle.commands.specs.Messages.{text_of}
 use Rattle.post.specs.Grammar.{IsPost}
 use Rattle.text.specs.Beginnings.{Longest}
 use Rattle.session.specs.declared.Session.{Session}
-use Rattle.session.specs.declared.Started.{Started}
+use Rattle.session.specs.declared.Begun.{Begun}
+use Rattle.session.specs.declared.Refusal.{Refusal}
+use Rattle.session.specs.Refusals.{number_of, place_of}
 use Rattle.session.specs.Messages.{calling, reads_good}
 use Rattle.session.specs.Standing.{told_good}
 
@@ -34,13 +36,24 @@ pub record Opening : Type 0 where
   pub session : Session
   pub text : List ℕ
 
--- as the call gives it
+-- a start in numbers: 1 with the session and the length of its sign-on, or the number of a refusal, a place and no session
+pub record Started : Type 0 where
+  pub number : ℕ
+  pub place : ℕ
+  pub length : ℕ
+  pub session : Session
+
 abbrev pub started_of : Opening → Started
 started_of o = record { number = o.number; place = o.place; length = length o.text; session = o.session }
 
 -- no session
 abbrev pub no_session : Session
 no_session = record { serial = replicate 10 0; password = replicate 8 0; named = 0; access = 0; work = 0; count = 0; sent = 0; fact = 0; edition = 0; decimals = 0 }
+
+-- as the call gives it
+abbrev pub start_told : Result Begun Refusal → Started
+start_told (Ok b) = record { number = 1; place = 0; length = b.length; session = b.session }
+start_told (Err e) = record { number = number_of e; place = place_of e; length = 0; session = no_session }
 
 abbrev pub unopened : ℕ → ℕ → Opening
 unopened number place = record { number = number; place = place; session = no_session; text = [] }

@@ -1,11 +1,14 @@
 -- Request [7]: what the head makes of a reply, and of silence.
-use Rattle.std.specs.Prelude.{Bool, cond, ◌&&◌, List, [], ℕ, ◌+◌, ◌-◌, ◌*◌, eqb, leb, ltb, length, get_or}
+use Rattle.std.specs.Prelude.{Bool, cond, ◌&&◌, List, [], ℕ, Result, Ok, Err, ◌+◌, ◌-◌, ◌*◌, eqb, leb, ltb, length, get_or}
 use Rattle.values.specs.Edition.{tables_of}
 use Rattle.commands.specs.Spoken.{good_fields}
 use Rattle.commands.specs.Messages.{text_of, good_message}
 use Rattle.judging.specs.Right.{identifies, asks_password, accepts, refuses, answers}
 use Rattle.session.specs.declared.Session.{Session}
-use Rattle.session.specs.declared.Step.{Step}
+use Rattle.session.specs.declared.Outcome.{Outcome}
+use Rattle.session.specs.declared.Outcome.TheVariants.{Says, Ends}
+use Rattle.session.specs.declared.Refusal.{Refusal}
+use Rattle.session.specs.Refusals.{number_of, fact_number}
 use Rattle.session.specs.Messages.{read_of, message_at, messages}
 use Rattle.session.specs.Standing.{session_good}
 
@@ -17,7 +20,20 @@ pub record Turn : Type 0 where
   pub text : List ℕ
   pub next : Session
 
--- as the call gives it, with the next message's length
+-- a turn in numbers: the fact is 0 for the next message, of that number and length, and else that of an end at that message
+pub record Step : Type 0 where
+  pub number : ℕ
+  pub fact : ℕ
+  pub message : ℕ
+  pub length : ℕ
+  pub next : Session
+
+-- as the call gives it; a refusal changes nothing
+abbrev pub step_told : Session → Result Outcome Refusal → Step
+step_told s (Ok (Says message length next)) = record { number = 1; fact = 0; message = message; length = length; next = next }
+step_told s (Ok (Ends fact message next)) = record { number = 1; fact = fact_number fact; message = message; length = 0; next = next }
+step_told s (Err e) = record { number = number_of e; fact = 0; message = 0; length = 0; next = s }
+
 abbrev pub step_of : Turn → Step
 step_of t = record { number = t.number; fact = t.fact; message = t.message; length = length t.text; next = t.next }
 

@@ -1,5 +1,5 @@
 // The messages of a session, built one by one.
-ghost use Rattle.std.specs.Prelude.{◌≡◌, true, ◌-◌, ◌≤◌};
+ghost use Rattle.std.specs.Prelude.{◌≡◌, true, ◌≤◌};
 ghost use Rattle.values.specs.Edition.{tables_of};
 ghost use Rattle.frames.specs.Frames.{on_wire};
 ghost use Rattle.commands.specs.Spoken.{good_fields, spoken};
@@ -27,8 +27,7 @@ pub fn call(s: Session, buf: &mut [u8]) -> Result<usize, Refusal>
     ensures { Builds buf.old (good_message (tables_of s.edition) s.decimals (calling s)) (on_wire (text_of (calling s))) (told result) buf.new }
 {
     if s.named == 1 {
-        let serial = s.serial;
-        return commands::sign_on_to(buf, &serial);
+        return commands::sign_on_to(buf, &s.serial);
     }
     commands::sign_on(buf)
 }
@@ -38,8 +37,7 @@ fn enter(s: Session, buf: &mut [u8]) -> Result<usize, Refusal>
     ensures { Builds buf.old (good_message (tables_of s.edition) s.decimals (entering s)) (on_wire (text_of (entering s))) (told result) buf.new }
 {
     if s.access == 1 {
-        let password = s.password;
-        return commands::password(buf, &password);
+        return commands::password(buf, &s.password);
     }
     commands::enter(buf)
 }
@@ -58,38 +56,26 @@ fn read_energy(tables: u8, family: u8, n: u8, buf: &mut [u8]) -> Result<usize, R
 fn read_export(tables: u8, family: u8, n: u8, buf: &mut [u8]) -> Result<usize, Refusal>
     ensures { Builds buf.old (good_fields tables family (read_of 71 n)) (on_wire (spoken (read_of 71 n))) (told result) buf.new }
 {
-    if family == 0 {
-        return commands::read_zone_out(buf, ZoneNo(0));
+    match (family, n) {
+        (0, _) => commands::read_zone_out(buf, ZoneNo(0)),
+        (_, 0) => commands::read_total_out(buf),
+        _ => commands::read_zone_out(buf, ZoneNo(n)),
     }
-    if n == 0 {
-        return commands::read_total_out(buf);
-    }
-    commands::read_zone_out(buf, ZoneNo(n))
 }
 
 // A read of a letter and its number.
 fn read(tables: u8, family: u8, letter: u8, n: u8, buf: &mut [u8]) -> Result<usize, Refusal>
     ensures { Builds buf.old (good_fields tables family (read_of letter n)) (on_wire (spoken (read_of letter n))) (told result) buf.new }
 {
-    if letter == b'T' {
-        return commands::read_clock(buf);
+    match letter {
+        b'T' => commands::read_clock(buf),
+        b'L' => commands::read_serial(buf),
+        b'K' => commands::read_account(buf),
+        b'E' => read_energy(tables, family, n, buf),
+        b'G' => read_export(tables, family, n, buf),
+        b'Z' => commands::read_table_of(buf, tables, TableNo(n)),
+        _ => commands::read_table_of(buf, tables, TableNo(0)),
     }
-    if letter == b'L' {
-        return commands::read_serial(buf);
-    }
-    if letter == b'K' {
-        return commands::read_account(buf);
-    }
-    if letter == b'E' {
-        return read_energy(tables, family, n, buf);
-    }
-    if letter == b'G' {
-        return read_export(tables, family, n, buf);
-    }
-    if letter == b'Z' {
-        return commands::read_table_of(buf, tables, TableNo(n));
-    }
-    commands::read_table_of(buf, tables, TableNo(0))
 }
 
 // Whether a line has all that a post's line has beside its number and its row.
@@ -145,24 +131,11 @@ pub fn build(s: Session, work: &[u8], n: u8, buf: &mut [u8]) -> Result<usize, Re
     requires { s.count ≤ 32 }
     ensures { Builds buf.old (good_message (tables_of s.edition) s.decimals (message_at s work.now n)) (on_wire (text_of (message_at s work.now n))) (told result) buf.new }
 {
-    if n == 1 {
-        return call(s, buf);
+    match n {
+        1 => call(s, buf),
+        2 => commands::confirm(buf, b'5', b'1'),
+        3 => enter(s, buf),
+        _ if n <= s.count + 3 => work_at(s, work, n.saturating_sub(4), buf),
+        _ => commands::sign_off(buf),
     }
-    if n == 2 {
-        return commands::confirm(buf, b'5', b'1');
-    }
-    if n == 3 {
-        return enter(s, buf);
-    }
-    if n <= s.count + 3 {
-        return work_at(s, work, less_four(n), buf);
-    }
-    commands::sign_off(buf)
-}
-
-// The number of a message within the work, from 0.
-pub fn less_four(n: u8) -> u8
-    ensures { result ≡ n - 4 }
-{
-    if n < 4 { 0 } else { n - 4 }
 }

@@ -43,11 +43,10 @@ fn fact_good(count: u8, sent: u8, fact: u8) -> bool
 fn is_told(s: Session) -> bool
     ensures { result ≡ session_told s }
 {
-    let serial = s.serial;
-    let password = s.password;
-    let named = told_good(s.named, values::is_digits(&serial, 10)) & kept_good(s.named, &serial);
-    let access = told_good(s.access, values::is_digits(&password, 8))
-        & kept_good(s.access, &password);
+    let named = told_good(s.named, values::is_digits(&s.serial, 10))
+        & kept_good(s.named, &s.serial);
+    let access = told_good(s.access, values::is_digits(&s.password, 8))
+        & kept_good(s.access, &s.password);
     let meter = values::is_edition(s.edition) & values::family::is_family(s.decimals);
     meter & (named & access)
 }

@@ -1,45 +1,28 @@
 // What the head makes of a reply.
-ghost use Rattle.std.specs.Prelude.{◌≡◌, true, ◌≤◌, length};
+ghost use Rattle.std.specs.Prelude.{◌≡◌, true, Ok, ◌≤◌, length};
 ghost use Rattle.text.specs.Writing.{holding};
 ghost use Rattle.frames.specs.Frames.{on_wire};
 ghost use Rattle.session.specs.Standing.{session_good};
-ghost use Rattle.session.specs.Turns.{Turn, step_of, standing, unturned, ends, right_read, right_work, right_at, answered_right, answered};
+ghost use Rattle.session.specs.Refusals.{fact_number};
+ghost use Rattle.session.specs.Turns.{step_told, step_of, standing, ends, right_read, right_work, right_at, answered_right, answered};
 
-use crate::{Session, Step, messages, starting};
+use crate::{Fact, Outcome, Refusal, Session, messages, starting};
 
 // The session with another message sent, or with a fact that ends it.
 fn stand(s: Session, sent: u8, fact: u8) -> Session
     ensures { result ≡ standing s sent fact }
 {
-    let mut next = s;
-    next.sent = sent;
-    next.fact = fact;
-    next
-}
-
-// Nothing changed.
-pub fn refuse(number: u8, s: Session) -> Step
-    ensures { result ≡ step_of (unturned number s) }
-{
-    Step {
-        number,
-        fact: 0,
-        message: 0,
-        length: 0,
-        next: s,
-    }
+    Session { sent, fact, ..s }
 }
 
 // The session ends with a fact.
-pub fn end(s: Session, fact: u8) -> Step
-    ensures { result ≡ step_of (ends s fact) }
+pub fn end(s: Session, fact: Fact) -> Outcome
+    ensures { step_told s (Ok result) ≡ step_of (ends s (fact_number fact)) }
 {
-    Step {
-        number: 1,
+    Outcome::Ends {
         fact,
         message: s.sent,
-        length: 0,
-        next: stand(s, s.sent, fact),
+        next: stand(s, s.sent, fact.number()),
     }
 }
 
@@ -73,54 +56,46 @@ fn is_right(s: Session, work: &[u8], n: u8, reply: &[u8]) -> bool
     requires { s.count ≤ 32 }
     ensures { result ≡ right_at s work.now n reply.now }
 {
-    if n == 1 {
-        return judging::is_identification(s.edition, reply);
+    match n {
+        1 => judging::is_identification(s.edition, reply),
+        2 => judging::is_password_ask(reply),
+        3 => judging::is_ack(reply),
+        _ if n <= s.count + 3 => is_right_work(s, work, n.saturating_sub(4), reply),
+        _ => judging::is_ack(reply),
     }
-    if n == 2 {
-        return judging::is_password_ask(reply);
-    }
-    if n == 3 {
-        return judging::is_ack(reply);
-    }
-    if n <= s.count + 3 {
-        return is_right_work(s, work, messages::less_four(n), reply);
-    }
-    judging::is_ack(reply)
 }
 
 // The reply was right: the next message, or the end.
-fn go_on(s: Session, work: &[u8], buf: &mut [u8]) -> Step
+fn go_on(s: Session, work: &[u8], buf: &mut [u8]) -> Result<Outcome, Refusal>
     requires { (session_good s ≡ true) × (64 ≤ length buf.old) }
-    ensures result { result ≡ step_of (answered_right s work.now) }
+    ensures result { step_told s result ≡ step_of (answered_right s work.now) }
     ensures held { buf.new ≡ holding buf.old (on_wire (answered_right s work.now).text) }
 {
     if s.count + 4 <= s.sent {
-        return end(s, 1);
+        return Ok(end(s, Fact::Done));
     }
     let n = s.sent + 1;
     let Ok(length) = messages::build(s, work, n, buf) else {
-        return refuse(crate::NO_SESSION, s);
+        return Err(Refusal::NoSession);
     };
-    Step {
-        number: 1,
-        fact: 0,
+    Ok(Outcome::Says {
         message: n,
         length,
         next: stand(s, n, 0),
-    }
+    })
 }
 
 // A reply to a session that goes on.
-pub fn answer(s: Session, work: &[u8], reply: &[u8], buf: &mut [u8]) -> Step
+pub fn answer(s: Session, work: &[u8], reply: &[u8], buf: &mut [u8]) -> Result<Outcome, Refusal>
     requires { (session_good s ≡ true) × (64 ≤ length buf.old) }
-    ensures result { result ≡ step_of (answered s work.now reply.now) }
+    ensures result { step_told s result ≡ step_of (answered s work.now reply.now) }
     ensures held { buf.new ≡ holding buf.old (on_wire (answered s work.now reply.now).text) }
 {
     if judging::is_nak(reply) {
-        return end(s, 2);
+        return Ok(end(s, Fact::Nak));
     }
     if is_right(s, work, s.sent, reply) {
         return go_on(s, work, buf);
     }
-    end(s, 3)
+    Ok(end(s, Fact::Wrong))
 }

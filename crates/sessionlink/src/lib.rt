@@ -6,89 +6,67 @@ ghost use Rattle.std.specs.Prelude.{◌≡◌, length};
 ghost use Rattle.text.specs.Writing.{holding};
 ghost use Rattle.frames.specs.Frames.{on_wire};
 ghost use Rattle.session.specs.Starting.{told_of, Starts};
-ghost use Rattle.session.specs.Turns.{step_of, replied, silent};
+ghost use Rattle.session.specs.Refusals.{place_of};
+ghost use Rattle.session.specs.Turns.{step_told, step_of, replied, silent};
 
-use session::Session;
+use session::{Outcome, Refusal, Session};
 
-// What is left of an answer once its numbers are handed out.
-#[derive(Clone, Copy)]
-pub struct Left {
-    pub number: u8,
-    pub next: Session,
-}
+// The answer of a start, a reply or silence that is taken.
+const DONE: u8 = 1;
 
-fn next_of(a: Left) -> Session
-    ensures { result ≡ a.next }
+// The place of a text that is no post, 0 of another refusal.
+fn place_of(refusal: Refusal) -> usize
+    ensures { result ≡ place_of refusal }
 {
-    a.next
-}
-
-fn number_of(a: Left) -> u8
-    ensures { result ≡ a.number }
-{
-    a.number
-}
-
-fn start(
-    edition: u8,
-    decimals: u8,
-    named: u8,
-    serial: &[u8],
-    access: u8,
-    password: &[u8],
-    kind: u8,
-    work: &[u8],
-    out: &mut [u8],
-    size: &mut usize,
-    place: &mut usize,
-) -> Left
-    ensures { Starts (told_of edition decimals named serial.now access password.now kind) work.now out.old (record { number = result.number; place = place.new; length = size.new; session = result.next }) out.new }
-{
-    let a = session::starting::start(
-        edition, decimals, named, serial, access, password, kind, work, out,
-    );
-    *size = a.length;
-    *place = a.place;
-    let next = a.session;
-    Left {
-        number: a.number,
-        next,
+    match refusal {
+        Refusal::NoPost(place) => place,
+        _ => 0,
     }
 }
 
-fn hear(
-    s: Session,
-    work: &[u8],
-    reply: &[u8],
-    out: &mut [u8],
+// What a reply or silence comes to, handed out: its numbers, and the session after it in the record, which a refusal leaves as it is.
+fn hand_out(
+    step: Result<Outcome, Refusal>,
+    session: &mut Session,
     fact: &mut u8,
     message: &mut u8,
     size: &mut usize,
-) -> Left
-    ensures result { record { number = result.number; fact = fact.new; message = message.new; length = size.new; next = result.next } ≡ step_of (replied s work.now reply.now (length out.old)) }
-    ensures held { out.new ≡ holding out.old (on_wire (replied s work.now reply.now (length out.old)).text) }
+) -> u8
+    ensures { record { number = result; fact = fact.new; message = message.new; length = size.new; next = session.new } ≡ step_told session.old step }
 {
-    let a = session::hear(s, work, reply, out);
-    *fact = a.fact;
-    *message = a.message;
-    *size = a.length;
-    let next = a.next;
-    Left {
-        number: a.number,
-        next,
-    }
-}
-
-fn hear_nothing(s: Session, fact: &mut u8, message: &mut u8) -> Left
-    ensures { record { number = result.number; fact = fact.new; message = message.new; length = 0; next = result.next } ≡ step_of (silent s) }
-{
-    let a = session::hear_nothing(s);
-    *fact = a.fact;
-    *message = a.message;
-    let next = a.next;
-    Left {
-        number: a.number,
-        next,
+    match step {
+        Ok(
+            Outcome::Says {
+                message: number,
+                length,
+                next,
+            },
+        ) => {
+            *fact = 0;
+            *message = number;
+            *size = length;
+            *session = next;
+            DONE
+        }
+        Ok(
+            Outcome::Ends {
+                fact: end,
+                message: number,
+                next,
+            },
+        ) => {
+            *fact = end.number();
+            *message = number;
+            *size = 0;
+            *session = next;
+            DONE
+        }
+        Err(refusal) => {
+            *fact = 0;
+            *message = 0;
+            *size = 0;
+            refusal.number()
+        }
     }
 }
 
@@ -110,11 +88,22 @@ pub extern "C" fn dirgemist_session_start(
 ) -> u8
     ensures { Starts (told_of edition decimals named serial.now access password.now kind) work.now out.old (record { number = result; place = place.new; length = size.new; session = session.new }) out.new }
 {
-    let a = start(
-        edition, decimals, named, serial, access, password, kind, work, out, size, place,
-    );
-    *session = next_of(a);
-    number_of(a)
+    match session::starting::start(
+        edition, decimals, named, serial, access, password, kind, work, out,
+    ) {
+        Ok(begun) => {
+            *session = begun.session;
+            *size = begun.length;
+            *place = 0;
+            DONE
+        }
+        Err(refusal) => {
+            *session = Session::NONE;
+            *size = 0;
+            *place = place_of(refusal);
+            refusal.number()
+        }
+    }
 }
 
 // A reply, whole, as the bytes of the line.
@@ -131,9 +120,8 @@ pub extern "C" fn dirgemist_session_reply(
     ensures { (record { number = result; fact = fact.new; message = message.new; length = size.new; next = session.new } ≡ step_of (replied session.old work.now reply.now (length out.old)))
         × (out.new ≡ holding out.old (on_wire (replied session.old work.now reply.now (length out.old)).text)) }
 {
-    let a = hear(*session, work, reply, out, fact, message, size);
-    *session = next_of(a);
-    number_of(a)
+    let step = session::hear(*session, work, reply, out);
+    hand_out(step, session, fact, message, size)
 }
 
 // No reply came.
@@ -145,7 +133,12 @@ pub extern "C" fn dirgemist_session_silence(
 ) -> u8
     ensures { record { number = result; fact = fact.new; message = message.new; length = 0; next = session.new } ≡ step_of (silent session.old) }
 {
-    let a = hear_nothing(*session, fact, message);
-    *session = next_of(a);
-    number_of(a)
+    let mut none = 0;
+    hand_out(
+        session::hear_nothing(*session),
+        session,
+        fact,
+        message,
+        &mut none,
+    )
 }

@@ -1,25 +1,29 @@
 -- `session::messages::build` meets its contract: each way out is the case of the definition that its tests name. Assumes nothing.
-use borrow.Author.Tests.{eq-eqb, ne_eqb, le-leb, lt-leb}
+use mathlib.Core.Path.{◌≡◌}
+use native.Mathlib.Omega.{arith}
+use borrow.Author.Tests.{le-leb, lt-leb, ne_eqb}
 use Rattle.session.specs.Messages.{message_at}
 use Rattle.commands.specs.Messages.{text_of, good_message}
 use Rattle.session.proofs.messages.build.Goals as goal
 
-pub returns-then-n-eq1 : goal.returns-then-n-eq1
+pub returns-in-1 : goal.returns-in-1
 unfolding message_at
-returns-then-n-eq1 c = rw (eq-eqb _ _ c.if-n-eq1.true) c.call.ensures
+returns-in-1 c = rw c.in-1.is c.call.ensures
 
-pub returns-then-n-eq2 : goal.returns-then-n-eq2
+pub returns-in-2 : goal.returns-in-2
 unfolding message_at text_of good_message
-returns-then-n-eq2 c = rw (ne_eqb _ _ c.if-n-eq1.false, eq-eqb _ _ c.if-n-eq2.true) c.confirm.ensures
+returns-in-2 c = rw c.in-2.is c.confirm.ensures
 
-pub returns-then-n-eq3 : goal.returns-then-n-eq3
+pub returns-in-3 : goal.returns-in-3
 unfolding message_at
-returns-then-n-eq3 c = rw (ne_eqb _ _ c.if-n-eq1.false, ne_eqb _ _ c.if-n-eq2.false, eq-eqb _ _ c.if-n-eq3.true) c.enter.ensures
+returns-in-3 c = rw c.in-3.is c.enter.ensures
 
-pub returns-then-n-s : goal.returns-then-n-s
+pub returns-in_default : goal.returns-in_default
 unfolding message_at text_of good_message
-returns-then-n-s c = rw (ne_eqb _ _ c.if-n-eq1.false, ne_eqb _ _ c.if-n-eq2.false, ne_eqb _ _ c.if-n-eq3.false, le-leb _ _ c.if-n-s.true, ← c.less_four.ensures) c.work_at.ensures
+returns-in_default c =
+    rw (ne_eqb c.args.n 1 (λ (e : c.args.n ≡ 1). omega (arith, e)), ne_eqb c.args.n 2 (λ (e : c.args.n ≡ 2). omega (arith, e)), ne_eqb c.args.n 3 (λ (e : c.args.n ≡ 3). omega (arith, e)), le-leb _ _ c.if-n-s.true, ← c.saturating_sub.ensures) c.work_at.ensures
 
-pub returns : goal.returns
+pub returns-in_default-2 : goal.returns-in_default-2
 unfolding message_at text_of good_message
-returns c = rw (ne_eqb _ _ c.if-n-eq1.false, ne_eqb _ _ c.if-n-eq2.false, ne_eqb _ _ c.if-n-eq3.false, lt-leb _ _ c.if-n-s.false) c.sign_off.ensures
+returns-in_default-2 c =
+    rw (ne_eqb c.args.n 1 (λ (e : c.args.n ≡ 1). omega (arith, e)), ne_eqb c.args.n 2 (λ (e : c.args.n ≡ 2). omega (arith, e)), ne_eqb c.args.n 3 (λ (e : c.args.n ≡ 3). omega (arith, e)), lt-leb _ _ c.if-n-s.false) c.sign_off.ensures

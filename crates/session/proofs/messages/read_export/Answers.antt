@@ -1,5 +1,5 @@
 -- `session::messages::read_export` meets its contract: each way out is the case of the definition that its tests name. Assumes nothing.
-use borrow.Author.Tests.{eq-eqb, ne_eqb}
+use borrow.Author.Tests.{ne_eqb}
 use Rattle.text.specs.Classes.{between}
 use Rattle.values.specs.Family.{is_eqm}
 use Rattle.values.specs.Registers.{good_zone}
@@ -8,15 +8,14 @@ use Rattle.commands.specs.Spoken.{good_fields, spoken, letters_of, data_of}
 use Rattle.session.proofs.Laws.{unbuilt, unsuited}
 use Rattle.session.proofs.messages.read_export.Goals as goal
 
-pub returns-then-family-eq0 : goal.returns-then-family-eq0
+pub returns-in-0-default : goal.returns-in-0-default
 unfolding good_zone between
-returns-then-family-eq0 c = let a = c.args in
-    rw (unsuited a.tables a.family a.n c.if-family-eq0.true) (unbuilt _ _ _ _ _ c.read_zone_out.ensures)
+returns-in-0-default c = let a = c.args in rw (unsuited a.tables a.family a.n c.in-0-default.is-0) (unbuilt _ _ _ _ _ c.read_zone_out.ensures)
 
-pub returns-then-n-eq0 : goal.returns-then-n-eq0
+pub returns-in_default-eq0 : goal.returns-in_default-eq0
 unfolding read_of good_fields spoken letters_of data_of is_eqm
-returns-then-n-eq0 c = rw (eq-eqb _ _ c.if-n-eq0.true, ne_eqb _ _ c.if-family-eq0.false) c.read_total_out.ensures
+returns-in_default-eq0 c = rw (c.in_default-eq0.is-1, ne_eqb _ _ c.in_default-eq0.is-0.1) c.read_total_out.ensures
 
-pub returns : goal.returns
+pub returns-in_default : goal.returns-in_default
 unfolding read_of good_fields spoken letters_of data_of is_eqm
-returns c = rw (ne_eqb _ _ c.if-n-eq0.false, ne_eqb _ _ c.if-family-eq0.false) c.read_zone_out-2.ensures
+returns-in_default c = rw (ne_eqb _ _ c.in_default.is-1.1, ne_eqb _ _ c.in_default.is-0.1) c.read_zone_out-in_default.ensures

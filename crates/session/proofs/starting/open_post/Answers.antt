@@ -4,10 +4,10 @@ use Rattle.text.specs.Writing.{holding}
 use Rattle.session.specs.Starting.{opened_post}
 use Rattle.session.proofs.starting.open_post.Goals as goal
 
-pub returns-then-access-eq0 : goal.returns-then-access-eq0
+pub returns-then-told-eq0 : goal.returns-then-told-eq0
 unfolding opened_post holding
-returns-then-access-eq0 c = record { result = rw (eq-eqb _ _ c.if-access-eq0.true, c.refuse.ensures); held = rw (eq-eqb _ _ c.if-access-eq0.true) }
+returns-then-told-eq0 c = record { result = rw (eq-eqb _ _ c.if-told-eq0.true); held = rw (eq-eqb _ _ c.if-told-eq0.true) }
 
 pub returns : goal.returns
 unfolding opened_post
-returns c = record { result = rw (ne_eqb _ _ c.if-access-eq0.false, c.begin.ensures.result); held = rw (ne_eqb _ _ c.if-access-eq0.false) c.begin.ensures.held }
+returns c = record { result = rw (ne_eqb _ _ c.if-told-eq0.false) c.begin.ensures.result; held = rw (ne_eqb _ _ c.if-told-eq0.false) c.begin.ensures.held }

@@ -1,5 +1,7 @@
 -- `session::starting::read_good` meets its contract: each way out is the case of the definition that its tests name. Assumes nothing.
-use borrow.Author.Tests.{eq-eqb, ne_eqb}
+use mathlib.Core.Path.{◌≡◌}
+use native.Mathlib.Omega.{arith}
+use borrow.Author.Tests.{ne_eqb}
 use Rattle.session.specs.Messages.{read_of}
 use Rattle.commands.specs.Spoken.{good_fields}
 use Rattle.values.specs.Registers.{good_table}
@@ -8,36 +10,31 @@ use lib.Dec.{eqb}
 use Rattle.session.proofs.Laws.{energy-good, export-good}
 use Rattle.session.proofs.starting.read_good.Goals as goal
 
-pub returns-then-letter-eq84 : goal.returns-then-letter-eq84
+pub returns-in-84 : goal.returns-in-84
 unfolding read_of good_fields
-returns-then-letter-eq84 c = rw (eq-eqb _ _ c.if-letter-eq84.true)
+returns-in-84 c = rw c.in-84.is
 
-pub returns-then-letter-eq76 : goal.returns-then-letter-eq76
+pub returns-in-76 : goal.returns-in-76
 unfolding read_of good_fields
-returns-then-letter-eq76 c = rw (ne_eqb _ _ c.if-letter-eq84.false, eq-eqb _ _ c.if-letter-eq76.true)
+returns-in-76 c = rw c.in-76.is
 
-pub returns-then-letter-eq75 : goal.returns-then-letter-eq75
+pub returns-in-75 : goal.returns-in-75
 unfolding read_of good_fields
-returns-then-letter-eq75 c = rw (ne_eqb _ _ c.if-letter-eq84.false, ne_eqb _ _ c.if-letter-eq76.false, eq-eqb _ _ c.if-letter-eq75.true)
+returns-in-75 c = rw c.in-75.is
 
-pub returns-then-letter-eq69 : goal.returns-then-letter-eq69
+pub returns-in-69 : goal.returns-in-69
 unfolding read_of good_fields
-returns-then-letter-eq69 c =
-    let a = c.args in
-    rw (ne_eqb _ _ c.if-letter-eq84.false, ne_eqb _ _ c.if-letter-eq76.false, ne_eqb _ _ c.if-letter-eq75.false, eq-eqb _ _ c.if-letter-eq69.true, c.is_zone.ensures) (energy-good a.tables a.family a.n (eqb a.n 0))
+returns-in-69 c = let a = c.args in rw (c.in-69.is, c.is_zone.ensures) (energy-good a.tables a.family a.n (eqb a.n 0))
 
-pub returns-then-letter-eq71 : goal.returns-then-letter-eq71
+pub returns-in-71 : goal.returns-in-71
 unfolding read_of good_fields
-returns-then-letter-eq71 c =
-    let a = c.args in
-    rw (ne_eqb _ _ c.if-letter-eq84.false, ne_eqb _ _ c.if-letter-eq76.false, ne_eqb _ _ c.if-letter-eq75.false, ne_eqb _ _ c.if-letter-eq69.false, eq-eqb _ _ c.if-letter-eq71.true, c.is_eqm.ensures, c.is_zone-then-letter-eq71.ensures) (export-good a.tables a.family a.n (eqb a.n 0))
+returns-in-71 c = let a = c.args in rw (c.in-71.is, c.is_eqm.ensures, c.is_zone-in-71.ensures) (export-good a.tables a.family a.n (eqb a.n 0))
 
-pub returns-then-letter-eq90 : goal.returns-then-letter-eq90
+pub returns-in-90 : goal.returns-in-90
 unfolding read_of good_fields
-returns-then-letter-eq90 c =
-    rw (ne_eqb _ _ c.if-letter-eq84.false, ne_eqb _ _ c.if-letter-eq76.false, ne_eqb _ _ c.if-letter-eq75.false, ne_eqb _ _ c.if-letter-eq69.false, ne_eqb _ _ c.if-letter-eq71.false, eq-eqb _ _ c.if-letter-eq90.true, c.is_table.ensures)
+returns-in-90 c = rw (c.in-90.is, c.is_table.ensures)
 
-pub returns : goal.returns
+pub returns-in_default : goal.returns-in_default
 unfolding read_of good_fields good_table between
-returns c =
-    rw (ne_eqb _ _ c.if-letter-eq84.false, ne_eqb _ _ c.if-letter-eq76.false, ne_eqb _ _ c.if-letter-eq75.false, ne_eqb _ _ c.if-letter-eq69.false, ne_eqb _ _ c.if-letter-eq71.false, ne_eqb _ _ c.if-letter-eq90.false)
+returns-in_default c =
+    rw (ne_eqb c.args.letter 84 (λ (e : c.args.letter ≡ 84). omega (arith, e)), ne_eqb c.args.letter 76 (λ (e : c.args.letter ≡ 76). omega (arith, e)), ne_eqb c.args.letter 75 (λ (e : c.args.letter ≡ 75). omega (arith, e)), ne_eqb c.args.letter 69 (λ (e : c.args.letter ≡ 69). omega (arith, e)), ne_eqb c.args.letter 71 (λ (e : c.args.letter ≡ 71). omega (arith, e)), ne_eqb c.args.letter 90 (λ (e : c.args.letter ≡ 90). omega (arith, e)))

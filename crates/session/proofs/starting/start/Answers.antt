@@ -17,35 +17,35 @@ pub returns-then-not-is_edition : goal.returns-then-not-is_edition
 unfolding holding
 returns-then-not-is_edition c =
     let none = sym c.is_edition.ensures ∙ c.if-not-is_edition.true in
-    record { opening = unopened 16 0; opens = unknown none refl; answer = c.refuse.ensures; held = refl }
+    record { opening = unopened 16 0; opens = unknown none refl; answer = refl; held = refl }
 
 pub returns-then-not-is_family : goal.returns-then-not-is_family
 unfolding holding
 returns-then-not-is_family c =
     let is = sym c.is_edition.ensures ∙ c.if-not-is_edition.false in
     let none = sym c.is_family.ensures ∙ c.if-not-is_family.true in
-    record { opening = unopened 18 0; opens = strange is none refl; answer = c.refuse-then-not-is_family.ensures; held = refl }
+    record { opening = unopened 18 0; opens = strange is none refl; answer = refl; held = refl }
 
 pub returns-then-buf-lt-ROOM : goal.returns-then-buf-lt-ROOM
 unfolding holding
 returns-then-buf-lt-ROOM c =
     let is = sym c.is_edition.ensures ∙ c.if-not-is_edition.false in
     let has = sym c.is_family.ensures ∙ c.if-not-is_family.false in
-    record { opening = unopened 19 0; opens = small (is, has) c.if-buf-lt-ROOM.true refl; answer = c.refuse-then-buf-lt-ROOM.ensures; held = refl }
+    record { opening = unopened 19 0; opens = small (is, has) c.if-buf-lt-ROOM.true refl; answer = refl; held = refl }
 
-pub returns-then-kind-eq0 : goal.returns-then-kind-eq0
-returns-then-kind-eq0 c =
+pub returns-in-0 : goal.returns-in-0
+returns-in-0 c =
     let a = c.args in
     let is = sym c.is_edition.ensures ∙ c.if-not-is_edition.false in
     let has = sym c.is_family.ensures ∙ c.if-not-is_family.false in
-    record { opening = opened_reads (told_of a.edition a.decimals a.named a.serial.now a.access a.password.now a.kind) a.work.now; opens = reads (is, has) c.if-buf-lt-ROOM.false c.if-kind-eq0.true refl; answer = c.open_reads.ensures.result; held = c.open_reads.ensures.held }
+    record { opening = opened_reads (told_of a.edition a.decimals a.named a.serial.now a.access a.password.now a.kind) a.work.now; opens = reads (is, has) c.if-buf-lt-ROOM.false c.in-0.is refl; answer = c.open_reads.ensures.result; held = c.open_reads.ensures.held }
 
-pub returns-then-kind-ne1 : goal.returns-then-kind-ne1
+pub returns-in_default : goal.returns-in_default
 unfolding holding
-returns-then-kind-ne1 c =
+returns-in_default c =
     let is = sym c.is_edition.ensures ∙ c.if-not-is_edition.false in
     let has = sym c.is_family.ensures ∙ c.if-not-is_family.false in
-    record { opening = unopened 9 0; opens = nothing (is, has) c.if-buf-lt-ROOM.false c.if-kind-eq0.false c.if-kind-ne1.true refl; answer = c.refuse-then-kind-ne1.ensures; held = refl }
+    record { opening = unopened 9 0; opens = nothing (is, has) c.if-buf-lt-ROOM.false (λ e. omega (arith, e)) (λ e. omega (arith, e)) refl; answer = refl; held = refl }
 
 pub returns-in-Err : goal.returns-in-Err
 unfolding holding
@@ -56,13 +56,13 @@ returns-in-Err c =
     let r = not-post (tables_of a.edition) a.work.now _ _ (c.in-Err.ensures.some is) (not-done c.in-Err.refusal) in
     record {
       opening = unopened 20 (refusal_place c.in-Err.refusal);
-      opens = others (is, has) c.if-buf-lt-ROOM.false c.if-kind-ne1.false (record { no-post = r.no-post; longest = r.longest; refused = refl });
-      answer = rw c.refuse-in-Err.ensures (rw (c.number.ensures, r.refused, c.place.ensures));
+      opens = others (is, has) c.if-buf-lt-ROOM.false c.in-1.is (record { no-post = r.no-post; longest = r.longest; refused = refl });
+      answer = rw c.place.ensures;
       held = refl;
     }
 
-pub returns : goal.returns
-returns c =
+pub returns-in-1 : goal.returns-in-1
+returns-in-1 c =
     let a = c.args in
     let is = sym c.is_edition.ensures ∙ c.if-not-is_edition.false in
     let has = sym c.is_family.ensures ∙ c.if-not-is_family.false in
@@ -71,7 +71,7 @@ returns c =
     let t = told_of a.edition a.decimals a.named a.serial.now a.access a.password.now a.kind in
     record {
       opening = opened_post t (length p.entries);
-      opens = posts (is, has) c.if-buf-lt-ROOM.false c.if-kind-ne1.false (record { is-post = p; opens = refl });
+      opens = posts (is, has) c.if-buf-lt-ROOM.false c.in-1.is (record { is-post = p; opens = refl });
       answer = c.open_post.ensures.result ∙ ap (λ (k : ℕ). started_of (opened_post t k)) n;
       held = c.open_post.ensures.held ∙ ap (λ (k : ℕ). holding a.buf.now (on_wire (opened_post t k).text)) n;
     }

@@ -2,4 +2,4 @@
 use Rattle.session.proofs.turning.end.Goals as goal
 
 pub returns : goal.returns
-returns c = rw c.stand.ensures
+returns c = rw (c.stand.ensures, c.number.ensures)

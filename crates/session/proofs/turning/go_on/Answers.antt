@@ -14,7 +14,7 @@ overflow_add-s c = omega (arith, count_most _ c.requires.0)
 
 pub returns-then-s : goal.returns-then-s
 unfolding answered_right holding
-returns-then-s c = record { result = rw (le-leb _ _ c.if-s.true, c.end.ensures); held = rw (le-leb _ _ c.if-s.true) }
+returns-then-s c = record { result = rw (le-leb _ _ c.if-s.true) c.end.ensures; held = rw (le-leb _ _ c.if-s.true) }
 
 pub overflow_add-n : goal.overflow_add-n
 overflow_add-n c = omega (arith, c.if-s.false, count_most _ c.requires.0)
@@ -26,7 +26,7 @@ pub returns-in_default : goal.returns-in_default
 unfolding answered_right holding
 returns-in_default c =
     let w = err-not _ _ _ _ _ c.build.ensures c.requires.1 c.in_default.not-Ok in
-    record { result = rw (lt-leb _ _ c.if-s.false, w.0, c.refuse.ensures); held = rw (lt-leb _ _ c.if-s.false, w.0) w.1 }
+    record { result = rw (lt-leb _ _ c.if-s.false, w.0); held = rw (lt-leb _ _ c.if-s.false, w.0) w.1 }
 
 pub returns : goal.returns
 unfolding answered_right

@@ -1,24 +1,28 @@
 -- `session::turning::is_right` meets its contract: each way out is the case of the definition that its tests name. Assumes nothing.
-use borrow.Author.Tests.{eq-eqb, ne_eqb, le-leb, lt-leb}
+use mathlib.Core.Path.{◌≡◌}
+use native.Mathlib.Omega.{arith}
+use borrow.Author.Tests.{le-leb, lt-leb, ne_eqb}
 use Rattle.session.specs.Turns.{right_at}
 use Rattle.session.proofs.turning.is_right.Goals as goal
 
-pub returns-then-n-eq1 : goal.returns-then-n-eq1
+pub returns-in-1 : goal.returns-in-1
 unfolding right_at
-returns-then-n-eq1 c = rw (eq-eqb _ _ c.if-n-eq1.true, c.is_identification.ensures)
+returns-in-1 c = rw (c.in-1.is, c.is_identification.ensures)
 
-pub returns-then-n-eq2 : goal.returns-then-n-eq2
+pub returns-in-2 : goal.returns-in-2
 unfolding right_at
-returns-then-n-eq2 c = rw (ne_eqb _ _ c.if-n-eq1.false, eq-eqb _ _ c.if-n-eq2.true, c.is_password_ask.ensures)
+returns-in-2 c = rw (c.in-2.is, c.is_password_ask.ensures)
 
-pub returns-then-n-eq3 : goal.returns-then-n-eq3
+pub returns-in-3 : goal.returns-in-3
 unfolding right_at
-returns-then-n-eq3 c = rw (ne_eqb _ _ c.if-n-eq1.false, ne_eqb _ _ c.if-n-eq2.false, eq-eqb _ _ c.if-n-eq3.true, c.is_ack.ensures)
+returns-in-3 c = rw (c.in-3.is, c.is_ack.ensures)
 
-pub returns-then-n-s : goal.returns-then-n-s
+pub returns-in_default : goal.returns-in_default
 unfolding right_at
-returns-then-n-s c = rw (ne_eqb _ _ c.if-n-eq1.false, ne_eqb _ _ c.if-n-eq2.false, ne_eqb _ _ c.if-n-eq3.false, le-leb _ _ c.if-n-s.true, c.is_right_work.ensures, c.less_four.ensures)
+returns-in_default c =
+    rw (ne_eqb c.args.n 1 (λ (e : c.args.n ≡ 1). omega (arith, e)), ne_eqb c.args.n 2 (λ (e : c.args.n ≡ 2). omega (arith, e)), ne_eqb c.args.n 3 (λ (e : c.args.n ≡ 3). omega (arith, e)), le-leb _ _ c.if-n-s.true, c.is_right_work.ensures, c.saturating_sub.ensures)
 
-pub returns : goal.returns
+pub returns-in_default-2 : goal.returns-in_default-2
 unfolding right_at
-returns c = rw (ne_eqb _ _ c.if-n-eq1.false, ne_eqb _ _ c.if-n-eq2.false, ne_eqb _ _ c.if-n-eq3.false, lt-leb _ _ c.if-n-s.false, c.is_ack-2.ensures)
+returns-in_default-2 c =
+    rw (ne_eqb c.args.n 1 (λ (e : c.args.n ≡ 1). omega (arith, e)), ne_eqb c.args.n 2 (λ (e : c.args.n ≡ 2). omega (arith, e)), ne_eqb c.args.n 3 (λ (e : c.args.n ≡ 3). omega (arith, e)), lt-leb _ _ c.if-n-s.false, c.is_ack-in_default-2.ensures)
