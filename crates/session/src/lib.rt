@@ -16,6 +16,7 @@ mod turning;
 // What a session was told, and where it stands: `named` 1 calls the meter of the serial, 0 any; `access` 1 enters with the password, 0 with `()`;
 // `work` 1 is a post, 0 reads; `count` messages of work; `sent` is the number of the message sent last; `fact` is 0 while it goes on;
 // `edition` is the meter's, and `decimals` its family.
+// Stays: the C interface: hosts lend this record, so its kinds and its fact are numbers.
 #[repr(C)]
 #[derive(Clone, Copy)]
 pub struct Session {

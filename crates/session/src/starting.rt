@@ -130,6 +130,7 @@ fn open_post(told: Told, lines: u8, buf: &mut [u8]) -> Result<Begun, Refusal>
 }
 
 // Starts a session: the meter's edition and its decimals, whom to call, how to enter, what to do. Nothing is sent where it is refused, and there is no session.
+// Stays: a public function's parameters, which sessionlink hands on from C: whom, how and what are numbers, and `Told` is made of them here.
 pub fn start(
     edition: u8,
     decimals: u8,

@@ -61,12 +61,12 @@ returns-in-Err c =
       held = refl;
     }
 
-pub returns-in-1 : goal.returns-in-1
-returns-in-1 c =
+pub returns-in_default-check : goal.returns-in_default-check
+returns-in_default-check c =
     let a = c.args in
     let is = sym c.is_edition.ensures ∙ c.if-not-is_edition.false in
     let has = sym c.is_family.ensures ∙ c.if-not-is_family.false in
-    let p = a-post (tables_of a.edition) a.work.now _ _ (c.in_default.ensures.some is) refl in
+    let p = a-post (tables_of a.edition) a.work.now _ _ (c.in_default-check.ensures.some is) refl in
     let n = lines-counted (tables_of a.edition) a.work.now p (omega (arith, tables-most a.edition)) in
     let t = told_of a.edition a.decimals a.named a.serial.now a.access a.password.now a.kind in
     record {
