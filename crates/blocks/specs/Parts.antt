@@ -1,9 +1,26 @@
 -- Document 01, "The head": the data between STX and ETX of a stripped block, as a part of the caller's own bytes.
-use Rattle.std.specs.Prelude.{◌≡◌, Bool, cond, not, ◌&&◌, List, ℕ, ◌+◌, ◌-◌, ◌≤◌, eqb, leb, length, take, drop, get_or}
+use Rattle.std.specs.Prelude.{◌≡◌, Bool, cond, not, ◌&&◌, List, ℕ, ◌+◌, ◌-◌, ◌≤◌, eqb, leb, length, take, drop, get_or, Result, Ok, Err}
+use Rattle.std.specs.Borrow.{Bor}
 use Rattle.line.specs.Controls.{STX, ETX}
 use Rattle.line.specs.Runs.{every}
 use Rattle.line.specs.Checksum.{bcc_of}
-use Rattle.blocks.specs.declared.PartAt.{PartAt}
+use Rattle.blocks.specs.declared.Refusal.{Refusal}
+use Rattle.blocks.specs.Refusals.{number_of}
+
+-- where a block's part lies
+pub record PartAt : Type 0 where
+  pub number : ℕ
+  pub start : ℕ
+  pub length : ℕ
+
+-- a part starts behind STX
+abbrev pub part_told : Result (Bor (List ℕ)) Refusal → PartAt
+part_told (Ok part) = record { number = 1; start = 1; length = length part.now }
+part_told (Err refusal) = record { number = number_of refusal; start = 0; length = 0 }
+
+abbrev pub check_told : Result (Unit {0}) Refusal → ℕ
+check_told (Ok _) = 1
+check_told (Err refusal) = number_of refusal
 
 unfoldable pub is_character : ℕ → Bool
 is_character c = leb c 0x7F

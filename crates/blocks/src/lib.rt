@@ -1,31 +1,48 @@
 // A meter's reply: its parity stripped, and the part of a block that holds the data.
 #![tactic(auto)]
 
-ghost use Rattle.std.specs.Prelude.{◌≡◌, [], ◌∷◌, ◌++◌, map, ◌+◌, ◌-◌, ◌≤◌, max, length, take, drop, get_or};
+ghost use Rattle.std.specs.Prelude.{◌≡◌, map, ◌+◌, ◌≤◌, length, take, drop, IfOk};
 ghost use Rattle.line.specs.Characters.{seven};
 ghost use Rattle.line.specs.Checksum.{bcc_of};
 ghost use Rattle.line.specs.Runs.{every};
 ghost use Rattle.text.specs.Writing.{holding};
-ghost use Rattle.blocks.specs.Stripping.{Strips};
-ghost use Rattle.blocks.specs.Parts.{part_of, Within, is_content};
+ghost use Rattle.blocks.specs.Refusals.{number_of, place_of};
+ghost use Rattle.blocks.specs.Stripping.{strip_told, Strips};
+ghost use Rattle.blocks.specs.Parts.{part_told, check_told, part_of, Within, is_content};
 
-// The answers of document 01.
-pub const DONE: u8 = 1;
+// Why a reply gives no part.
+#[derive(Clone, Copy, PartialEq, Eq)]
+pub enum Refusal {
+    NoBlock,
+    WrongBcc,
+    // The first damaged byte stands there.
+    Damaged(usize),
+    // The buffer to strip into is shorter than the reply.
+    Short,
+}
 
-pub const NO_BLOCK: u8 = 22;
+impl Refusal {
+    // Its number of document 01.
+    pub fn number(self) -> u8
+        ensures { result ≡ number_of self }
+    {
+        match self {
+            Refusal::NoBlock => 22,
+            Refusal::WrongBcc => 23,
+            Refusal::Damaged(_) => 24,
+            Refusal::Short => 26,
+        }
+    }
 
-pub const WRONG_BCC: u8 = 23;
-
-pub const DAMAGED: u8 = 24;
-
-pub const SHORT: u8 = 26;
-
-// What stripping answers: with 24 the place of the first damaged byte, else 0.
-#[derive(Clone, Copy)]
-pub struct Stripped {
-    pub number: u8,
-    pub length: usize,
-    pub place: usize,
+    // The place that goes with the number: that of the damaged byte, else 0.
+    pub fn place(self) -> usize
+        ensures { result ≡ place_of self }
+    {
+        match self {
+            Refusal::Damaged(place) => place,
+            _ => 0,
+        }
+    }
 }
 
 // Copies the seven bits of each byte to the front of a buffer.
@@ -33,37 +50,23 @@ fn copy_seven(s: &[u8], out: &mut [u8])
     requires { length s.now ≤ length out.old }
     ensures { out.new ≡ holding out.old (map seven s.now) }
 {
-    let mut i = 0;
-    while i < s.len() {
-        out[i] = line::character(s[i]);
-        i += 1;
+    for (i, b) in s.iter().enumerate() {
+        out[i] = line::character(*b);
     }
 }
 
-// Strips a reply's parity into a second buffer, or writes nothing. The place is looked for only where a byte was damaged.
-pub fn strip(reply: &[u8], out: &mut [u8]) -> Stripped
-    ensures { Strips reply.now out.old result out.new }
+// Strips a reply's parity into a second buffer and gives its length, or writes nothing. The place is looked for only where a byte was damaged.
+pub fn strip(reply: &[u8], out: &mut [u8]) -> Result<usize, Refusal>
+    ensures { Strips reply.now out.old (strip_told result) out.new }
 {
     if out.len() < reply.len() {
-        return Stripped {
-            number: SHORT,
-            length: 0,
-            place: 0,
-        };
+        return Err(Refusal::Short);
     }
     if !line::undamaged(reply) {
-        return Stripped {
-            number: DAMAGED,
-            length: 0,
-            place: damage::first_damaged(reply),
-        };
+        return Err(Refusal::Damaged(damage::first_damaged(reply)));
     }
     copy_seven(reply, out);
-    Stripped {
-        number: DONE,
-        length: reply.len(),
-        place: 0,
-    }
+    Ok(reply.len())
 }
 
 // What one pass over a block's content finds.
@@ -73,13 +76,6 @@ pub struct Seen {
     pub sum: u8,
 }
 
-// The larger of two bytes.
-fn larger(a: u8, b: u8) -> u8
-    ensures { result ≡ max a b }
-{
-    if a < b { b } else { a }
-}
-
 // Whether every byte is a character other than ETX, and the BCC of all; both in one pass. The largest byte tells for all whether they are characters.
 fn look(s: &[u8]) -> Seen
     ensures { result ≡ record { plain = every is_content s.now; sum = bcc_of s.now } }
@@ -87,12 +83,10 @@ fn look(s: &[u8]) -> Seen
     let mut most: u8 = 0;
     let mut clear = true;
     let mut sum: u8 = 0;
-    let mut i = 0;
-    while i < s.len() {
-        most = larger(most, s[i]);
-        clear = clear & (s[i] != line::ETX);
-        sum = sum ^ s[i];
-        i += 1;
+    for c in s {
+        most = most.max(*c);
+        clear &= *c != line::ETX;
+        sum ^= c;
     }
     Seen {
         plain: (most <= 127) & clear,
@@ -100,24 +94,14 @@ fn look(s: &[u8]) -> Seen
     }
 }
 
-// Where a block's part lies.
-#[derive(Clone, Copy)]
-pub struct PartAt {
-    pub number: u8,
-    pub start: usize,
-    pub length: usize,
-}
-
-// Finds the part of a stripped block: 22, then 23, each with the empty part at the start.
-pub fn find(s: &[u8]) -> PartAt
-    ensures { Within s.now result }
+// The data between STX and ETX of a stripped block, a part of the caller's own bytes.
+pub fn find(s: &[u8]) -> Result<&[u8], Refusal>
+    ensures within { Within s.now (part_told result) }
+    ensures lies { IfOk result (λ part. part.ref_ptr ≡ (s.entry.ref_ptr.0, 1 + s.entry.ref_ptr.1)) }
+    ensures value { IfOk result (λ part. part.now ≡ take (part_of s.now).length (drop (part_of s.now).start s.now)) }
 {
     if s.len() < 3 {
-        return PartAt {
-            number: NO_BLOCK,
-            start: 0,
-            length: 0,
-        };
+        return Err(Refusal::NoBlock);
     }
     let etx = s.len() - 2;
     let last = s.len() - 1;
@@ -125,42 +109,29 @@ pub fn find(s: &[u8]) -> PartAt
     let seen = look(&s[1..etx]);
     let block = framed & (seen.plain & (s[last] <= 127));
     if !block {
-        return PartAt {
-            number: NO_BLOCK,
-            start: 0,
-            length: 0,
-        };
+        return Err(Refusal::NoBlock);
     }
     if s[last] != seen.sum ^ line::ETX {
-        return PartAt {
-            number: WRONG_BCC,
-            start: 0,
-            length: 0,
-        };
+        return Err(Refusal::WrongBcc);
     }
-    PartAt {
-        number: DONE,
-        start: 1,
-        length: s.len() - 3,
-    }
+    Ok(&s[1..etx])
 }
 
-// The number of a block: 22, 23, or 1 where it has a part.
-pub fn part_check(stripped: &[u8]) -> u8
-    ensures { result ≡ (part_of stripped.now).number }
+// Whether a block has a part, and why not.
+pub fn part_check(stripped: &[u8]) -> Result<(), Refusal>
+    ensures { check_told result ≡ (part_of stripped.now).number }
 {
-    let p = find(stripped);
-    p.number
+    find(stripped)?;
+    Ok(())
 }
 
-// The data between STX and ETX, a part of the caller's own bytes: it lies where they lie, its start further on. The empty part at the start
-// where the block is refused.
+// The same part where the block has one, and where it is refused the empty part at its start.
 pub fn part(stripped: &[u8]) -> &[u8]
     ensures lies { result.ref_ptr ≡ (stripped.entry.ref_ptr.0, (part_of stripped.now).start + stripped.entry.ref_ptr.1) }
     ensures result_value { result.now ≡ take (part_of stripped.now).length (drop (part_of stripped.now).start stripped.now) }
 {
-    let p = find(stripped);
-    let start = p.start;
-    let end = start + p.length;
-    &stripped[start..end]
+    match find(stripped) {
+        Ok(part) => part,
+        Err(_) => &stripped[..0],
+    }
 }

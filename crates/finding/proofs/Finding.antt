@@ -1,16 +1,14 @@
 -- The lookup's turn and its ways out, as the code takes them. Assumes nothing.
-use mathlib.Core.Path.{◌≡◌, refl, sym, ap, ◌∙◌}
+use mathlib.Core.Path.{◌≡◌, sym, ap, ◌∙◌}
 use mathlib.Core.Bool.{Bool, true, false}
 use mathlib.Core.List.{List}
-use Prim.Native.Nat.{ℕ, suc, ◌+◌, ◌-◌, ◌<◌, ◌≤◌}
+use Prim.Native.Nat.{ℕ, suc, ◌+◌, ◌-◌, ◌≤◌}
 use native.Mathlib.Omega.{arith}
 use borrow.Author.Tests.{eq-eqb, ne_eqb}
 use lib.ListN.{length, take, drop}
 use Rattle.text.specs.Classes.{same_text}
-use Rattle.reading.specs.declared.SetRead.{SetRead}
-use Rattle.reading.specs.Sets.{set_read}
+use Rattle.reading.specs.Sets.{SetRead, set_read}
 use Rattle.reading.proofs.Inside.{Inside, read-inside}
-use Rattle.finding.specs.declared.Lookup.{Lookup}
 use Rattle.finding.specs.Finding.{matched_at, lookup}
 use Rattle.finding.proofs.Seeking.{address_at, stopped, seek, seek-all}
 

@@ -1,8 +1,8 @@
 -- What a lookup promises: it is what the full reading finds, and text behind the match isn't looked at. Assumes nothing.
-use mathlib.Core.Path.{◌≡◌, refl, sym, ap, ◌∙◌}
+use mathlib.Core.Path.{◌≡◌, refl, sym, ◌∙◌}
 use mathlib.Core.Bool.{Bool, true, false, cond}
-use mathlib.Core.List.{List, [], ◌∷◌}
-use Prim.Native.Nat.{ℕ, zero, suc, ◌+◌, ◌-◌, ◌<◌, ◌≤◌}
+use mathlib.Core.List.{List, []}
+use Prim.Native.Nat.{ℕ, zero, suc, ◌+◌, ◌<◌, ◌≤◌}
 use native.Mathlib.Omega.{arith}
 use borrow.Author.Tests.{eqb-true, eq-eqb, le-leb}
 use lib.Dec.{eqb}
@@ -11,14 +11,12 @@ use lib.Seq.{length-take-le}
 use Rattle.text.specs.Classes.{between, same_text}
 use Rattle.text.proofs.Matching.{same-is}
 use Rattle.text.specs.DataSet.{DataSet}
-use Rattle.reading.specs.declared.SetRead.{SetRead}
-use Rattle.reading.specs.Sets.{address_length, value_length, set_read}
+use Rattle.reading.specs.Sets.{SetRead, address_length, value_length, set_read}
 use Rattle.reading.specs.Whole.{Found, set_of, also, read_from, read_all}
 use Rattle.reading.proofs.Leading.{address-led}
 use Rattle.reading.proofs.Inside.{Inside, inside, tested, shown, set-closed}
 use Rattle.reading.proofs.Agreeing.{Agree, agree, same-part, same_set}
-use Rattle.finding.specs.declared.Lookup.{Lookup}
-use Rattle.finding.specs.Finding.{among, position, matched_at, malformed_after, missing_after, answered, lookup, first_with, pointed_at, end_of, can_be}
+use Rattle.finding.specs.Finding.{Lookup, among, position, matched_at, malformed_after, missing_after, answered, lookup, first_with, pointed_at, end_of, can_be}
 use Rattle.finding.proofs.Seeking.{address_at, stopped, seek, seek-all}
 
 -- a refusal is no match

@@ -1,20 +1,16 @@
 -- A search set by set is the lookup in the full reading. Assumes nothing.
-use mathlib.Core.Path.{◌≡◌, refl, sym, ap, ap₂, ◌∙◌}
+use mathlib.Core.Path.{◌≡◌, refl, sym, ap, ◌∙◌}
 use mathlib.Core.Bool.{Bool, true, false, cond}
-use mathlib.Core.List.{List, [], ◌∷◌}
-use Prim.Native.Nat.{ℕ, zero, suc, ◌+◌, ◌-◌, ◌<◌, ◌≤◌}
+use mathlib.Core.List.{List, []}
+use Prim.Native.Nat.{ℕ, zero, suc, ◌+◌, ◌-◌}
 use native.Mathlib.Omega.{arith}
-use borrow.Author.Tests.{eq-eqb, ne_eqb}
 use lib.Dec.{eqb}
 use lib.ListN.{length, take, drop}
 use Rattle.text.specs.Classes.{same_text}
 use Rattle.text.specs.DataSet.{DataSet}
-use Rattle.reading.specs.declared.SetRead.{SetRead}
-use Rattle.reading.specs.Sets.{set_read}
+use Rattle.reading.specs.Sets.{SetRead, set_read}
 use Rattle.reading.specs.Whole.{Found, set_of, also, read_from, read_all, place_after}
-use Rattle.reading.proofs.Inside.{inside}
-use Rattle.finding.specs.declared.Lookup.{Lookup}
-use Rattle.finding.specs.Finding.{among, position, matched_at, malformed_after, missing_after, answered, lookup}
+use Rattle.finding.specs.Finding.{Lookup, among, position, matched_at, malformed_after, missing_after, answered, lookup}
 
 -- the address of the set that was read at a place
 abbrev pub address_at : List ℕ → ℕ → SetRead → List ℕ

@@ -1,12 +1,23 @@
 -- Document 02, [6]: the first data set with an address, as the full reading of the data finds it.
-use Rattle.std.specs.Prelude.{Bool, true, false, cond, ◌&&◌, List, [], ◌∷◌, ℕ, suc, ◌+◌, ◌-◌, eqb, length, take, drop}
+use Rattle.std.specs.Prelude.{Bool, true, false, cond, ◌&&◌, List, [], ◌∷◌, ℕ, suc, ◌+◌, ◌-◌, eqb, length, take, drop, Result, Ok, Err}
 use Rattle.line.specs.Runs.{every}
 use Rattle.text.specs.Classes.{between, is_address, same_text}
 use Rattle.text.specs.DataSet.{DataSet}
-use Rattle.reading.specs.declared.SetRead.{SetRead}
-use Rattle.reading.specs.Sets.{set_read}
+use Rattle.reading.specs.Sets.{SetRead, set_read}
 use Rattle.reading.specs.Whole.{Found, read_all, place_after}
-use Rattle.finding.specs.declared.Lookup.{Lookup}
+use Rattle.finding.specs.declared.Match.{Match}
+use Rattle.finding.specs.declared.Missed.{Missed}
+use Rattle.finding.specs.declared.Missed.TheVariants.{Malformed, Missing}
+
+-- the answer: the number, how many sets were read, the place of a malformed one, and where the address and the value of the match stand
+pub record Lookup : Type 0 where
+  pub number : ℕ
+  pub count : ℕ
+  pub place : ℕ
+  pub address_start : ℕ
+  pub address_length : ℕ
+  pub value_start : ℕ
+  pub value_length : ℕ
 
 -- whether one of the sets has this address
 unfoldable pub among : List ℕ → List DataSet → Bool
@@ -40,6 +51,21 @@ malformed_after n at =
 abbrev pub missing_after : ℕ → Lookup
 missing_after n =
     record { number = 27; count = n; place = 0; address_start = 0; address_length = 0; value_start = 0; value_length = 0 }
+
+-- the answer of the code
+abbrev pub find_told : Result Match Missed → Lookup
+find_told (Ok m) =
+    record {
+      number = 1;
+      count = m.count;
+      place = 0;
+      address_start = m.address_start;
+      address_length = m.address_length;
+      value_start = m.value_start;
+      value_length = m.value_length;
+    }
+find_told (Err (Malformed count place)) = malformed_after count place
+find_told (Err (Missing count)) = missing_after count
 
 -- the answer, from how many sets were read, whether the last of them is a match, and what the full reading found
 unfoldable pub answered : List ℕ → ℕ → Bool → Found → Lookup

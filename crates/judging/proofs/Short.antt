@@ -22,10 +22,8 @@ use Rattle.values.specs.Texts.{table_text, time_form, date_form}
 use Rattle.values.specs.Serials.{SerialRead, serial_form, serial_read, no_serial}
 use Rattle.values.specs.Reading.{DateRead, TimeRead, date_read, time_read, energy_read, no_date, no_time}
 use Rattle.text.specs.Writing.{holding}
-use Rattle.blocks.specs.Stripping.{stripped_by, stripped_of, stripped_into, Strips}
-use Rattle.blocks.specs.declared.Stripped.{Stripped}
-use Rattle.blocks.specs.declared.PartAt.{PartAt}
-use Rattle.blocks.specs.Parts.{part_of, is_block, bcc_fits}
+use Rattle.blocks.specs.Stripping.{stripped_by, stripped_of, stripped_into, Strips, Stripped}
+use Rattle.blocks.specs.Parts.{PartAt, part_of, is_block, bcc_fits}
 use Rattle.judging.specs.Lines.{is_line, value_in}
 use Rattle.judging.specs.Right.{energy_opening, table_opening, tells_time, tells_date, tells_clock, tells_serial, tells_account, tells_counter, tells_energy, tells_export, tells_row, tells, data_in, answers_in, answers}
 

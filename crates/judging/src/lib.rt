@@ -181,19 +181,18 @@ pub fn is_answer(family: u8, letter: u8, n: u8, reply: &[u8]) -> bool
     ensures { result ≡ answers family letter n reply.now }
 {
     let mut plain = [0u8; 64];
-    let stripped = blocks::strip(reply, &mut plain);
-    if stripped.number != blocks::DONE {
-        return false;
+    match blocks::strip(reply, &mut plain) {
+        Ok(length) => is_answer_in(family, letter, n, text::first(&plain, length)),
+        Err(_) => false,
     }
-    is_answer_in(family, letter, n, text::first(&plain, stripped.length))
 }
 
 // The same of a stripped reply.
 fn is_answer_in(family: u8, letter: u8, n: u8, s: &[u8]) -> bool
     ensures { result ≡ answers_in family letter n s.now }
 {
-    if blocks::part_check(s) != blocks::DONE {
-        return false;
+    match blocks::find(s) {
+        Ok(lines) => tells_asked(family, letter, n, lines),
+        Err(_) => false,
     }
-    tells_asked(family, letter, n, blocks::part(s))
 }

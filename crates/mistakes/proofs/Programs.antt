@@ -44,8 +44,7 @@ use Rattle.meter.specs.Events.{tick}
 use Rattle.meter.specs.Life.{refusal}
 use Rattle.storing.specs.declared.Reply.{Reply}
 use Rattle.commands.specs.Building.{kept_or}
-use Rattle.reading.specs.declared.SetRead.{SetRead}
-use Rattle.reading.specs.Sets.{of_kind, leading, starts_with3, is_set, address_length, value_length, set_here, set_read}
+use Rattle.reading.specs.Sets.{SetRead, of_kind, leading, starts_with3, is_set, address_length, value_length, set_here, set_read}
 use Rattle.post.specs.Grammar.{line_text, lines_text, last_line, post_text}
 use Rattle.post.specs.Place.{CheckedAs}
 use Rattle.post.specs.Columns.{lowest, highest, column_fits, columns_fit, number_of, may_follow, pick, next_number, LinePlace, FirstStray}

@@ -18,18 +18,16 @@ use Rattle.values.specs.Reading.{date_read, time_read, counter_read, energy_read
 use Rattle.values.specs.Serials.{serial_read, account_read, row_read}
 use Rattle.frames.specs.Frames.{closed, block_of}
 use Rattle.datasets.specs.Sets.{data_set}
-use Rattle.blocks.specs.declared.Stripped.{Stripped}
-use Rattle.blocks.specs.declared.PartAt.{PartAt}
+use Rattle.blocks.specs.Stripping.{Stripped}
+use Rattle.blocks.specs.Parts.{PartAt}
 use Rattle.damage.specs.First.{first_damaged}
 use Rattle.blocks.specs.Stripping.{stripped_of, stripped_into}
 use Rattle.blocks.specs.Parts.{is_character, not_etx, is_block, bcc_fits, part_of, between as within}
-use Rattle.reading.specs.declared.SetRead.{SetRead}
-use Rattle.reading.specs.Sets.{of_kind, leading, starts_with3, is_set, address_length, value_length, set_here, set_read}
+use Rattle.reading.specs.Sets.{SetRead, of_kind, leading, starts_with3, is_set, address_length, value_length, set_here, set_read}
 use Rattle.reader.specs.declared.Reader.{Reader}
-use Rattle.reader.specs.declared.Placed.{Placed}
+use Rattle.reader.specs.Walking.{Placed}
 use Rattle.reading.specs.Whole.{set_of, also, read_from, read_all, place_after}
-use Rattle.finding.specs.declared.Lookup.{Lookup}
-use Rattle.finding.specs.Finding.{among, position, answered, lookup}
+use Rattle.finding.specs.Finding.{Lookup, among, position, answered, lookup}
 use Rattle.headlink.specs.Telling.{value_number, eqm_told}
 use Rattle.headlink.specs.declared.fields.Counted.{Counted}
 use Rattle.mistakes.specs.Samples.{serial, twos}

@@ -9,8 +9,7 @@ use Rattle.values.specs.Serials.{serial_read, account_read, row_read}
 use Rattle.frames.specs.Frames.{block_of}
 use Rattle.datasets.specs.Sets.{data_set}
 use Rattle.damage.specs.First.{first_damaged}
-use Rattle.blocks.specs.declared.Stripped.{Stripped}
-use Rattle.blocks.specs.Stripping.{Strips}
+use Rattle.blocks.specs.Stripping.{Stripped, Strips}
 use Rattle.blocks.specs.Parts.{part_of, Within}
 use Rattle.reading.specs.Sets.{end_at, malformed_at, set_at, set_read}
 use Rattle.reader.specs.declared.Reader.{Reader}

@@ -13,8 +13,7 @@ use Rattle.line.proofs.Runs.{and_left, and_right, left-next}
 use Rattle.text.specs.Classes.{between, is_address, is_value}
 use Rattle.datasets.specs.Sets.{line_of}
 use Rattle.datasets.specs.Good.{good_set}
-use Rattle.reading.specs.Sets.{of_kind, leading, starts_with3, set_at, is_set, address_length, value_length, set_read}
-use Rattle.reading.specs.declared.SetRead.{SetRead}
+use Rattle.reading.specs.Sets.{of_kind, leading, starts_with3, set_at, is_set, address_length, value_length, set_read, SetRead}
 use Rattle.reading.proofs.Inside.{Tested, tested, shown, set-closed}
 use Rattle.reading.specs.Whole.{set_of}
 use Rattle.reading.proofs.Leading.{address-led, value-led}

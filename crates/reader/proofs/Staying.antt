@@ -1,5 +1,5 @@
 -- An end or a malformed set leaves the reader where it stands, whatever number of sets is asked for. Assumes nothing.
-use mathlib.Core.Path.{◌≡◌, refl, ap, ◌∙◌}
+use mathlib.Core.Path.{◌≡◌, refl, sym, ap, ◌∙◌}
 use mathlib.Core.Bool.{Bool, true, false, cond, ◌||◌}
 use mathlib.Core.List.{List}
 use Prim.Native.Nat.{ℕ, zero, suc, ◌-◌, ◌<◌}
@@ -7,8 +7,7 @@ use native.Mathlib.Numerals.{unary_clauses}
 use native.Mathlib.Omega.{arith}
 use lib.Dec.{leb}
 use lib.ListN.{length, drop}
-use Rattle.reading.specs.declared.SetRead.{SetRead}
-use Rattle.reading.specs.Sets.{starts_with3, end_at, malformed_at, set_at, is_set, address_length, value_length, set_here, set_read}
+use Rattle.reading.specs.Sets.{SetRead, starts_with3, end_at, malformed_at, set_at, is_set, address_length, value_length, set_here, set_read}
 use Rattle.reading.specs.Whole.{place_after}
 use Rattle.reader.specs.declared.Reader.{Reader}
 use Rattle.reader.specs.Walking.{yields, moved, set_after}
@@ -26,6 +25,10 @@ stays s at h =
 -- the reader itself, with its data
 pub reader-stays : (r : Reader) → ((yields r).number ≡ 1 → ⊥) → moved r ≡ r
 reader-stays r h = λ i. record { «data» = r.«data»; at = stays r.«data».now r.at h i }
+
+-- the same of what was read there
+pub last-stays : (r : Reader) (s : SetRead) → s ≡ yields r → (s.number ≡ 1 → ⊥) → r ≡ moved r
+last-stays r s e h = sym (reader-stays r (λ k. h (ap (λ (x : SetRead). x.number) e ∙ k)))
 
 pub place-stays : (s : List ℕ) (n at : ℕ) → ((set_read s at).number ≡ 1 → ⊥) → place_after s n at ≡ at
 unfolding place_after

@@ -1,11 +1,18 @@
 -- Document 01, "The head": a reader keeps its place in the lent data and yields the data sets one by one.
 use Rattle.std.specs.Prelude.{List, ℕ}
 use Rattle.std.specs.Borrow.{Bor}
-use Rattle.reading.specs.declared.SetRead.{SetRead}
-use Rattle.reading.specs.Sets.{set_read}
+use Rattle.reading.specs.Sets.{SetRead, set_told, set_read}
 use Rattle.reading.specs.Whole.{place_after}
 use Rattle.reader.specs.declared.Reader.{Reader}
-use Rattle.reader.specs.declared.Placed.{Placed}
+use Rattle.reader.specs.declared.Reached.{Reached}
+
+-- an answer, and the place that it was read at
+pub record Placed : Type 0 where
+  pub start : ℕ
+  pub set : SetRead
+
+abbrev pub reached_told : Reached → Placed
+reached_told r = record { start = r.start; set = set_told r.start r.set }
 
 -- a reader that has read nothing yet
 abbrev pub at_start : Bor (List ℕ) → Reader

@@ -3,10 +3,10 @@
 #![tactic(auto)]
 
 ghost use Rattle.std.specs.Prelude.{◌≡◌};
-ghost use Rattle.reading.specs.Sets.{set_read};
-ghost use Rattle.reader.specs.Walking.{at_start, yields, moved, set_after};
+ghost use Rattle.reading.specs.Sets.{set_told, set_read};
+ghost use Rattle.reader.specs.Walking.{at_start, yields, moved, reached_told, set_after};
 
-use reading::SetRead;
+use reading::{Extent, Malformed};
 
 #[derive(Clone, Copy)]
 pub struct Reader<'a> {
@@ -23,18 +23,20 @@ impl<'a> Reader<'a> {
     }
 
     // The set at the reader's place, which moves past it; an end or a malformed set leaves it.
-    pub fn next(&mut self) -> SetRead
-        ensures { (result ≡ yields self.old) × (self.new ≡ moved self.old) }
+    pub fn next(&mut self) -> Result<Option<Extent>, Malformed>
+        ensures { (set_told self.old.at result ≡ yields self.old) × (self.new ≡ moved self.old) }
     {
-        let set = reading::next_set(self.data, self.at);
+        let Some(set) = reading::next_set(self.data, self.at)? else {
+            return Ok(None);
+        };
         self.at = set.next;
-        set
+        Ok(Some(set))
     }
 }
 
 // The set at a place of the data, by a reader that stands there.
-pub fn read_at(data: &[u8], at: usize) -> SetRead
-    ensures { result ≡ set_read «data».now at }
+pub fn read_at(data: &[u8], at: usize) -> Result<Option<Extent>, Malformed>
+    ensures { set_told at result ≡ set_read «data».now at }
 {
     let mut reader = Reader { data, at };
     reader.next()
@@ -42,29 +44,35 @@ pub fn read_at(data: &[u8], at: usize) -> SetRead
 
 // An answer, and the place that it was read at: its address starts there, its value after the address and '('.
 #[derive(Clone, Copy)]
-pub struct Placed {
+pub struct Reached {
     pub start: usize,
-    pub set: SetRead,
+    pub set: Result<Option<Extent>, Malformed>,
 }
 
 // What a reader answers after so many sets; an end or a malformed set before it is the answer.
-pub fn set_after(data: &[u8], n: usize) -> Placed
-    ensures { result ≡ set_after «data».now n }
+pub fn set_after(data: &[u8], n: usize) -> Reached
+    ensures { reached_told result ≡ set_after «data».now n }
 {
     let mut at = 0;
-    let mut left = n;
-    while 0 < left {
-        let answer = read_at(data, at);
-        let number = answer.number;
-        if number != reading::DONE {
-            return Placed {
-                start: at,
-                set: answer,
-            };
+    for _read in 0..n {
+        match read_at(data, at) {
+            Ok(Some(set)) => at = set.next,
+            Ok(None) => {
+                return Reached {
+                    start: at,
+                    set: Ok(None),
+                };
+            }
+            Err(malformed) => {
+                return Reached {
+                    start: at,
+                    set: Err(malformed),
+                };
+            }
         }
-        at = answer.next;
-        left -= 1;
     }
-    let set = read_at(data, at);
-    Placed { start: at, set }
+    Reached {
+        start: at,
+        set: read_at(data, at),
+    }
 }

@@ -1,16 +1,15 @@
 -- A data set is read by its own characters alone: data that agrees with other data up to the end of a set has that set too. Assumes nothing.
 use mathlib.Core.Path.{◌≡◌, refl, sym, ap, ◌∙◌}
 use mathlib.Core.Bool.{Bool, true, false, cond, ◌&&◌}
-use mathlib.Core.List.{List, [], ◌∷◌, ◌++◌}
-use Prim.Native.Nat.{ℕ, zero, suc, ◌+◌, ◌-◌, ◌<◌, ◌≤◌}
+use mathlib.Core.List.{List, [], ◌∷◌}
+use Prim.Native.Nat.{ℕ, zero, suc, ◌+◌, ◌<◌, ◌≤◌}
 use native.Mathlib.Omega.{arith}
-use borrow.Author.Tests.{leb-true, le-leb, eqb-true, eq-eqb}
+use borrow.Author.Tests.{leb-true, le-leb}
 use lib.Dec.{leb, eqb}
 use lib.ListN.{length, take, drop, get_or, length-take, length-drop}
 use lib.Seq.{length-take-le, take-add, take-take, drop_at, drop-drop, get_or-take, get_or-drop}
-use Rattle.line.proofs.Runs.{and_left, and_right}
-use Rattle.reading.specs.Sets.{of_kind, leading, starts_with3, set_at, is_set, address_length, value_length, set_read}
-use Rattle.reading.specs.declared.SetRead.{SetRead}
+use Rattle.line.proofs.Runs.{and_left}
+use Rattle.reading.specs.Sets.{SetRead, of_kind, leading, starts_with3, set_at, address_length, value_length, set_read}
 use Rattle.reading.proofs.Deciding.{no_end, by_value}
 use Rattle.reading.proofs.Inside.{Tested, tested, shown, set-closed}
 

@@ -1,13 +1,11 @@
 -- The two kinds of character, as the code tests them: one computed test over all 256 bytes each, and one law that reads it. Assumes nothing.
 use mathlib.Core.Path.{◌≡◌, refl, sym}
 use mathlib.Core.Bool.{Bool, true, false, cond, not, ◌&&◌, ◌||◌}
-use mathlib.Core.List.{List, [], ◌∷◌}
 use Prim.Native.Nat.{ℕ, ◌<◌, ◌≤◌}
 use native.Mathlib.Omega.{arith}
 use borrow.Author.Tests.{leb-true, le-leb, ne_eqb}
 use lib.Dec.{eqb, leb}
-use Rattle.line.specs.Runs.{every}
-use Rattle.line.proofs.Runs.{all_below, below_all, and_left, and_right, and_both}
+use Rattle.line.proofs.Runs.{all_below, below_all, and_left, and_right}
 use Rattle.text.specs.Classes.{between, is_digit, is_letter, is_printable, is_address, is_value}
 use Rattle.reading.specs.Sets.{is_plain}
 

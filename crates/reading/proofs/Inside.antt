@@ -8,8 +8,7 @@ use borrow.Author.Tests.{leb-true, leb-false, eqb-true, eq-eqb}
 use lib.Dec.{leb, eqb}
 use lib.ListN.{length, drop, get_or, length-drop}
 use Rattle.line.proofs.Runs.{and_left, and_right, chosen}
-use Rattle.reading.specs.Sets.{starts_with3, end_at, malformed_at, set_at, is_set, address_length, value_length, set_here, set_read}
-use Rattle.reading.specs.declared.SetRead.{SetRead}
+use Rattle.reading.specs.Sets.{SetRead, starts_with3, end_at, malformed_at, set_at, is_set, address_length, value_length, set_here, set_read}
 
 pub record Inside (s : List ℕ) (at : ℕ) (r : SetRead) : Type 0 where
   pub next : r.next ≡ at + r.address_length + 1 + r.value_length + 3

@@ -1,27 +1,22 @@
 -- A count of leading characters: what a turn keeps, and where it stops. Assumes nothing.
 use mathlib.Core.Path.{◌≡◌, refl, ap, ◌∙◌}
 use mathlib.Core.Bool.{Bool, true, false, cond, ◌||◌}
-use mathlib.Core.Logic.{◌⊎◌, inl, inr, ⊎_elim}
+use mathlib.Core.Logic.{◌⊎◌, inl, inr}
 use mathlib.Core.List.{List, [], ◌∷◌}
-use Prim.Native.Nat.{ℕ, zero, suc, ◌+◌, ◌-◌, ◌<◌, ◌≤◌}
+use Prim.Native.Nat.{ℕ, zero, suc, ◌+◌, ◌-◌, ◌<◌, ◌≤◌, min}
 use native.Mathlib.Omega.{arith}
-use borrow.Author.Tests.{leb-true}
+use borrow.Author.Tests.{leb-true, leb-false}
 use lib.Dec.{leb}
 use lib.ListN.{length, take, drop, get_or, drop_of_length-le, length-drop}
 use lib.Seq.{drop-drop, take-add}
 use Rattle.line.proofs.Runs.{left-next, and_left, and_right, every_append}
 use Rattle.line.specs.Runs.{every}
 use Rattle.text.specs.Classes.{is_address, is_value}
-use Rattle.reading.specs.Sets.{of_kind, leading, address_length, value_length, Lesser}
+use Rattle.reading.specs.Sets.{of_kind, leading, address_length, value_length}
 
 pub or_cases : (a b : Bool) → (a || b) ≡ true → (a ≡ true) ⊎ (b ≡ true)
 or_cases true b h = inl refl
 or_cases false b h = inr h
-
--- what is at most either number is at most the lesser
-pub under : (a b r k : ℕ) → Lesser a b r → k ≤ a → k ≤ b → k ≤ r
-under a b r k l ha hb =
-    ⊎_elim (λ e. omega (arith, leb-true a r e)) (λ e. omega (arith, leb-true b r e)) (or_cases (leb a r) (leb b r) l.tight)
 
 module _ (p : ℕ → Bool) where
   leading-nil : (k : ℕ) → leading p k [] ≡ 0
@@ -63,10 +58,13 @@ module _ (p : ℕ → Bool) where
         let e : leading p (most - (i - at)) (drop i s) ≡ 0 = ap (λ (n : ℕ). leading p n (drop i s)) {x = most - (i - at)} {y = 0} (omega arith) in
         omega arith
 
-    pub leading-all : (leb (length s - at) (i - at) || leb most (i - at)) ≡ true → i - at ≡ whole
-    leading-all h =
-        ⊎_elim (λ e. leading_end (omega (arith, leb-true (length s - at) (i - at) e))) (λ e. leading-most (leb-true most (i - at) e))
-        (or_cases (leb (length s - at) (i - at)) (leb most (i - at)) h)
+    -- all that there are, or as many as are looked at
+    pub leading-all : min (length s - at) most ≤ i - at → i - at ≡ whole
+    leading-all h = by_end (leb (length s) i) refl
+      where
+        by_end : (over : Bool) → leb (length s) i ≡ over → i - at ≡ whole
+        by_end true e = leading_end (leb-true (length s) i e)
+        by_end false e = leading-most (omega (arith, h, leb-false (length s) i e))
 
   -- none, at the place itself
   pub none_passed : (s : List ℕ) (at : ℕ) → every p (take (at - at) (drop at s)) ≡ true

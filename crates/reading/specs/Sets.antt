@@ -1,8 +1,9 @@
 -- Document 01, "The head": the data sets of a block, one by one.
-use Rattle.std.specs.Prelude.{◌≡◌, Bool, true, false, cond, not, ◌&&◌, ◌||◌, List, [], ◌∷◌, ℕ, zero, suc, ◌+◌, ◌-◌, ◌≤◌, eqb, leb, length, take, drop, get_or}
+use Rattle.std.specs.Prelude.{◌≡◌, Bool, true, false, cond, not, ◌&&◌, ◌||◌, List, [], ◌∷◌, ℕ, zero, suc, ◌+◌, ◌-◌, ◌≤◌, eqb, leb, length, take, drop, get_or, Option, Some, None, Result, Ok, Err}
 use Rattle.line.specs.Runs.{every}
 use Rattle.text.specs.Classes.{between, is_address, is_value}
-use Rattle.reading.specs.declared.SetRead.{SetRead}
+use Rattle.reading.specs.declared.Extent.{Extent}
+use Rattle.reading.specs.declared.Malformed.{Malformed}
 
 -- a value's digits and letters, and the characters that stand between them in a date, a time or a counter
 unfoldable pub is_plain : ℕ → Bool
@@ -16,11 +17,6 @@ unfoldable pub leading : (ℕ → Bool) → ℕ → List ℕ → ℕ
 leading p zero s = 0
 leading p (suc most) [] = 0
 leading p (suc most) (c ∷ s) = cond (p c) (suc (leading p most s)) 0
-
-pub record Lesser (a b r : ℕ) : Type 0 where
-  pub low : r ≤ a
-  pub high : r ≤ b
-  pub tight : (leb a r || leb b r) ≡ true
 
 -- the characters from a place up to r, within an end, may all stand in a value
 pub record Passes (s : List ℕ) (at end r : ℕ) : Type 0 where
@@ -43,6 +39,14 @@ pub record Leads (value : Bool) (most : ℕ) (s : List ℕ) (r : ℕ) : Type 0 w
 unfoldable pub starts_with3 : ℕ → ℕ → ℕ → List ℕ → Bool
 starts_with3 a b c s = leb 3 (length s) && (eqb (get_or s 0 0) a && (eqb (get_or s 1 0) b && eqb (get_or s 2 0) c))
 
+-- what reading at a place answers: the number, the two lengths, the place to read on, and where a set is malformed its place
+pub record SetRead : Type 0 where
+  pub number : ℕ
+  pub address_length : ℕ
+  pub value_length : ℕ
+  pub next : ℕ
+  pub place : ℕ
+
 abbrev pub end_at : ℕ → SetRead
 end_at at = record { number = 0; address_length = 0; value_length = 0; next = at; place = 0 }
 
@@ -52,6 +56,13 @@ malformed_at at = record { number = 25; address_length = 0; value_length = 0; ne
 -- a set with an address and a value of these lengths
 abbrev pub set_at : ℕ → ℕ → ℕ → SetRead
 set_at at a v = record { number = 1; address_length = a; value_length = v; next = at + a + 1 + v + 3; place = 0 }
+
+-- the answer of the code; at the end and at a malformed set a reader stays
+abbrev pub set_told : ℕ → Result (Option Extent) Malformed → SetRead
+set_told at (Ok (Some set)) =
+    record { number = 1; address_length = set.address_length; value_length = set.value_length; next = set.next; place = 0 }
+set_told at (Ok None) = end_at at
+set_told at (Err malformed) = malformed_at malformed.place
 
 -- address of 1 to 16, '(', value of 0 to 32, ')' CR LF
 unfoldable pub is_set : List ℕ → ℕ → ℕ → Bool

@@ -2,8 +2,7 @@
 use Rattle.std.specs.Prelude.{cond, List, [], ◌∷◌, ℕ, zero, suc, ◌+◌, eqb, length, take, drop}
 use Rattle.line.specs.Quoted.{chars}
 use Rattle.text.specs.DataSet.{DataSet}
-use Rattle.reading.specs.Sets.{set_read}
-use Rattle.reading.specs.declared.SetRead.{SetRead}
+use Rattle.reading.specs.Sets.{SetRead, set_read}
 
 -- ! CR LF
 unfoldable pub last_line : List ℕ

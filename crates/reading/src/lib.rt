@@ -4,9 +4,9 @@
 ghost use Rattle.std.specs.Prelude.{◌≡◌, true, ◌+◌, ◌-◌, ◌≤◌, length, take, drop, get_or};
 ghost use Rattle.line.specs.Runs.{every};
 ghost use Rattle.text.specs.Classes.{is_address, is_value};
-ghost use Rattle.reading.specs.Sets.{is_plain, of_kind, Lesser, Passes, Passed, Leads, starts_with3, end_at, malformed_at, set_read};
+ghost use Rattle.reading.specs.Sets.{is_plain, of_kind, Passes, Passed, Leads, starts_with3, set_told, set_read};
 
-// The answers of document 01.
+// The numbers of document 01 for the end of the data sets, for a data set and for a malformed one.
 pub const END: u8 = 0;
 
 pub const DONE: u8 = 1;
@@ -42,22 +42,13 @@ fn of_kind(value: bool, c: u8) -> bool
     is_address(c)
 }
 
-fn lesser(a: usize, b: usize) -> usize
-    ensures { Lesser a b result }
-{
-    if a < b { a } else { b }
-}
-
 // Whether every byte is a plain one of a value; no way out and two tests a byte, so that eight are tested at once.
 fn all_plain(s: &[u8]) -> bool
     ensures { result ≡ every is_plain s.now }
 {
     let mut ok = true;
-    let mut i = 0;
-    while i < s.len() {
-        let c = s[i];
-        ok = ok & (((42 <= c) & (c <= 126)) & (c != b'/'));
-        i += 1;
+    for c in s {
+        ok &= ((42 <= *c) & (*c <= 126)) & (*c != b'/');
     }
     ok
 }
@@ -83,14 +74,11 @@ fn run(s: &[u8], at: usize, from: usize, value: bool, most: usize) -> usize
     requires { Passed s.now at from value most }
     ensures { Leads value most (drop at s.now) result }
 {
-    let n = lesser(s.len() - at, most);
-    let end = at + n;
-    let mut i = from;
-    while i < end {
+    let n = (s.len() - at).min(most);
+    for i in from..at + n {
         if !of_kind(value, s[i]) {
             return i - at;
         }
-        i += 1;
     }
     n
 }
@@ -100,44 +88,23 @@ fn value_run(s: &[u8], at: usize) -> usize
     requires { at ≤ length s.now }
     ensures { Leads true 33 (drop at s.now) result }
 {
-    let n = lesser(s.len() - at, 33);
+    let n = (s.len() - at).min(33);
     let from = pass_eights(s, at, at + n);
     run(s, at, from, true, 33)
 }
 
+// A data set: how long its address and its value are, and the place after it.
 #[derive(Clone, Copy)]
-pub struct SetRead {
-    pub number: u8,
+pub struct Extent {
     pub address_length: usize,
     pub value_length: usize,
     pub next: usize,
+}
+
+// A data set that is malformed, by the place where it starts.
+#[derive(Clone, Copy)]
+pub struct Malformed {
     pub place: usize,
-}
-
-// The end: the reader stays.
-fn ended(at: usize) -> SetRead
-    ensures { result ≡ end_at at }
-{
-    SetRead {
-        number: END,
-        address_length: 0,
-        value_length: 0,
-        next: at,
-        place: 0,
-    }
-}
-
-// A malformed set: its place, and the reader stays.
-fn malformed(start: usize) -> SetRead
-    ensures { result ≡ malformed_at start }
-{
-    SetRead {
-        number: MALFORMED,
-        address_length: 0,
-        value_length: 0,
-        next: start,
-        place: start,
-    }
 }
 
 // Whether three characters stand from a place on.
@@ -153,44 +120,43 @@ fn three(s: &[u8], at: usize, a: u8, b: u8, c: u8) -> bool
     (s[at] == a) & ((s[second] == b) & (s[third] == c))
 }
 
-// Reads the data set that starts at a place: its address and its value by their lengths, and the place after it.
-pub fn next_set(data: &[u8], at: usize) -> SetRead
-    ensures { result ≡ set_read «data».now at }
+// Reads the data set that starts at a place; none where the sets end.
+pub fn next_set(data: &[u8], at: usize) -> Result<Option<Extent>, Malformed>
+    ensures { set_told at result ≡ set_read «data».now at }
 {
     if data.len() <= at {
-        return ended(at);
+        return Ok(None);
     }
+    let malformed = Malformed { place: at };
     let a = run(data, at, at, false, 17);
     if a == 0 {
         if three(data, at, b'!', 13, 10) {
-            return ended(at);
+            return Ok(None);
         }
-        return malformed(at);
+        return Err(malformed);
     }
     let open = at + a;
     if 16 < a {
-        return malformed(at);
+        return Err(malformed);
     }
     if data.len() <= open {
-        return malformed(at);
+        return Err(malformed);
     }
     if data[open] != b'(' {
-        return malformed(at);
+        return Err(malformed);
     }
     let first = open + 1;
     let v = value_run(data, first);
     let close = first + v;
     if 32 < v {
-        return malformed(at);
+        return Err(malformed);
     }
     if !three(data, close, b')', 13, 10) {
-        return malformed(at);
+        return Err(malformed);
     }
-    SetRead {
-        number: DONE,
+    Ok(Some(Extent {
         address_length: a,
         value_length: v,
         next: close + 3,
-        place: 0,
-    }
+    }))
 }

@@ -4,7 +4,7 @@
 
 ghost use Rattle.std.specs.Prelude.{◌≡◌, ◌≤◌, length, take};
 
-use showing::Shown;
+use showing::Written;
 use std::rt::Env;
 
 // The place of the address among a program's words, behind its own name.
@@ -14,7 +14,7 @@ const ADDRESS: usize = 1;
 const BEYOND: usize = 2;
 
 // What is shown of a reply. A longer address is kept as one of no characters, which no set has either (`unfit-shown`).
-fn shown(rt: &impl Env, reply: &[u8], out: &mut [u8]) -> Shown
+fn shown(rt: &impl Env, reply: &[u8], out: &mut [u8]) -> Written
     requires { 4138 ≤ length out.old }
     ensures within { (result.length ≤ length out.new) × (result.length ≡ length (take result.length out.new)) }
 {
@@ -40,6 +40,5 @@ fn main(rt: HostRuntime) {
     let n = input.length;
     let mut out = [0u8; 4138];
     let shown = shown(&rt, &wire[..n], &mut out);
-    let length = shown.length;
-    streams::write_once(&rt, &out[..length], shown.number == 1);
+    streams::write_once(&rt, &out[..shown.length], shown.refusal.is_none());
 }

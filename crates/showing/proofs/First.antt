@@ -1,5 +1,5 @@
 -- The first data set with an address, shown: the line of the first that the full reading finds, or the refusal. Assumes nothing.
-use mathlib.Core.Path.{◌≡◌, refl, sym, ap, ◌∙◌}
+use mathlib.Core.Path.{◌≡◌, refl, sym, ◌∙◌}
 use mathlib.Core.Bool.{Bool, true, false, cond}
 use mathlib.Core.List.{List, map}
 use Prim.Native.Nat.{ℕ, ◌+◌, ◌≤◌}
@@ -13,10 +13,9 @@ use Rattle.text.specs.Writing.{stored}
 use Rattle.text.proofs.Writing.{stored-holding}
 use Rattle.blocks.specs.Parts.{part_of}
 use Rattle.reading.specs.Whole.{read_all}
-use Rattle.finding.specs.declared.Lookup.{Lookup}
-use Rattle.finding.specs.Finding.{among, position, malformed_after, missing_after, answered, lookup, first_with, pointed_at, end_of, can_be}
+use Rattle.finding.specs.Finding.{Lookup, among, position, malformed_after, missing_after, answered, lookup, first_with, pointed_at, end_of, can_be}
 use Rattle.finding.proofs.Promised.{match-within, finds-first, never-found}
-use Rattle.showing.specs.Shown.{Readout, set_line, refusal_shown, lookup_shown, first_shown, block_shown, reply_shown, register_shown, Shows}
+use Rattle.showing.specs.Shown.{set_line, refusal_shown, lookup_shown, first_shown, block_shown, reply_shown, register_shown, Shows}
 use Rattle.showing.proofs.Going.{whole, address-long, value-long, length-set}
 
 -- where one of the sets up to the end or to a malformed one has the address: the line of the first of them

@@ -2,7 +2,7 @@
 use mathlib.Core.Path.{◌≡◌, refl, sym, ap, ap₂, ◌∙◌}
 use mathlib.Core.Bool.{Bool, true, false, cond, ◌||◌}
 use mathlib.Core.List.{List, [], ◌∷◌, ◌++◌, append-nil, append_assoc}
-use Prim.Native.Nat.{ℕ, zero, suc, ◌+◌, ◌-◌, ◌<◌, ◌≤◌}
+use Prim.Native.Nat.{ℕ, suc, ◌+◌, ◌-◌, ◌<◌, ◌≤◌}
 use native.Mathlib.Nat.{zero-add}
 use native.Mathlib.Omega.{arith}
 use borrow.Author.Tests.{eq-eqb, ne_eqb, le-leb}
@@ -10,16 +10,14 @@ use lib.Dec.{eqb, leb}
 use lib.ListN.{length, take, drop, length-append, length-drop}
 use lib.Seq.{length-take-le}
 use Rattle.text.specs.DataSet.{DataSet}
-use Rattle.text.specs.Writing.{stored, holding}
+use Rattle.text.specs.Writing.{stored}
 use Rattle.text.proofs.Writing.{stored-append, stored-holding}
 use Rattle.numerals.specs.Numerals.{number_line}
 use Rattle.numerals.proofs.Widths.{line-few}
-use Rattle.reading.specs.declared.SetRead.{SetRead}
-use Rattle.reading.specs.Sets.{starts_with3, end_at, malformed_at, set_at, is_set, address_length, value_length, set_here, set_read}
+use Rattle.reading.specs.Sets.{SetRead, starts_with3, end_at, malformed_at, set_at, is_set, address_length, value_length, set_here, set_read}
 use Rattle.reading.specs.Whole.{set_of, Found, also, read_from, read_all}
 use Rattle.reading.proofs.Inside.{Inside, read-inside}
-use Rattle.showing.specs.declared.Shown.{Shown}
-use Rattle.showing.specs.Shown.{Readout, set_line, set_lines, found_shown, sets_shown, Shows}
+use Rattle.showing.specs.Shown.{Shown, Readout, set_line, set_lines, found_shown, sets_shown, Shows}
 
 -- the address and the value at a place, as parts that are lent
 module _ (s : List ℕ) (at a v : ℕ) (inside : at + a + 1 + v ≤ length s) where

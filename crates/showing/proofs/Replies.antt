@@ -1,12 +1,12 @@
 -- From a reply to its data sets: each refusal is shown with its number, and what was stripped is the reply's characters. Assumes nothing.
-use mathlib.Core.Path.{◌≡◌, refl, sym, ap, ◌∙◌}
+use mathlib.Core.Path.{◌≡◌, refl, ap, ◌∙◌}
 use mathlib.Core.Bool.{Bool, true, false, cond}
-use mathlib.Core.List.{List, ◌++◌, map}
+use mathlib.Core.List.{List, map}
 use Prim.Native.Nat.{ℕ, ◌+◌, ◌≤◌}
 use native.Mathlib.Nat.{zero-add}
 use native.Mathlib.Omega.{arith}
 use borrow.Author.Tests.{eq-eqb, ne_eqb}
-use lib.Dec.{eqb, ltb}
+use lib.Dec.{ltb}
 use lib.ListN.{length, take, drop, replicate, length-map, length-drop, length-take}
 use lib.Seq.{take_at}
 use Rattle.line.specs.Characters.{seven, undamaged_all}
@@ -14,11 +14,9 @@ use Rattle.text.specs.Writing.{stored, holding}
 use Rattle.text.proofs.Writing.{stored-holding}
 use Rattle.numerals.specs.Numerals.{number_line}
 use Rattle.numerals.proofs.Widths.{line-few}
-use Rattle.blocks.specs.declared.Stripped.{Stripped}
-use Rattle.blocks.specs.Stripping.{stripped_by, stripped_of, stripped_into}
+use Rattle.blocks.specs.Stripping.{Stripped, stripped_by, stripped_of, stripped_into}
 use Rattle.blocks.specs.Parts.{part_of}
-use Rattle.showing.specs.declared.Shown.{Shown}
-use Rattle.showing.specs.Shown.{Readout, refusal_shown, block_shown, longest, reply_shown, Shows}
+use Rattle.showing.specs.Shown.{Shown, Readout, refusal_shown, block_shown, longest, reply_shown, Shows}
 
 -- a refusal from the front on
 pub refusal-shows : (out : List ℕ) (n place : ℕ) (q : Shown) (after : List ℕ) → 42 ≤ length out

@@ -1,6 +1,7 @@
 -- What is shown of a captured reply, and nothing more: each data set of its block on a line, or the first with an address; for a refusal
 -- its number and the place.
-use Rattle.std.specs.Prelude.{◌≡◌, Bool, cond, List, [], ◌∷◌, ◌++◌, map, ℕ, eqb, length, take, drop, replicate}
+use Rattle.std.specs.Prelude.{◌≡◌, cond, List, [], ◌∷◌, ◌++◌, map, ℕ, eqb, length, take, drop, replicate, Option, Some, None}
+use Rattle.std.specs.Borrow.{Bor}
 use Rattle.line.specs.Characters.{seven}
 use Rattle.line.specs.Controls.{LF}
 use Rattle.line.specs.Quoted.{chars}
@@ -10,9 +11,22 @@ use Rattle.numerals.specs.Numerals.{number_line}
 use Rattle.blocks.specs.Parts.{part_of}
 use Rattle.blocks.specs.Stripping.{stripped_of}
 use Rattle.reading.specs.Whole.{Found, read_all}
-use Rattle.finding.specs.declared.Lookup.{Lookup}
-use Rattle.finding.specs.Finding.{lookup, pointed_at}
-use Rattle.showing.specs.declared.Shown.{Shown}
+use Rattle.finding.specs.Finding.{Lookup, lookup, pointed_at}
+use Rattle.showing.specs.declared.Refusal.{Refusal}
+use Rattle.showing.specs.declared.Written.{Written}
+use Rattle.showing.specs.Refusals.{refusal_number}
+
+-- what is shown: 1 or the number of the refusal, and how many bytes of the buffer are to be written
+pub record Shown : Type 0 where
+  pub number : ℕ
+  pub length : ℕ
+
+abbrev pub number_told : Option Refusal → ℕ
+number_told None = 1
+number_told (Some refusal) = refusal_number refusal
+
+abbrev pub written_told : Written → Shown
+written_told w = record { number = number_told w.refusal; length = w.length }
 
 -- 1, or the number of the refusal; and the text
 pub record Readout : Type 0 where
@@ -50,9 +64,10 @@ lookup_shown s l = cond (eqb l.number 1) (record { number = 1; text = set_line (
 unfoldable pub first_shown : List ℕ → List ℕ → Readout
 first_shown a s = lookup_shown s (lookup s a)
 
--- every data set, or the first with an address
-unfoldable pub wanted_shown : Bool → List ℕ → List ℕ → Readout
-wanted_shown every a = cond every sets_shown (first_shown a)
+-- every data set, or the first with the address that is wanted
+abbrev pub wanted_shown : Option (Bor (List ℕ)) → List ℕ → Readout
+wanted_shown None = sets_shown
+wanted_shown (Some address) = first_shown address.now
 
 -- what is to be shown of a block's data; a block without a part is refused with 22 or 23
 unfoldable pub block_shown : (List ℕ → Readout) → List ℕ → Readout

@@ -5,18 +5,54 @@
 ghost use Rattle.std.specs.Prelude.{◌≡◌, ◌+◌, ◌≤◌, length, take, drop};
 ghost use Rattle.text.specs.Writing.{stored};
 ghost use Rattle.numerals.specs.Numerals.{number_line};
-ghost use Rattle.showing.specs.Shown.{set_line, sets_shown, first_shown, wanted_shown, block_shown, reply_shown, readout_shown, register_shown, Shows};
+ghost use Rattle.showing.specs.Refusals.{refusal_number, refusal_place};
+ghost use Rattle.showing.specs.Shown.{set_line, sets_shown, first_shown, wanted_shown, block_shown, reply_shown, readout_shown, register_shown, written_told, Shows};
+
+use finding::Missed;
 
 // The longest reply that is taken, and room for what is shown of it.
 pub const LONGEST: usize = 4096;
 
 pub const ROOM: usize = 4138;
 
-// What is shown: 1 or the number of the refusal, and how many bytes of the buffer are to be written.
+// Why no more is shown: the reply has no part, a data set is malformed, or none has the address.
 #[derive(Clone, Copy)]
-pub struct Shown {
-    pub number: u8,
+pub enum Refusal {
+    Block(blocks::Refusal),
+    // It starts there.
+    Malformed(usize),
+    Missing,
+}
+
+impl Refusal {
+    // Its number of document 01.
+    fn number(self) -> u8
+        ensures { result ≡ refusal_number self }
+    {
+        match self {
+            Refusal::Block(refusal) => refusal.number(),
+            Refusal::Malformed(_) => reading::MALFORMED,
+            Refusal::Missing => finding::MISSING,
+        }
+    }
+
+    // The place that goes with the number, else 0.
+    fn place(self) -> usize
+        ensures { result ≡ refusal_place self }
+    {
+        match self {
+            Refusal::Block(refusal) => refusal.place(),
+            Refusal::Malformed(place) => place,
+            Refusal::Missing => 0,
+        }
+    }
+}
+
+// How many bytes of the buffer are to be written, and why no more is shown.
+#[derive(Clone, Copy)]
+pub struct Written {
     pub length: usize,
+    pub refusal: Option<Refusal>,
 }
 
 // Puts the data set at a place of some data, given by the lengths of its address and its value, into a buffer.
@@ -35,116 +71,112 @@ fn put_set(out: &mut [u8], to: usize, sets: &[u8], at: usize, address: usize, va
 }
 
 // A refusal, below what is shown so far.
-fn refuse(out: &mut [u8], to: usize, number: u8, place: usize) -> Shown
+fn refuse(out: &mut [u8], to: usize, refusal: Refusal) -> Written
     requires { to + 42 ≤ length out.old }
-    ensures value { result ≡ record { number = number; length = to + length (number_line number place) } }
-    ensures held { out.new ≡ stored out.old to (number_line number place) }
+    ensures value { written_told result ≡ record { number = refusal_number refusal; length = to + length (number_line (refusal_number refusal) (refusal_place refusal)) } }
+    ensures held { out.new ≡ stored out.old to (number_line (refusal_number refusal) (refusal_place refusal)) }
 {
-    let length = numerals::put_line(out, to, number as u64, place as u64);
-    Shown { number, length }
+    let number = refusal.number();
+    let place = refusal.place();
+    Written {
+        length: numerals::put_line(out, to, number as u64, place as u64),
+        refusal: Some(refusal),
+    }
 }
 
 // The data sets one by one, up to the end or a malformed one.
-fn show_sets(sets: &[u8], out: &mut [u8]) -> Shown
+fn show_sets(sets: &[u8], out: &mut [u8]) -> Written
     requires { length sets.now + 42 ≤ length out.old }
-    ensures { Shows (sets_shown sets.now) out.old result out.new }
+    ensures { Shows (sets_shown sets.now) out.old (written_told result) out.new }
 {
     let mut at = 0;
     let mut to = 0;
-    while at < sets.len() {
-        let set = reading::next_set(sets, at);
-        let number = set.number;
-        if number == reading::END {
-            return Shown {
-                number: 1,
-                length: to,
-            };
-        }
-        if number != reading::DONE {
-            return refuse(out, to, number, set.place);
-        }
+    loop {
+        let set = match reading::next_set(sets, at) {
+            Ok(Some(set)) => set,
+            Ok(None) => {
+                return Written {
+                    length: to,
+                    refusal: None,
+                };
+            }
+            Err(set) => return refuse(out, to, Refusal::Malformed(set.place)),
+        };
         to = put_set(out, to, sets, at, set.address_length, set.value_length);
         at = set.next;
-    }
-    Shown {
-        number: 1,
-        length: to,
     }
 }
 
 // The first data set with an address, and nothing behind it.
-fn show_first(sets: &[u8], address: &[u8], out: &mut [u8]) -> Shown
+fn show_first(sets: &[u8], address: &[u8], out: &mut [u8]) -> Written
     requires { length sets.now + 42 ≤ length out.old }
-    ensures { Shows (first_shown address.now sets.now) out.old result out.new }
+    ensures { Shows (first_shown address.now sets.now) out.old (written_told result) out.new }
 {
-    let found = finding::find(sets, address);
-    let number = found.number;
-    if number != reading::DONE {
-        return refuse(out, 0, number, found.place);
+    match finding::find(sets, address) {
+        Ok(set) => Written {
+            length: put_set(
+                out,
+                0,
+                sets,
+                set.address_start,
+                set.address_length,
+                set.value_length,
+            ),
+            refusal: None,
+        },
+        Err(Missed::Malformed { place, .. }) => refuse(out, 0, Refusal::Malformed(place)),
+        Err(Missed::Missing { .. }) => refuse(out, 0, Refusal::Missing),
     }
-    let length = put_set(
-        out,
-        0,
-        sets,
-        found.address_start,
-        found.address_length,
-        found.value_length,
-    );
-    Shown { number: 1, length }
 }
 
-// Every data set, or the first with an address.
-fn show_wanted(sets: &[u8], every: bool, address: &[u8], out: &mut [u8]) -> Shown
+// Every data set, or the first with the address that is wanted.
+fn show_wanted(sets: &[u8], wanted: Option<&[u8]>, out: &mut [u8]) -> Written
     requires { length sets.now + 42 ≤ length out.old }
-    ensures { Shows (wanted_shown every address.now sets.now) out.old result out.new }
+    ensures { Shows (wanted_shown wanted.entry sets.now) out.old (written_told result) out.new }
 {
-    if every {
-        return show_sets(sets, out);
+    match wanted {
+        None => show_sets(sets, out),
+        Some(address) => show_first(sets, address, out),
     }
-    show_first(sets, address, out)
 }
 
 // What a stripped block holds of it.
-fn show_block(block: &[u8], every: bool, address: &[u8], out: &mut [u8]) -> Shown
+fn show_block(block: &[u8], wanted: Option<&[u8]>, out: &mut [u8]) -> Written
     requires { length block.now + 42 ≤ length out.old }
-    ensures { Shows (block_shown (wanted_shown every address.now) block.now) out.old result out.new }
+    ensures { Shows (block_shown (wanted_shown wanted.entry) block.now) out.old (written_told result) out.new }
 {
-    let number = blocks::part_check(block);
-    if number != blocks::DONE {
-        return refuse(out, 0, number, 0);
+    match blocks::find(block) {
+        Ok(sets) => show_wanted(sets, wanted, out),
+        Err(refusal) => refuse(out, 0, Refusal::Block(refusal)),
     }
-    show_wanted(blocks::part(block), every, address, out)
 }
 
 // What a reply holds of it.
-fn show_reply(reply: &[u8], every: bool, address: &[u8], out: &mut [u8]) -> Shown
+fn show_reply(reply: &[u8], wanted: Option<&[u8]>, out: &mut [u8]) -> Written
     requires { 4138 ≤ length out.old }
-    ensures { Shows (reply_shown (wanted_shown every address.now) reply.now) out.old result out.new }
+    ensures { Shows (reply_shown (wanted_shown wanted.entry) reply.now) out.old (written_told result) out.new }
 {
-    let mut plain = [0u8; 4096];
-    let stripped = blocks::strip(reply, &mut plain);
-    let number = stripped.number;
-    if number != blocks::DONE {
-        return refuse(out, 0, number, stripped.place);
+    let mut plain = [0u8; LONGEST];
+    match blocks::strip(reply, &mut plain) {
+        Ok(n) => show_block(&plain[..n], wanted, out),
+        Err(refusal) => refuse(out, 0, Refusal::Block(refusal)),
     }
-    let n = stripped.length;
-    show_block(&plain[..n], every, address, out)
 }
 
 // Every data set of a reply.
-pub fn show(reply: &[u8], out: &mut [u8]) -> Shown
+pub fn show(reply: &[u8], out: &mut [u8]) -> Written
     requires { 4138 ≤ length out.old }
-    ensures shows { Shows (readout_shown reply.now) out.old result out.new }
+    ensures shows { Shows (readout_shown reply.now) out.old (written_told result) out.new }
     ensures within { (result.length ≤ length out.new) × (result.length ≡ length (take result.length out.new)) }
 {
-    show_reply(reply, true, b"", out)
+    show_reply(reply, None, out)
 }
 
 // The first data set of a reply with an address.
-pub fn show_register(reply: &[u8], address: &[u8], out: &mut [u8]) -> Shown
+pub fn show_register(reply: &[u8], address: &[u8], out: &mut [u8]) -> Written
     requires { 4138 ≤ length out.old }
-    ensures shows { Shows (register_shown reply.now address.now) out.old result out.new }
+    ensures shows { Shows (register_shown reply.now address.now) out.old (written_told result) out.new }
     ensures within { (result.length ≤ length out.new) × (result.length ≡ length (take result.length out.new)) }
 {
-    show_reply(reply, false, address, out)
+    show_reply(reply, Some(address), out)
 }

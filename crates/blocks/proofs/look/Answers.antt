@@ -26,27 +26,27 @@ and-across true false true y = refl
 and-across true false false y = refl
 and-across false x q y = refl
 
-pub loop-i-init : goal.loop-i-init
-loop-i-init c = (omega arith, refl, bcc-start _)
+pub loop-c-init : goal.loop-c-init
+loop-c-init c = (omega arith, refl, bcc-start _)
 
-pub loop-i-preserved : goal.loop-i-preserved
+pub loop-c-preserved : goal.loop-c-preserved
 unfolding is_content
-loop-i-preserved c =
+loop-c-preserved c =
     let s = c.args.s.now in
-    let i = c.loop-i.i in
-    let most = c.loop-i.most in
-    let clear = c.loop-i.clear in
-    let h = c.loop-i-test.true in (
+    let i = c.loop-c.c-index in
+    let most = c.loop-c.most in
+    let clear = c.loop-c.clear in
+    let h = c.loop-c-test.true in (
       omega arith,
-      rw (c.larger-most.ensures, max-leb most (get_or s i 0) 127, and-across (leb most 127) (leb (get_or s i 0) 127) clear (not (eqb (get_or s i 0) 3))) (every-turn is_content s i (leb most 127 && clear) _ h c.loop-i.invariant.1),
-      bcc-turn s i c.loop-i.sum _ h c.loop-i.invariant.2,
+      rw (c.max-most.ensures, max-leb most (get_or s i 0) 127, and-across (leb most 127) (leb (get_or s i 0) 127) clear (not (eqb (get_or s i 0) 3))) (every-turn is_content s i (leb most 127 && clear) _ h c.loop-c.invariant.1),
+      bcc-turn s i c.loop-c.sum _ h c.loop-c.invariant.2,
     )
 
 pub returns : goal.returns
 returns c =
     let s = c.args.s.now in
-    let at-loop = c.loop-i in
-    let left = c.loop-i-test.false in
+    let at-loop = c.loop-c in
+    let left = c.loop-c-test.false in
     ap₂ (λ (plain : Bool) (sum : ℕ). record { plain = plain; sum = sum })
-    (every-end is_content s at-loop.i (leb at-loop.most 127 && at-loop.clear) _ left at-loop.invariant.1)
-    (c.character.ensures ∙ bcc-end s at-loop.i at-loop.sum _ left at-loop.invariant.2)
+    (every-end is_content s at-loop.c-index (leb at-loop.most 127 && at-loop.clear) _ left at-loop.invariant.1)
+    (c.character.ensures ∙ bcc-end s at-loop.c-index at-loop.sum _ left at-loop.invariant.2)

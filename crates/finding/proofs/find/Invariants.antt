@@ -1,12 +1,7 @@
 -- `finding::find` meets its contract: the search from the place reached is the lookup. Assumes nothing.
-use mathlib.Core.Path.{◌≡◌, sym, ◌∙◌}
-use mathlib.Core.Bool.{true, false}
 use Prim.Native.Nat.{◌-◌}
-use native.Mathlib.Omega.{arith}
-use borrow.Author.Tests.{not-true}
 use lib.ListN.{length}
-use Rattle.reading.proofs.Inside.{Inside, read-inside}
-use Rattle.finding.proofs.Finding.{Sought, none-sought, ends, hits, goes_on}
+use Rattle.finding.proofs.Finding.{Sought}
 use Rattle.finding.proofs.find.Given as goal
 
 abbrev pub invariant-loop-set : goal.invariant-loop-set

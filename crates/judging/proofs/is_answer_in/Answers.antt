@@ -1,13 +1,19 @@
--- `judging::is_answer_in` meets its contract: it asks for the number, then looks at the part. Assumes nothing.
+-- `judging::is_answer_in` meets its contract: it looks at the part where there is one. Assumes nothing.
+use mathlib.Core.Path.{sym, ap, ◌∙◌}
 use borrow.Author.Tests.{eq-eqb, ne_eqb}
+use Rattle.blocks.specs.Parts.{PartAt}
+use Rattle.blocks.proofs.Refusals.{not-done}
 use Rattle.judging.specs.Right.{answers_in, data_in}
-use borrow.Author.Rules.{rules}
 use Rattle.judging.proofs.is_answer_in.Goals as goal
 
-pub returns-then-part_check-ne-DONE : goal.returns-then-part_check-ne-DONE
+pub returns-in-Err : goal.returns-in-Err
 unfolding answers_in data_in
-returns-then-part_check-ne-DONE c = rw (← c.part_check.ensures, ne_eqb _ _ c.if-part_check-ne-DONE.true)
+returns-in-Err c =
+    let e = ap (λ (p : PartAt). p.number) c.in-Err.ensures.within.is in
+    rw (ne_eqb _ 1 (λ k. not-done _ (e ∙ k)))
 
-pub returns : goal.returns
+pub returns-in-Ok : goal.returns-in-Ok
 unfolding answers_in data_in
-returns c = rw (← c.part_check.ensures, eq-eqb _ _ c.if-part_check-ne-DONE.false, c.tells_asked.ensures, c.part.ensures.result_value)
+returns-in-Ok c =
+    let e = ap (λ (p : PartAt). p.number) c.in-Ok.ensures.within.is in
+    rw (eq-eqb _ 1 (sym e), c.tells_asked.ensures, c.in-Ok.ensures.value)

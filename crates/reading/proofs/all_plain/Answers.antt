@@ -1,25 +1,21 @@
 -- `reading::all_plain` meets its contract: the flag, with what is left, says it of the whole. Assumes nothing.
-use mathlib.Core.Path.{◌≡◌, refl}
-use mathlib.Core.Bool.{◌&&◌}
-use Prim.Native.Nat.{◌≤◌, ◌-◌}
+use mathlib.Core.Path.{refl}
 use native.Mathlib.Omega.{arith}
-use lib.ListN.{length, drop}
-use Rattle.line.specs.Runs.{every}
 use Rattle.line.proofs.Runs.{every-turn, every-end}
 use Rattle.text.specs.Classes.{between}
 use Rattle.reading.specs.Sets.{is_plain}
 use Rattle.reading.proofs.all_plain.Goals as goal
 
-pub loop-i-init : goal.loop-i-init
-loop-i-init c = (omega arith, refl)
+pub loop-c-init : goal.loop-c-init
+loop-c-init c = (omega arith, refl)
 
-pub loop-i-preserved : goal.loop-i-preserved
+pub loop-c-preserved : goal.loop-c-preserved
 unfolding between is_plain
-loop-i-preserved c =
+loop-c-preserved c =
     let a = c.args in
-    (omega arith, every-turn is_plain a.s.now c.loop-i.i c.loop-i.ok _ c.loop-i-test.true c.loop-i.invariant.1)
+    (omega arith, every-turn is_plain a.s.now c.loop-c.c-index c.loop-c.ok _ c.loop-c-test.true c.loop-c.invariant.1)
 
 pub returns : goal.returns
 returns c =
     let a = c.args in
-    every-end is_plain a.s.now c.loop-i.i c.loop-i.ok _ c.loop-i-test.false c.loop-i.invariant.1
+    every-end is_plain a.s.now c.loop-c.c-index c.loop-c.ok _ c.loop-c-test.false c.loop-c.invariant.1

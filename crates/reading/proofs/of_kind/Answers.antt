@@ -1,5 +1,4 @@
 -- `reading::of_kind` meets its contract: one kind or the other. Assumes nothing.
-use borrow.Author.Rules.{rules}
 use Rattle.reading.specs.Sets.{of_kind}
 use Rattle.reading.proofs.of_kind.Goals as goal
 

@@ -1,10 +1,9 @@
 -- `reading::pass_eights` meets its contract: what was passed may all stand in a value. Assumes nothing.
 use mathlib.Core.Path.{◌≡◌, sym, ◌∙◌}
 use mathlib.Core.Bool.{true}
-use Prim.Native.Nat.{◌+◌, ◌-◌, ◌≤◌}
+use Prim.Native.Nat.{◌+◌, ◌-◌}
 use native.Mathlib.Omega.{arith}
-use borrow.Author.Tests.{not-false}
-use lib.ListN.{length, take, drop}
+use lib.ListN.{take, drop}
 use Rattle.line.proofs.Runs.{every-weaker}
 use Rattle.line.specs.Runs.{every}
 use Rattle.text.specs.Classes.{is_value}

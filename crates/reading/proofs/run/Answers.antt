@@ -1,20 +1,17 @@
 -- `reading::run` meets its contract: those passed, with those that lead what is left, are those that lead the whole. Assumes nothing.
 use mathlib.Core.Path.{◌≡◌, refl, sym, ◌∙◌}
 use mathlib.Core.Bool.{true, false}
-use Prim.Native.Nat.{◌+◌, ◌-◌, ◌≤◌, ◌<◌}
+use Prim.Native.Nat.{◌-◌, ◌<◌}
 use native.Mathlib.Omega.{arith}
-use borrow.Author.Tests.{not-true, not-false}
-use lib.ListN.{length, drop, length-drop}
-use Rattle.reading.specs.Sets.{of_kind, leading}
-use Rattle.reading.proofs.Leading.{leading-turn, leading-stop, leading-all, under}
+use lib.ListN.{length, length-drop}
+use Rattle.reading.specs.Sets.{of_kind}
+use Rattle.reading.proofs.Leading.{leading-turn, leading-stop, leading-all}
 use Rattle.reading.proofs.run.Goals as goal
 
 pub loop-i-init : goal.loop-i-init
 loop-i-init c =
     let a = c.args in
     let pre = c.requires in
-    let few : a.from - a.at ≤ c.lesser-n.result =
-    under (length a.s.now - a.at) a.most c.lesser-n.result (a.from - a.at) c.lesser-n.ensures (omega (arith, pre.there)) pre.few in
     (pre.from, omega arith, refl, omega arith, omega arith, pre.lead)
 
 pub returns-then-not-of_kind : goal.returns-then-not-of_kind
@@ -47,10 +44,10 @@ pub returns : goal.returns
 returns c =
     let a = c.args in
     let i = c.loop-i.i in
-    let n = c.lesser-n.result in
+    let n = c.min-n.result in
     let e : i - a.at ≡ n = omega arith in
     let inv = c.loop-i.invariant in
     record {
-      is = sym e ∙ leading-all (of_kind a.value) a.s.now a.at a.most i _ inv.0 inv.5 (rw e c.lesser-n.ensures.tight);
+      is = sym e ∙ leading-all (of_kind a.value) a.s.now a.at a.most i _ inv.0 inv.5 (omega (arith, e, c.min-n.ensures));
       there = omega (arith, length-drop a.at a.s.now);
     }

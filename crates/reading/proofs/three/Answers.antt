@@ -3,7 +3,6 @@ use Prim.Native.Nat.{◌≤◌, ◌<◌}
 use native.Mathlib.Omega.{arith}
 use native.Mathlib.Nat.{add-zero}
 use borrow.Author.Tests.{le-leb, lt-leb}
-use borrow.Author.Rules.{rules}
 use lib.Seq.{get_or-drop}
 use lib.ListN.{length, drop, length-drop}
 use Rattle.reading.specs.Sets.{starts_with3}

@@ -1,14 +1,13 @@
 -- `showing::put_set` meets its contract: address, space, value and LF, put in one after the other. Assumes nothing.
 use mathlib.Core.Path.{ap, ap₂, ◌∙◌}
 use mathlib.Core.List.{List, [], ◌∷◌, ◌++◌}
-use Prim.Native.Nat.{ℕ, ◌+◌, ◌-◌}
+use Prim.Native.Nat.{ℕ}
 use native.Mathlib.Omega.{arith}
-use lib.ListN.{length, take, drop}
+use lib.ListN.{length}
 use Rattle.text.specs.Writing.{stored}
 use Rattle.numerals.proofs.Begun.{four-put}
 use Rattle.showing.specs.Shown.{set_line}
 use Rattle.showing.proofs.Going.{address-lent, value_lent, address-long, value-long}
-use borrow.Author.Rules.{rules}
 use Rattle.showing.proofs.put_set.Goals as goal
 
 pub returns : goal.returns

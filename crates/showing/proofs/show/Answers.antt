@@ -1,11 +1,10 @@
--- `showing::show` meets its contract: every data set is wanted, and what the buffer begins with is within it. Assumes nothing.
+-- `showing::show` meets its contract. Assumes nothing.
 use Rattle.numerals.proofs.Begun.{begun}
-use Rattle.showing.specs.Shown.{wanted_shown, readout_shown}
-use borrow.Author.Rules.{rules}
+use Rattle.showing.specs.Shown.{readout_shown, register_shown}
 use Rattle.showing.proofs.show.Goals as goal
 
 pub returns : goal.returns
-unfolding readout_shown wanted_shown
+unfolding readout_shown register_shown
 returns c =
     let a = c.args in
     let s = c.show_reply.ensures in

@@ -1,25 +1,24 @@
 -- `showing::show_block` meets its contract: the number of a refusal, or what is wanted of the part. Assumes nothing.
+use mathlib.Core.Path.{refl, ap}
 use native.Mathlib.Omega.{arith}
-use Rattle.blocks.specs.Parts.{part_of}
+use Rattle.blocks.specs.Parts.{PartAt}
+use Rattle.blocks.specs.Refusals.{number_of, place_of}
+use Rattle.blocks.proofs.Refusals.{not-done, placeless}
 use Rattle.showing.specs.Shown.{wanted_shown}
-use Rattle.showing.proofs.Replies.{refusal-shows, part-short, block_refused, block-shown}
-use borrow.Author.Rules.{rules}
+use Rattle.showing.proofs.Replies.{refusal-shows, block_refused, block-shown}
 use Rattle.showing.proofs.show_block.Goals as goal
 
-pub returns-then-number-ne-DONE : goal.returns-then-number-ne-DONE
-returns-then-number-ne-DONE c = let a = c.args in
-    let shown = wanted_shown a.every a.address.now in
-    let n = c.part_check-number in
+pub returns-in-Ok : goal.returns-in-Ok
+returns-in-Ok c =
+    let a = c.args in
+    let found = c.in-Ok.ensures in
+    rw (block-shown (wanted_shown a.wanted) a.block.now 1 (ap (λ (p : PartAt). p.number) found.within.is) refl _ found.value) c.show_wanted.ensures
+
+pub returns-in-Err : goal.returns-in-Err
+returns-in-Err c =
+    let a = c.args in
+    let r = c.in-Err.refusal in
+    let within = c.in-Err.ensures.within in
     let said = c.refuse.ensures in
-    rw (block_refused shown a.block.now n.result n.ensures c.if-number-ne-DONE.true) (refusal-shows a.out.now n.result 0 _ _ (omega arith) said.value said.held)
-
-pub show_wanted-requires : goal.show_wanted-requires
-show_wanted-requires c = let a = c.args in
-    omega (arith, c.requires, part-short (part_of a.block.now).length (part_of a.block.now).start a.block.now _ c.part.ensures.result_value)
-
-pub returns : goal.returns
-returns c = let a = c.args in
-    let shown = wanted_shown a.every a.address.now in
-    let n = c.part_check-number in
-    let part = c.part in
-    rw (block-shown shown a.block.now n.result n.ensures c.if-number-ne-DONE.false _ part.ensures.result_value) c.show_wanted.ensures
+    let shows = refusal-shows a.out.now (number_of r) (place_of r) _ _ (omega (arith, c.requires)) said.value said.held in
+    rw (block_refused (wanted_shown a.wanted) a.block.now (number_of r) (ap (λ (p : PartAt). p.number) within.is) (not-done r)) (rw (placeless a.block.now r within) at shows)

@@ -1,28 +1,32 @@
 -- `showing::show_first` meets its contract: the line of what the lookup points at, or the refusal. Assumes nothing.
+use mathlib.Core.Path.{refl}
 use native.Mathlib.Omega.{arith}
 use Rattle.showing.proofs.Replies.{refusal-shows}
 use Rattle.showing.proofs.First.{miss-shown, hit-inside, hit-shows}
-use borrow.Author.Rules.{rules}
 use Rattle.showing.proofs.show_first.Goals as goal
 
-pub returns-then-number-ne-DONE : goal.returns-then-number-ne-DONE
-returns-then-number-ne-DONE c =
+pub put_set-requires : goal.put_set-requires
+put_set-requires c =
     let a = c.args in
-    let l = c.find-found in
-    let said = c.refuse.ensures in
-    rw (miss-shown a.sets.now a.address.now l.result l.ensures c.if-number-ne-DONE.true)
-    (refusal-shows a.out.now l.result.number l.result.place _ _ (omega (arith, c.requires)) said.value said.held)
-
-pub put_set-length-requires : goal.put_set-length-requires
-put_set-length-requires c =
-    let a = c.args in
-    let l = c.find-found in
-    let inside = hit-inside a.sets.now a.address.now l.result l.ensures c.if-number-ne-DONE.false in
+    let inside = hit-inside a.sets.now a.address.now _ c.in-Ok.ensures refl in
     (inside, omega (arith, inside, c.requires))
 
-pub returns : goal.returns
-returns c =
+pub returns-in-Ok : goal.returns-in-Ok
+returns-in-Ok c =
     let a = c.args in
-    let l = c.find-found in
-    let line = c.put_set-length.ensures in
-    hit-shows a.sets.now a.address.now l.result l.ensures c.if-number-ne-DONE.false a.out.now c.requires _ line.next _ line.held
+    let line = c.put_set.ensures in
+    hit-shows a.sets.now a.address.now _ c.in-Ok.ensures refl a.out.now c.requires _ line.next _ line.held
+
+pub returns-in-Err-Malformed : goal.returns-in-Err-Malformed
+returns-in-Err-Malformed c =
+    let a = c.args in
+    let said = c.refuse.ensures in
+    rw (miss-shown a.sets.now a.address.now _ (rw c.in-Err-Malformed.field-0-is at c.in-Err-Malformed.ensures) (λ k. omega (arith, k)))
+    (refusal-shows a.out.now 25 c.in-Err-Malformed.place _ _ (omega (arith, c.requires)) said.value said.held)
+
+pub returns-in-Err-Missing : goal.returns-in-Err-Missing
+returns-in-Err-Missing c =
+    let a = c.args in
+    let said = c.refuse-in-Err-Missing.ensures in
+    rw (miss-shown a.sets.now a.address.now _ (rw c.in-Err-Missing.field-0-is at c.in-Err-Missing.ensures) (λ k. omega (arith, k)))
+    (refusal-shows a.out.now 27 0 _ _ (omega (arith, c.requires)) said.value said.held)
