@@ -3,7 +3,7 @@
 
 ghost use Rattle.std.specs.Prelude.{◌≡◌, map, ◌≤◌, length};
 ghost use Rattle.line.specs.Characters.{seven};
-ghost use Rattle.judging.specs.Lines.{is_line, value_in};
+ghost use Rattle.judging.specs.Lines.{ReadsLine};
 ghost use Rattle.judging.specs.Right.{identifies, asks_password, accepts, refuses, tells_time, tells_date, tells_clock, tells_serial, tells_account, tells_counter, tells_energy, tells_export, tells_row, tells, answers_in, answers};
 
 use values::TableNo;
@@ -41,44 +41,31 @@ pub fn is_nak(reply: &[u8]) -> bool
     text::same(reply, b"\x95")
 }
 
-// Whether some data is one line that opens with an address and its bracket.
-fn is_line(opening: &[u8], s: &[u8]) -> bool
-    requires { length opening.now ≤ 16 }
-    ensures { result ≡ is_line opening.now s.now }
+// The value of the one line that some data is; it opens with an address and its bracket.
+fn line_value<'a>(opening: &[u8], s: &'a [u8]) -> Option<&'a [u8]>
+    ensures { ReadsLine opening.now s.now result }
 {
-    let n = opening.len();
-    if s.len() < n + 3 {
-        return false;
-    }
-    text::same(text::first(s, n), opening) & text::same(text::rest(s, s.len() - 3), &CLOSING)
-}
-
-// The value of such a line; nothing where it is too short.
-fn value_in<'a>(opening: &[u8], s: &'a [u8]) -> &'a [u8]
-    requires { length opening.now ≤ 16 }
-    ensures { result.now ≡ value_in opening.now s.now }
-{
-    let n = opening.len();
-    if s.len() < n + 3 {
-        return text::first(s, 0);
-    }
-    text::first(text::rest(s, n), s.len() - (n + 3))
+    s.strip_prefix(opening)?.strip_suffix(&CLOSING)
 }
 
 // The time's line.
 fn tells_time(s: &[u8]) -> bool
     ensures { result ≡ tells_time s.now }
 {
-    let read = values::reading::read_time(value_in(b"0.9.1(", s));
-    is_line(b"0.9.1(", s) & read.is_some()
+    match line_value(b"0.9.1(", s) {
+        Some(value) => values::reading::read_time(value).is_some(),
+        None => false,
+    }
 }
 
 // The date's line.
 fn tells_date(s: &[u8]) -> bool
     ensures { result ≡ tells_date s.now }
 {
-    let read = values::reading::read_date(value_in(b"0.9.2(", s));
-    is_line(b"0.9.2(", s) & read.is_some()
+    match line_value(b"0.9.2(", s) {
+        Some(value) => values::reading::read_date(value).is_some(),
+        None => false,
+    }
 }
 
 // Both, in the order of the answer to T().
@@ -91,36 +78,42 @@ fn tells_clock(s: &[u8]) -> bool
 fn tells_serial(s: &[u8]) -> bool
     ensures { result ≡ tells_serial s.now }
 {
-    let read = values::characters::read_serial(value_in(b"C.1.0(", s));
-    is_line(b"C.1.0(", s) & read.is_some()
+    match line_value(b"C.1.0(", s) {
+        Some(value) => values::characters::read_serial(value).is_some(),
+        None => false,
+    }
 }
 
 fn tells_account(s: &[u8]) -> bool
     ensures { result ≡ tells_account s.now }
 {
-    let good = values::is_account(value_in(b"0.0.0(", s));
-    is_line(b"0.0.0(", s) & good
+    match line_value(b"0.0.0(", s) {
+        Some(value) => values::is_account(value),
+        None => false,
+    }
 }
 
 // A counter at an address, as a family shows it.
 fn tells_counter(family: u8, opening: &[u8], s: &[u8]) -> bool
-    requires { length opening.now ≤ 16 }
     ensures { result ≡ tells_counter family opening.now s.now }
 {
-    let read = values::reading::read_counter(value_in(opening, s), family);
-    is_line(opening, s) & read.is_some()
+    match line_value(opening, s) {
+        Some(value) => values::reading::read_counter(value, family).is_some(),
+        None => false,
+    }
 }
 
 // An energy at the address of the one asked; 0 is the total.
 fn tells_energy(family: u8, n: u8, s: &[u8]) -> bool
     ensures { result ≡ tells_energy family n s.now }
 {
-    let digit = b'0' + n % 10;
     if family == 0 {
-        let opening = [b'1', b'5', b'.', b'8', b'.', digit, b'('];
+        let mut opening = *b"15.8.0(";
+        opening[5] += n % 10;
         return tells_counter(family, &opening, s);
     }
-    let opening = [b'1', b'.', b'8', b'.', digit, b'('];
+    let mut opening = *b"1.8.0(";
+    opening[4] += n % 10;
     tells_counter(family, &opening, s)
 }
 
@@ -128,7 +121,8 @@ fn tells_energy(family: u8, n: u8, s: &[u8]) -> bool
 fn tells_export(family: u8, n: u8, s: &[u8]) -> bool
     ensures { result ≡ tells_export family n s.now }
 {
-    let opening = [b'2', b'.', b'8', b'.', b'0' + n % 10, b'('];
+    let mut opening = *b"2.8.0(";
+    opening[4] += n % 10;
     tells_counter(family, &opening, s)
 }
 
@@ -136,44 +130,29 @@ fn tells_export(family: u8, n: u8, s: &[u8]) -> bool
 fn tells_row(n: u8, s: &[u8]) -> bool
     ensures { result ≡ tells_row n s.now }
 {
-    let opening = [
-        b'1',
-        b'3',
-        b'1',
-        b'.',
-        b'0',
-        b'.',
-        b'0' + n / 10 % 10,
-        b'0' + n % 10,
-        b'(',
-    ];
-    let good = values::is_row(value_in(&opening, s));
-    is_line(&opening, s) & good
+    let mut opening = *b"131.0.00(";
+    opening[6] += n / 10 % 10;
+    opening[7] += n % 10;
+    match line_value(&opening, s) {
+        Some(value) => values::is_row(value),
+        None => false,
+    }
 }
 
 // Just the lines that a read asked for, of a meter of a family: a letter of R1, with its number.
+#[tactic(auto, unfolding(crate::specs::Right::tells))]
 fn tells_asked(family: u8, letter: u8, n: u8, s: &[u8]) -> bool
     ensures { result ≡ tells family letter n s.now }
 {
-    if letter == b'T' {
-        return tells_clock(s);
+    match letter {
+        b'T' => tells_clock(s),
+        b'L' => tells_serial(s),
+        b'K' => tells_account(s),
+        b'E' => tells_energy(family, n, s),
+        b'G' => tells_export(family, n, s),
+        b'Z' => tells_row(n, s),
+        _ => false,
     }
-    if letter == b'L' {
-        return tells_serial(s);
-    }
-    if letter == b'K' {
-        return tells_account(s);
-    }
-    if letter == b'E' {
-        return tells_energy(family, n, s);
-    }
-    if letter == b'G' {
-        return tells_export(family, n, s);
-    }
-    if letter == b'Z' {
-        return tells_row(n, s);
-    }
-    false
 }
 
 // A block that strips and parts, and whose data is those lines. None of these has more than 64 bytes.

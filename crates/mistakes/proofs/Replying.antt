@@ -31,7 +31,7 @@ use Rattle.finding.specs.Finding.{Lookup, among, position, answered, lookup}
 use Rattle.headlink.specs.Telling.{value_number, eqm_told}
 use Rattle.headlink.specs.declared.fields.Counted.{Counted}
 use Rattle.mistakes.specs.Samples.{serial, twos}
-use Rattle.mistakes.specs.Replying.{block, mis_summed, two_sets, same_twice, bad_first, Damage, Blocks, Sets, Readers, Walks, Finds, Fields}
+use Rattle.mistakes.specs.Replying.{block, mis_summed, two_sets, same_twice, bad_first, Damage, Blocks, Refusals, Sets, Readers, Walks, Finds, Fields}
 use Rattle.mistakes.proofs.Differing.{seen, number, byte, long}
 
 pub damage : Damage
@@ -50,6 +50,9 @@ blocks =
       swaps-start-and-length = seen (λ (p : PartAt). p.length) refl;
       part = (long refl, long refl);
     }
+
+pub refusals : Refusals
+refusals = record { number = (number refl, number refl); place = (number refl, number refl) }
 
 pub sets : Sets × Readers × Walks
 unfolding every between is_digit is_letter is_printable is_address is_value of_kind leading starts_with3 is_set address_length value_length set_here set_read place_after data_set two_sets

@@ -9,6 +9,8 @@ use Rattle.values.specs.Serials.{serial_read, account_read, row_read}
 use Rattle.frames.specs.Frames.{block_of}
 use Rattle.datasets.specs.Sets.{data_set}
 use Rattle.damage.specs.First.{first_damaged}
+use Rattle.blocks.specs.declared.Refusal.TheVariants.{WrongBcc, Damaged, Short}
+use Rattle.blocks.specs.Refusals.{number_of, place_of}
 use Rattle.blocks.specs.Stripping.{Stripped, Strips}
 use Rattle.blocks.specs.Parts.{part_of, Within}
 use Rattle.reading.specs.Sets.{end_at, malformed_at, set_at, set_read}
@@ -58,6 +60,13 @@ pub record Blocks : Type 0 where
   pub swaps-start-and-length : RuledOut (part_of (block_of (chars "HH"))) (record { number = 1; start = 2; length = 1 })
   -- the ETX in the part; the data of a block with a wrong BCC
   pub part : RuledOut (part_in block) (chars "H" ++ ETX ∷ []) × RuledOut (part_in mis_summed) (chars "H")
+
+-- of `blocks::Refusal`
+pub record Refusals : Type 0 where
+  -- 22 for a wrong BCC; 24 for too short a buffer
+  pub number : RuledOut (number_of WrongBcc) 22 × RuledOut (number_of Short) 24
+  -- no place; the place after it
+  pub place : RuledOut (place_of (Damaged 2)) 0 × RuledOut (place_of (Damaged 2)) 3
 
 -- of `reading`
 pub record Sets : Type 0 where

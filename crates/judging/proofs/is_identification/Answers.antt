@@ -4,7 +4,6 @@ use Rattle.judging.specs.Right.{identifies}
 use Rattle.replies.specs.Fixed.{identification}
 use Rattle.line.specs.Characters.{seven, sent}
 use lib.Count.{ones}
-use borrow.Author.Rules.{rules}
 use Rattle.judging.proofs.is_identification.Goals as goal
 
 pub returns-then-edition-eq2 : goal.returns-then-edition-eq2

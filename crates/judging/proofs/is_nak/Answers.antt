@@ -2,7 +2,6 @@
 use Rattle.judging.specs.Right.{refuses}
 use Rattle.line.specs.Characters.{seven, sent}
 use lib.Count.{ones}
-use borrow.Author.Rules.{rules}
 use Rattle.judging.proofs.is_nak.Goals as goal
 
 pub returns : goal.returns

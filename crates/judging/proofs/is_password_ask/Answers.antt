@@ -6,7 +6,6 @@ use Rattle.replies.specs.Fixed.{password_ask}
 use Rattle.frames.specs.Frames.{frame_of, closed}
 use Rattle.frames.specs.Commands.{bracketed}
 use Rattle.line.specs.Checksum.{bcc_of}
-use borrow.Author.Rules.{rules}
 use Rattle.judging.proofs.is_password_ask.Goals as goal
 
 pub returns : goal.returns

@@ -1,6 +1,5 @@
 -- `judging::tells_clock` meets its contract: the first line, and the rest. Assumes nothing.
 use Rattle.judging.specs.Right.{tells_clock}
-use borrow.Author.Rules.{rules}
 use Rattle.judging.proofs.tells_clock.Goals as goal
 
 pub returns : goal.returns

@@ -4,6 +4,11 @@ use Rattle.values.specs.Reading.{CounterRead}
 use Rattle.judging.specs.Right.{tells_counter}
 use Rattle.judging.proofs.tells_counter.Goals as goal
 
-pub returns : goal.returns
+pub returns-in-Some : goal.returns-in-Some
 unfolding tells_counter
-returns c = rw (c.is_line.ensures, c.is_some.ensures, ap (λ (r : CounterRead). r.ok) c.read_counter-read.ensures, c.value_in.ensures)
+returns-in-Some c =
+    rw (c.in-Some.ensures.0, ← c.in-Some.ensures.1, c.is_some.ensures, ap (λ (r : CounterRead). r.ok) c.read_counter.ensures)
+
+pub returns-in-None : goal.returns-in-None
+unfolding tells_counter
+returns-in-None c = rw c.in-None.ensures

@@ -3,7 +3,6 @@ use borrow.Author.Tests.{eq-eqb, ne_eqb}
 use Rattle.text.specs.Decimal.{decimal}
 use Rattle.values.specs.Family.{import_name}
 use Rattle.judging.specs.Right.{tells_energy}
-use borrow.Author.Rules.{rules}
 use Rattle.judging.proofs.tells_energy.Goals as goal
 
 pub returns-then-family-eq0 : goal.returns-then-family-eq0

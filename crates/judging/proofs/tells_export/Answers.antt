@@ -1,7 +1,6 @@
 -- `judging::tells_export` meets its contract: the address is that of what went out. Assumes nothing.
 use Rattle.text.specs.Decimal.{decimal}
 use Rattle.judging.specs.Right.{tells_export}
-use borrow.Author.Rules.{rules}
 use Rattle.judging.proofs.tells_export.Goals as goal
 
 pub returns : goal.returns

@@ -4,6 +4,11 @@ use Rattle.values.specs.Serials.{SerialRead}
 use Rattle.judging.specs.Right.{tells_serial}
 use Rattle.judging.proofs.tells_serial.Goals as goal
 
-pub returns : goal.returns
+pub returns-in-Some : goal.returns-in-Some
 unfolding tells_serial
-returns c = rw (c.is_line.ensures, c.is_some.ensures, ap (λ (r : SerialRead). r.ok) c.read_serial-read.ensures, c.value_in.ensures)
+returns-in-Some c =
+    rw (c.in-Some.ensures.0, ← c.in-Some.ensures.1, c.is_some.ensures, ap (λ (r : SerialRead). r.ok) c.read_serial.ensures)
+
+pub returns-in-None : goal.returns-in-None
+unfolding tells_serial
+returns-in-None c = rw c.in-None.ensures
