@@ -1,14 +1,14 @@
 -- A count of leading characters: what a turn keeps, and where it stops. Assumes nothing.
-use mathlib.Core.Path.{◌≡◌, refl, ap, ◌∙◌}
+use mathlib.Core.Path.{◌≡◌, refl, sym, ap, ◌∙◌}
 use mathlib.Core.Bool.{Bool, true, false, cond, ◌||◌}
 use mathlib.Core.Logic.{◌⊎◌, inl, inr}
-use mathlib.Core.List.{List, [], ◌∷◌}
+use mathlib.Core.List.{List, [], ◌∷◌, ◌++◌}
 use Prim.Native.Nat.{ℕ, zero, suc, ◌+◌, ◌-◌, ◌<◌, ◌≤◌, min}
 use native.Mathlib.Omega.{arith}
 use borrow.Author.Tests.{leb-true, leb-false}
 use lib.Dec.{leb}
-use lib.ListN.{length, take, drop, get_or, drop_of_length-le, length-drop}
-use lib.Seq.{drop-drop, take-add}
+use lib.ListN.{length, take, drop, get_or, drop_of_length-le, length-drop, length-append}
+use lib.Seq.{drop-drop, take-add, take-take, take_at, drop_at, length-take-le}
 use Rattle.line.proofs.Runs.{left-next, and_left, and_right, every_append}
 use Rattle.line.specs.Runs.{every}
 use Rattle.text.specs.Classes.{is_address, is_value}
@@ -101,6 +101,20 @@ module _ (p : ℕ → Bool) where
       let d : drop (i - at) (drop at s) ≡ drop i s = drop-drop (i - at) at s ∙ ap (λ (j : ℕ). drop j s) {x = at + (i - at)} {y = i} (omega arith) in
       let next : every p (take 8 (drop i s)) ≡ true = rw m at k in
       rw (n, take-add (i - at) 8 (drop at s), d) (every_append p (take (i - at) (drop at s)) (take 8 (drop i s)) h next)
+
+-- eight from the front of what is left: they stand there, and the rest is left
+pub eight-taken : (s x t : List ℕ) (i end : ℕ) → end ≤ length s → i ≤ end → take (end - i) (drop i s) ≡ x ++ t → length x ≡ 8
+    → (i + 8 ≤ end) × (x ≡ take (i + 8 - i) (drop i s)) × (t ≡ take (end - (i + 8)) (drop (i + 8) s))
+eight-taken s x t i end h from e k =
+    let u = drop i s in
+    let r = end - (i + 8) in
+    let n : length (take (end - i) u) ≡ end - i = length-take-le (end - i) u (omega (arith, length-drop i s)) in
+    let m : i + 8 ≤ end = omega (arith, n, ap length e, length-append x t) in
+    let eight : take 8 u ≡ x = sym (take-take 8 (end - i) u (omega (arith, m))) ∙ ap (take 8) e ∙ take_at x t 8 k in
+    let cut : take (end - i) u ≡ take 8 u ++ take r (drop 8 u) = ap (λ (j : ℕ). take j u) {x = end - i} {y = 8 + r} (omega (arith, m)) ∙ take-add 8 r u in
+    let left : t ≡ take r (drop 8 u) =
+    sym (drop_at x t 8 k) ∙ ap (drop 8) (sym e ∙ cut) ∙ drop_at (take 8 u) (take r (drop 8 u)) 8 (length-take-le 8 u (omega (arith, m, length-drop i s))) in
+    (m, sym eight ∙ ap (λ (j : ℕ). take j u) {x = 8} {y = i + 8 - i} (omega arith), left ∙ ap (take r) (drop-drop 8 i s))
 
 led_on : (p : ℕ → Bool) (c k : ℕ) (s : List ℕ) (b : Bool) → p c ≡ b → every p (take k s) ≡ true → every p (take (cond b (suc k) 0) (c ∷ s)) ≡ true
 unfolding every

@@ -59,12 +59,11 @@ fn pass_eights(s: &[u8], at: usize, end: usize) -> usize
     ensures { Passes s.now at end result }
 {
     let mut i = at;
-    while i + 8 <= end {
-        let j = i + 8;
-        if !all_plain(&s[i..j]) {
+    for eight in s[at..end].chunks_exact(8) {
+        if !all_plain(eight) {
             return i;
         }
-        i = j;
+        i += 8;
     }
     i
 }
