@@ -106,19 +106,6 @@ pub struct Malformed {
     pub place: usize,
 }
 
-// Whether three characters stand from a place on.
-fn three(s: &[u8], at: usize, a: u8, b: u8, c: u8) -> bool
-    requires { at ≤ length s.now }
-    ensures { result ≡ starts_with3 a b c (drop at s.now) }
-{
-    if s.len() - at < 3 {
-        return false;
-    }
-    let second = at + 1;
-    let third = at + 2;
-    (s[at] == a) & ((s[second] == b) & (s[third] == c))
-}
-
 // Reads the data set that starts at a place; none where the sets end.
 pub fn next_set(data: &[u8], at: usize) -> Result<Option<Extent>, Malformed>
     ensures { set_told at result ≡ set_read «data».now at }
@@ -129,7 +116,7 @@ pub fn next_set(data: &[u8], at: usize) -> Result<Option<Extent>, Malformed>
     let malformed = Malformed { place: at };
     let a = run(data, at, at, false, 17);
     if a == 0 {
-        if three(data, at, b'!', 13, 10) {
+        if data[at..].starts_with(b"!\r\n") {
             return Ok(None);
         }
         return Err(malformed);
@@ -150,7 +137,7 @@ pub fn next_set(data: &[u8], at: usize) -> Result<Option<Extent>, Malformed>
     if 32 < v {
         return Err(malformed);
     }
-    if !three(data, close, b')', 13, 10) {
+    if !data[close..].starts_with(b")\r\n") {
         return Err(malformed);
     }
     Ok(Some(Extent {
