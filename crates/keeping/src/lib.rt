@@ -38,11 +38,18 @@ pub extern "C" fn dirgemist_meter_make(
     ensures { (result ≡ (made_of (facts_of serial.now password.now edition link decimals) account.now (clock_of year month day hour minute second)).number)
         × (m.new ≡ (made_of (facts_of serial.now password.now edition link decimals) account.now (clock_of year month day hour minute second)).meter) }
 {
-    let a = making::make(
+    match making::make(
         serial, account, password, year, month, day, hour, minute, second, edition, link, decimals,
-    );
-    *m = making::meter_of(a);
-    making::number_of(a)
+    ) {
+        Ok(made) => {
+            *m = made;
+            1
+        }
+        Err(refusal) => {
+            *m = state::blank();
+            refusal.number()
+        }
+    }
 }
 
 // What the test of a record answers, from its edition and from whether it is well-formed: a record is too long to be handed on.

@@ -1,11 +1,11 @@
 // A meter made from lent texts and numbers, as C gives them.
 ghost use Rattle.std.specs.Prelude.{◌≡◌, length};
 ghost use Rattle.clock.specs.Seconds.{date_of, time_of};
-ghost use Rattle.state.specs.Making.{facts_of, made_of};
+ghost use Rattle.state.specs.Making.{facts_of, made_of, told};
 ghost use Rattle.keeping.specs.Making.{clock_of};
 
 use clock::{Clock, Date, Time};
-use state::{Facts, Made, Meter};
+use state::{Facts, Meter, Refusal};
 
 fn clock_of(year: u16, month: u8, day: u8, hour: u8, minute: u8, second: u8) -> Clock
     ensures { result ≡ clock_of year month day hour minute second }
@@ -37,17 +37,17 @@ fn make_from(
     edition: u8,
     link: u8,
     decimals: u8,
-) -> Made
-    ensures { result ≡ made_of (facts_of serial.now password.now edition link decimals) account.now clock }
+) -> Result<Meter, Refusal>
+    ensures { told result ≡ made_of (facts_of serial.now password.now edition link decimals) account.now clock }
 {
     if serial.len() != 10 {
-        return state::not_made(edition, decimals);
+        return Err(state::not_made(edition, decimals));
     }
     if account.len() != 10 {
-        return state::not_made(edition, decimals);
+        return Err(state::not_made(edition, decimals));
     }
     if password.len() != 8 {
-        return state::not_made(edition, decimals);
+        return Err(state::not_made(edition, decimals));
     }
     let facts = Facts {
         serial: state::setting::ten(serial),
@@ -59,7 +59,7 @@ fn make_from(
     state::make(facts, state::setting::ten(account), clock)
 }
 
-// A new meter, with 1, or the blank one, with 15, 16 or 18.
+// A new meter, or why there is none.
 pub fn make(
     serial: &[u8],
     account: &[u8],
@@ -73,21 +73,9 @@ pub fn make(
     edition: u8,
     link: u8,
     decimals: u8,
-) -> Made
-    ensures { result ≡ made_of (facts_of serial.now password.now edition link decimals) account.now (clock_of year month day hour minute second) }
+) -> Result<Meter, Refusal>
+    ensures { told result ≡ made_of (facts_of serial.now password.now edition link decimals) account.now (clock_of year month day hour minute second) }
 {
     let clock = clock_of(year, month, day, hour, minute, second);
     make_from(serial, account, password, clock, edition, link, decimals)
-}
-
-pub fn meter_of(a: Made) -> Meter
-    ensures { result ≡ a.meter }
-{
-    a.meter
-}
-
-pub fn number_of(a: Made) -> u8
-    ensures { result ≡ a.number }
-{
-    a.number
 }

@@ -28,8 +28,7 @@ use Rattle.frames.specs.Commands.{bracketed}
 use Rattle.frames.specs.Session.{wired_line, confirmation, speed_said}
 use Rattle.datasets.specs.Sets.{data_set}
 use Rattle.state.specs.WellFormed.{limit, first_good, held_good, mark_good, hurt_good, receiver_good, below, zones_below, both_below, sum_of, total, tables_good, no_time, unused, period_good, every_period, archive_good, link_good, facts_good, factory_good, registers_good, speed_good, well_formed}
-use Rattle.state.specs.Making.{new_rows, facts_refused, made_of}
-use Rattle.state.specs.declared.Made.{Made}
+use Rattle.state.specs.Making.{Made, new_rows, facts_refused, made_of}
 use Rattle.state.specs.Link.{is_wired, rest_speed}
 use Rattle.receiving.specs.Hearing.{hearing, listening, confirming, framing}
 use Rattle.deciding.specs.Shape.{start_good, bare_shape, content, framed_shape}

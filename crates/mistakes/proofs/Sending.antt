@@ -19,10 +19,9 @@ use Rattle.values.specs.Texts.{serial_text, table_text, date_text, time_text, st
 use Rattle.frames.specs.Frames.{closed, sealed, frame_of, bare_frame, block_of}
 use Rattle.frames.specs.Commands.{bracketed}
 use Rattle.state.specs.declared.Meter.{Meter}
-use Rattle.state.specs.declared.Made.{Made}
 use Rattle.state.specs.WellFormed.{limit, first_good, held_good, mark_good, receiver_good, below, zones_below, both_below, sum_of, total, tables_good, no_time, unused, period_good, every_period, archive_good, link_good, facts_good, factory_good, registers_good, well_formed, speed_good, hurt_good}
 use Rattle.state.specs.Link.{is_wired, rest_speed}
-use Rattle.state.specs.Making.{facts_refused, made_of, new_rows}
+use Rattle.state.specs.Making.{Made, facts_refused, made_of, new_rows}
 use Rattle.state.specs.Closing.{periods_of, closed_with}
 use Rattle.datasets.specs.Sets.{data_set, lines_of, energy_name}
 use Rattle.replies.specs.Shown.{energy, row_of}

@@ -19,9 +19,8 @@ use Rattle.values.specs.Registers.{good_digits, is_account_character, good_accou
 use Rattle.state.specs.Sizes.{row_length, table_places}
 use Rattle.state.specs.declared.Facts.{Facts}
 use Rattle.state.specs.declared.Meter.{Meter}
-use Rattle.state.specs.declared.Made.{Made}
 use Rattle.state.specs.WellFormed.{below, zones_below, both_below, sum_of, total, counters_good, tables_good, no_time, unused, every_period, archive_good, tables_in, link_good, facts_good, factory_good, registers_good, well_formed}
-use Rattle.state.specs.Making.{no_counters, empty_archive, facts_of, new_rows, meter_of, blank_meter, made_of}
+use Rattle.state.specs.Making.{Made, no_counters, empty_archive, facts_of, new_rows, meter_of, blank_meter, made_of}
 use Rattle.state.proofs.Parts.{well-formed, rest-good}
 use Rattle.promises.proofs.Choices as choice
 use Rattle.promises.proofs.Ends.{counter-end-some, export-end-some}

@@ -7,10 +7,9 @@ use native.Mathlib.Omega.{arith}
 use Rattle.clock.specs.declared.Clock.{Clock}
 use Rattle.values.specs.Edition.{is_edition}
 use Rattle.state.specs.declared.Meter.{Meter}
-use Rattle.state.specs.declared.Made.{Made}
 use Rattle.state.specs.WellFormed.{well_formed, edition_of}
 use Rattle.state.specs.declared.Facts.{Facts}
-use Rattle.state.specs.Making.{made_of}
+use Rattle.state.specs.Making.{Made, made_of}
 use Rattle.meter.specs.Outcomes.{Outcome}
 use Rattle.meter.specs.declared.Event.{Event}
 use Rattle.meter.specs.declared.Event.TheVariants.{Character, Silence, Tick, Pulse, PowerUp, PulseOut, Unknown}

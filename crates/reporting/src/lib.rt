@@ -45,7 +45,10 @@ fn new_meter(edition: u8) -> Meter
         link: 1,
         decimals: 0,
     };
-    state::make(facts, [b' '; 10], clock).meter
+    match state::make(facts, [b' '; 10], clock) {
+        Ok(made) => made,
+        Err(_) => state::blank(),
+    }
 }
 
 // A new meter after sign-on, confirmation and its password, with parity.

@@ -1,5 +1,5 @@
 -- Document 01, "The state": a new state, and the blank one.
-use Rattle.std.specs.Prelude.{ℕ, ◌-◌, ◌*◌, cond, List, ◌++◌, replicate}
+use Rattle.std.specs.Prelude.{Result, Ok, Err, ℕ, ◌-◌, ◌*◌, cond, List, ◌++◌, replicate}
 use Rattle.clock.specs.Seconds.{date_of, time_of}
 use Rattle.clock.specs.declared.Clock.{Clock}
 use Rattle.values.specs.Edition.{is_edition, tables_of}
@@ -10,7 +10,8 @@ use Rattle.state.specs.declared.Counters.{Counters}
 use Rattle.state.specs.declared.Period.{Period}
 use Rattle.state.specs.declared.Archive.{Archive}
 use Rattle.state.specs.declared.Meter.{Meter}
-use Rattle.state.specs.declared.Made.{Made}
+use Rattle.state.specs.declared.Refusal.{Refusal}
+use Rattle.state.specs.declared.Refusal.TheVariants.{NoEdition, NoFamily, BadFacts}
 use Rattle.state.specs.Link.{rest_speed}
 use Rattle.state.specs.Sizes.{held_places, row_length, table_places, period_places}
 use Rattle.state.specs.WellFormed.{factory_good}
@@ -63,6 +64,11 @@ blank_meter = meter_of (facts_of (replicate 10 48) (replicate 8 48) 1 1 0) (repl
 unfoldable pub facts_refused : ℕ → ℕ → ℕ
 facts_refused edition decimals = cond (is_edition edition) (cond (is_family decimals) 15 18) 16
 
+-- a meter that was made, with 1, or the blank one, with 15, 16 or 18
+pub record Made : Type 0 where
+  pub number : ℕ
+  pub meter : Meter
+
 abbrev pub not_made : ℕ → ℕ → Made
 not_made edition decimals = record { number = facts_refused edition decimals; meter = blank_meter }
 
@@ -72,3 +78,13 @@ made_of facts account clock =
     cond (factory_good facts account clock)
     (record { number = 1; meter = meter_of facts account clock })
     (not_made facts.edition facts.decimals)
+
+-- what making answers, as these numbers
+unfoldable pub number_of : Refusal → ℕ
+number_of NoEdition = 16
+number_of NoFamily = 18
+number_of BadFacts = 15
+
+unfoldable pub told : Result Meter Refusal → Made
+told (Ok m) = record { number = 1; meter = m }
+told (Err e) = record { number = number_of e; meter = blank_meter }

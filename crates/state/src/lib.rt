@@ -1,7 +1,7 @@
 // The meter's state: what it is made of, what is well-formed, and how a new one is made.
 #![tactic(auto)]
 
-ghost use Rattle.std.specs.Prelude.{◌≡◌, ◌+◌, ◌-◌, ◌*◌, ◌%◌, ◌<◌, ◌≤◌, true, ◌&&◌, length, take, drop};
+ghost use Rattle.std.specs.Prelude.{Err, ◌≡◌, ◌+◌, ◌-◌, ◌*◌, ◌%◌, ◌<◌, ◌≤◌, true, ◌&&◌, length, take, drop};
 ghost use Rattle.line.specs.Runs.{every};
 ghost use Rattle.text.specs.Classes.{between};
 ghost use Rattle.values.specs.Edition.{is_edition};
@@ -9,7 +9,7 @@ ghost use Rattle.values.specs.Registers.{good_serial, good_password};
 ghost use Rattle.state.specs.Sizes.{most_held, held_places, first_rows, all_rows};
 ghost use Rattle.state.specs.Fours.{in_row, last_good};
 ghost use Rattle.state.specs.WellFormed.{limit, first_good, held_good, zones_below, total, counters_good, directions_good, tables_good, link_good, facts_good, factory_good, edition_of, well_formed, speed_good, hurt_good};
-ghost use Rattle.state.specs.Making.{no_counters, new_rows, meter_of, blank_meter, facts_refused, not_made, made_of};
+ghost use Rattle.state.specs.Making.{no_counters, new_rows, meter_of, blank_meter, not_made, made_of, number_of, told};
 
 use clock::{Clock, Date, Stamp, Time};
 use values::{ROW_LENGTH, TABLE_PLACES, family};
@@ -109,11 +109,29 @@ pub struct Meter {
     pub registers: Registers,
 }
 
-// A meter that was made, with 1, or the blank one, with 15, 16 or 18.
+// Why no meter is made from these facts.
 #[derive(Clone, Copy)]
-pub struct Made {
-    pub number: u8,
-    pub meter: Meter,
+pub enum Refusal {
+    // An edition that there is none of: 16.
+    NoEdition,
+    // Decimals that no family has: 18.
+    NoFamily,
+    // Another fact: 15.
+    BadFacts,
+}
+
+impl Refusal {
+    // Document 01's number.
+    #[tactic(auto, unfolding(crate::specs::Making::number_of))]
+    pub fn number(self) -> u8
+        ensures { result ≡ number_of self }
+    {
+        match self {
+            Refusal::NoEdition => 16,
+            Refusal::NoFamily => 18,
+            Refusal::BadFacts => 15,
+        }
+    }
 }
 
 // How many characters are held at most.
@@ -413,38 +431,25 @@ pub fn blank() -> Meter
     meter_of(facts, [b' '; 10], clock)
 }
 
-// Which number bad facts give.
-fn facts_refused(edition: u8, decimals: u8) -> u8
-    ensures { result ≡ facts_refused edition decimals }
+// Why bad facts are refused.
+pub fn not_made(edition: u8, decimals: u8) -> Refusal
+    ensures { told (Err result) ≡ not_made edition decimals }
 {
-    if values::is_edition(edition) {
-        if family::is_family(decimals) {
-            return 15;
-        }
-        return 18;
+    if !values::is_edition(edition) {
+        return Refusal::NoEdition;
     }
-    16
-}
-
-// Of bad facts comes the blank meter.
-pub fn not_made(edition: u8, decimals: u8) -> Made
-    ensures { result ≡ not_made edition decimals }
-{
-    Made {
-        number: facts_refused(edition, decimals),
-        meter: blank(),
+    if !family::is_family(decimals) {
+        return Refusal::NoFamily;
     }
+    Refusal::BadFacts
 }
 
 // A new meter from the factory's facts.
-pub fn make(facts: Facts, account: [u8; 10], clock: Clock) -> Made
-    ensures { result ≡ made_of facts account clock }
+pub fn make(facts: Facts, account: [u8; 10], clock: Clock) -> Result<Meter, Refusal>
+    ensures { told result ≡ made_of facts account clock }
 {
     if factory_good(facts, &account, clock) {
-        return Made {
-            number: 1,
-            meter: meter_of(facts, account, clock),
-        };
+        return Ok(meter_of(facts, account, clock));
     }
-    not_made(facts.edition, facts.decimals)
+    Err(not_made(facts.edition, facts.decimals))
 }
