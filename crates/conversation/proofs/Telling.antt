@@ -41,7 +41,7 @@ use Rattle.replies.specs.Shown.{row_of}
 use Rattle.replies.specs.Shown as shown
 use Rattle.replies.specs.Answers.{asked_sets, asked_data, answerable}
 use Rattle.replies.proofs.Good.{asked-shown}
-use Rattle.deciding.specs.declared.Verdict.TheVariants.{Read}
+use Rattle.deciding.specs.Verdicts.{Read}
 use Rattle.commands.specs.Spoken.{Command, read_clock, read_serial, read_account, read_total, read_zone, read_total_out, read_zone_out, read_table, good_fields, letters_of}
 use Rattle.judging.specs.Right.{tells_time, tells_date, tells_clock, tells_serial, tells_account, tells_counter, tells_energy, tells_export, tells_row, tells, answers, energy_opening, table_opening}
 use Rattle.judging.specs.Lines.{is_line, value_in}

@@ -13,7 +13,7 @@ use Rattle.state.specs.Setting.{with_attempts, with_tables}
 use Rattle.replies.specs.declared.Ask.{Ask}
 use Rattle.replies.specs.Shown.{row_of}
 use Rattle.replies.specs.Answers.{asked_data}
-use Rattle.deciding.specs.declared.Verdict.TheVariants.{Read}
+use Rattle.deciding.specs.Verdicts.{Read}
 use Rattle.commands.specs.Messages.{good_message}
 use Rattle.post.specs.Grammar.{Entry, IsPost}
 use Rattle.session.specs.declared.Session.{Session}

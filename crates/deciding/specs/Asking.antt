@@ -1,5 +1,5 @@
 -- Document 01, "Deciding a frame": R1 data. T(), L(), K(), E0() to E4(), Z(xx) with xx 01 to 24; else 9. [10]: an EQM meter is asked G0() to G4() as well.
-use Rattle.std.specs.Prelude.{cond, ◌&&◌, List, ℕ, eqb, ltb, take, drop}
+use Rattle.std.specs.Prelude.{Option, Some, None, cond, ◌&&◌, List, ℕ, eqb, ltb, take, drop}
 use Rattle.line.specs.Quoted.{char, chars}
 use Rattle.text.specs.Classes.{same_text}
 use Rattle.text.specs.Layout.{fits}
@@ -10,8 +10,7 @@ use Rattle.values.specs.Registers.{zone_energy}
 use Rattle.values.specs.Reading.{TableRead, table_read}
 use Rattle.frames.specs.Commands.{ask_clock, ask_serial, ask_account, lettered}
 use Rattle.replies.specs.declared.Ask.TheVariants.{Clock, Serial, Account, Energy as energy_ask, Export, Table}
-use Rattle.deciding.specs.declared.Verdict.{Verdict}
-use Rattle.deciding.specs.declared.Verdict.TheVariants.{Refuse, Read}
+use Rattle.deciding.specs.Verdicts.{Verdict, Refuse, Read}
 
 abbrev pub table_named : TableRead → Verdict
 table_named t = cond t.ok (Read (Table t.table)) (Refuse 9)
@@ -31,6 +30,10 @@ energy_named letter d =
 
 unfoldable pub energy_at : ℕ → Energy
 energy_at n = cond (eqb n 0) Total (zone_energy n)
+
+-- the energy of such a number, if it is one
+unfoldable pub energy_meant : ℕ → Option Energy
+energy_meant n = cond (ltb n 5) (Some (energy_at n)) None
 
 -- `E` reads what came in; `G` what went out, of a meter that counts it
 unfoldable pub energy_asked : ℕ → ℕ → List ℕ → Verdict

@@ -1,3 +1,4 @@
+pub mod Verdicts
 pub mod Shape
 pub mod Asking
 pub mod Telling

@@ -3,8 +3,7 @@ use Rattle.std.specs.Prelude.{Bool, cond, ◌&&◌, List, ℕ, ◌-◌, eqb, leb
 use Rattle.line.specs.Quoted.{char}
 use Rattle.values.specs.Registers.{good_account, good_row}
 use Rattle.values.specs.Reading.{ClockRead, TableRead, clock_read, table_read}
-use Rattle.deciding.specs.declared.Verdict.{Verdict}
-use Rattle.deciding.specs.declared.Verdict.TheVariants.{Refuse, WriteClock, WriteAccount, WriteTable}
+use Rattle.deciding.specs.Verdicts.{Verdict, Refuse, WriteClock, WriteAccount, WriteTable}
 
 -- a letter with something in brackets, and what stands in them
 unfoldable pub enclosed : ℕ → List ℕ → Bool

@@ -7,8 +7,7 @@ use Rattle.text.specs.Layout.{fits}
 use Rattle.deciding.specs.Shape.{bare_shape, framed_shape, content}
 use Rattle.deciding.specs.Asking.{asked}
 use Rattle.deciding.specs.Telling.{told}
-use Rattle.deciding.specs.declared.Verdict.{Verdict}
-use Rattle.deciding.specs.declared.Verdict.TheVariants.{Refuse, Leave, Enter, Password}
+use Rattle.deciding.specs.Verdicts.{Verdict, Refuse, Leave, Enter, Password}
 
 -- P1: (), or eight digits in brackets
 unfoldable pub entry : List ℕ → Verdict

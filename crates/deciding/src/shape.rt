@@ -21,20 +21,13 @@ pub fn is_bare(h: &[u8]) -> bool
 pub fn content_of(h: &[u8]) -> &[u8]
     ensures { result.now ≡ content h.now }
 {
-    let n = less(h.len(), 5);
-    text::first(text::rest(h, 4), n)
-}
-
-pub fn less(n: usize, k: usize) -> usize
-    ensures { result ≡ n - k }
-{
-    if n < k { 0 } else { n - k }
+    text::first(text::rest(h, 4), h.len().saturating_sub(5))
 }
 
 pub fn is_framed(h: &[u8]) -> bool
     ensures { result ≡ framed_shape h.now }
 {
-    let last = text::at(h, less(h.len(), 1)) == line::ETX;
+    let last = text::at(h, h.len().saturating_sub(1)) == line::ETX;
     let ends = ((5 <= h.len()) & (text::at(h, 3) == line::STX)) & last;
     (start_good(h) & ends) & text::all_between(content_of(h), 32, 126)
 }

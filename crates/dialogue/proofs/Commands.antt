@@ -28,7 +28,7 @@ use Rattle.frames.specs.Session.{password_data}
 use Rattle.state.specs.declared.Registers.{Registers}
 use Rattle.state.specs.WellFormed.{tables_in, family_in}
 use Rattle.state.specs.Setting.{with_account, with_tables, with_row}
-use Rattle.deciding.specs.declared.Verdict.TheVariants.{Refuse}
+use Rattle.deciding.specs.Verdicts.{Refuse}
 use Rattle.deciding.specs.Verdict.{framed_verdict, entry, verdict}
 use Rattle.deciding.specs.Asking.{asked}
 use Rattle.deciding.specs.Telling.{told}

@@ -29,7 +29,7 @@ use Rattle.values.proofs.Rules.{digits_long}
 use Rattle.frames.specs.Commands.{bracketed, ask_clock, ask_serial, ask_account, ask_energy, ask_export, ask_table, set_clock, set_account, set_table}
 use Rattle.frames.specs.Session.{enter_data, password_data}
 use Rattle.replies.specs.declared.Ask.TheVariants as ask
-use Rattle.deciding.specs.declared.Verdict.TheVariants.{Refuse, Enter, Password, Read, WriteClock, WriteAccount, WriteTable}
+use Rattle.deciding.specs.Verdicts.{Refuse, Enter, Password, Read, WriteClock, WriteAccount, WriteTable}
 use Rattle.deciding.specs.Asking.{table_named, table_asked, energy_named, energy_at, energy_asked, asked}
 use Rattle.deciding.specs.Telling.{enclosed, inner, clock_named, clock_told, account_told, table_meant, table_told, told}
 use Rattle.deciding.specs.Verdict.{entry}

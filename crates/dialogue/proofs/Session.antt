@@ -30,7 +30,7 @@ use Rattle.state.specs.WellFormed.{tables_in, family_in, limit}
 use Rattle.state.specs.Closing.{closing}
 use Rattle.state.proofs.Parts.{formed-registers, formed-facts}
 use Rattle.receiving.specs.declared.Hearing.TheVariants.{Line, Confirm}
-use Rattle.deciding.specs.declared.Verdict.TheVariants.{Leave}
+use Rattle.deciding.specs.Verdicts.{Leave}
 use Rattle.deciding.specs.Shape.{start_good, bare_shape}
 use Rattle.deciding.specs.Verdict.{bare_verdict, shape_verdict, verdict}
 use Rattle.state.specs.Link.{is_wired}

@@ -17,8 +17,8 @@ use Rattle.replies.specs.Block.{block_data}
 use Rattle.replies.specs.Periods.{long_data}
 use Rattle.replies.specs.Fixed.{password_ask}
 use Rattle.state.specs.Setting.{in_mode, with_speed, with_attempts, with_registers, with_clock, with_account, with_tables, with_row}
-use Rattle.deciding.specs.declared.Verdict.{Verdict}
-use Rattle.deciding.specs.declared.Verdict.TheVariants as verdict
+use Rattle.deciding.specs.Verdicts.{Verdict}
+use Rattle.deciding.specs.Verdicts as verdict
 use Rattle.state.specs.Link.{link_of, is_wired}
 use Rattle.meter.specs.Link.{zeros, slow_too}
 use Rattle.meter.specs.Outcomes.{Outcome, speed_of, silent, saying, nak, ack}

@@ -40,7 +40,7 @@ use Rattle.replies.specs.Periods.{period_long, long_data}
 use Rattle.replies.proofs.Good.{register-ground}
 use Rattle.replies.proofs.Sizes.{block-long}
 use Rattle.replies.proofs.Periods.{long-block-long}
-use Rattle.deciding.specs.declared.Verdict.TheVariants.{Refuse, Read, WriteClock}
+use Rattle.deciding.specs.Verdicts.{Refuse, Read, WriteClock}
 use Rattle.deciding.specs.Asking.{table_asked, energy_named, energy_at, energy_asked, asked}
 use Rattle.deciding.specs.Telling.{enclosed, inner, clock_told, told}
 use Rattle.tariff.specs.Zones.{own_day, table_for, grown, counted}

@@ -20,7 +20,7 @@ use Rattle.replies.specs.declared.Ask.TheVariants.{Energy, Export}
 use Rattle.replies.specs.Answers.{asked_data}
 use Rattle.replies.specs.Block.{directions_long, block_data}
 use Rattle.replies.specs.Periods.{period_long, long_data}
-use Rattle.deciding.specs.declared.Verdict.TheVariants.{Refuse, Read, WriteClock}
+use Rattle.deciding.specs.Verdicts.{Refuse, Read, WriteClock}
 use Rattle.deciding.specs.Asking.{asked}
 use Rattle.deciding.specs.Telling.{told}
 use Rattle.tariff.specs.Zones.{table_for, counted}

@@ -9,8 +9,7 @@ use Rattle.state.specs.Making.{empty_receiver}
 use Rattle.values.specs.Registers.{good_table}
 use Rattle.replies.specs.Answers.{asked_data}
 use Rattle.state.specs.Setting.{with_receiver, in_mode, with_attempts, with_registers, with_clock, with_account, with_tables, with_row}
-use Rattle.deciding.specs.declared.Verdict.{Verdict}
-use Rattle.deciding.specs.declared.Verdict.TheVariants.{Refuse, Leave, Enter, Password, Read, WriteClock, WriteAccount, WriteTable}
+use Rattle.deciding.specs.Verdicts.{Verdict, Refuse, Leave, Enter, Password, Read, WriteClock, WriteAccount, WriteTable}
 use Rattle.meter.specs.Outcomes.{Outcome, speed_of, saying, nak, ack}
 
 -- the characters that a frame gives: SOH P1 STX ( password; SOH W1 STX K ( account; SOH W1 STX Z ( xx ; row

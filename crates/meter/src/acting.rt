@@ -23,17 +23,13 @@ use state::{ALL_ROWS, Archive, HELD_PLACES, Meter, Receiver, Registers};
 fn plain_of(g: Registers) -> Plain
     ensures { result ≡ plain_of g }
 {
-    let facts = g.facts;
     let account = g.account;
-    let clock = g.clock;
-    let counters = g.counters;
-    let exported = g.exported;
     Plain {
-        facts,
+        facts: g.facts,
         account,
-        clock,
-        counters,
-        exported,
+        clock: g.clock,
+        counters: g.counters,
+        exported: g.exported,
     }
 }
 
@@ -41,12 +37,11 @@ fn plain_of(g: Registers) -> Plain
 pub fn small_of(m: Meter) -> Small
     ensures { result ≡ small_of m }
 {
-    let receiver = m.receiver;
     Small {
         mode: m.mode,
         attempts: m.attempts,
         speed: m.speed,
-        receiver,
+        receiver: m.receiver,
         plain: plain_of(m.registers),
     }
 }
@@ -58,11 +53,10 @@ fn say(says: Says, p: Plain, rows: &[u8; ALL_ROWS], reply: &mut [u8]) -> usize
     ensures held { reply.new ≡ holding reply.old (on_wire (short_said (without_archive p rows.now) says)) }
 {
     let f = p.facts;
-    let serial = f.serial;
     match says {
         Says::Nothing => 0,
         Says::Refusal => link::refuse(f.link, reply),
-        Says::Identification => link::identify(f.link, f.edition, &serial, reply),
+        Says::Identification => link::identify(f.link, f.edition, &f.serial, reply),
         Says::Block => replies::data_block(reply, p, rows, values::tables_of(f.edition)),
         Says::Invitation => replies::ask_password(reply),
         Says::Accepted => replies::acknowledge(reply),
@@ -75,26 +69,19 @@ fn account_after(held: &[u8; HELD_PLACES as usize], account: [u8; 10], w: Writes
     ensures { result ≡ account_after held.now account w }
 {
     match w {
-        Writes::None => account,
-        Writes::ClockSet(c) => account,
         Writes::AccountSet => ten(text::first(text::rest(held, 6), 10)),
-        Writes::RowSet(t) => account,
-        Writes::Closed => account,
-        Writes::MonthClosed(c) => account,
+        _ => account,
     }
 }
 
 // The clock after a write, or after the second that starts a month.
+#[tactic(auto, unfolding(crate::specs::Deeds::clock_after))]
 fn clock_after(clock: Clock, w: Writes) -> Clock
     ensures { result ≡ clock_after clock w }
 {
     match w {
-        Writes::None => clock,
-        Writes::ClockSet(c) => c,
-        Writes::AccountSet => clock,
-        Writes::RowSet(t) => clock,
-        Writes::Closed => clock,
-        Writes::MonthClosed(c) => c,
+        Writes::ClockSet(c) | Writes::MonthClosed(c) => c,
+        _ => clock,
     }
 }
 
@@ -109,11 +96,7 @@ fn receiver_after(r: Receiver, empties: bool) -> Receiver
 fn answer_with(s: Small, length: usize, d: Deed) -> Acted
     ensures { result ≡ answered s length d }
 {
-    let r = s.receiver;
-    let held = r.held;
-    let p = s.plain;
-    let account = p.account;
-    let writes = d.writes;
+    let account = s.plain.account;
     Acted {
         number: d.number,
         length,
@@ -122,10 +105,10 @@ fn answer_with(s: Small, length: usize, d: Deed) -> Acted
         mode: d.mode,
         attempts: d.attempts,
         rate: d.rate,
-        receiver: receiver_after(r, d.empties),
-        account: account_after(&held, account, writes),
-        clock: clock_after(p.clock, writes),
-        writes,
+        receiver: receiver_after(s.receiver, d.empties),
+        account: account_after(&s.receiver.held, account, d.writes),
+        clock: clock_after(s.plain.clock, d.writes),
+        writes: d.writes,
     }
 }
 
@@ -135,8 +118,7 @@ pub fn act_short(s: Small, rows: &[u8; ALL_ROWS], d: Deed, reply: &mut [u8]) -> 
     ensures result { result ≡ acted_with s (short_said (without_archive s.plain rows.now) d.says) d }
     ensures held { reply.new ≡ holding reply.old (on_wire (short_said (without_archive s.plain rows.now) d.says)) }
 {
-    let says = d.says;
-    let length = say(says, s.plain, rows, reply);
+    let length = say(d.says, s.plain, rows, reply);
     answer_with(s, length, d)
 }
 
@@ -146,9 +128,8 @@ fn act_long(s: Small, rows: &[u8; ALL_ROWS], a: Archive, d: Deed, reply: &mut [u
     ensures result { result ≡ acted_with s (long_said (registers_of s.plain rows.now a)) d }
     ensures held { reply.new ≡ holding reply.old (on_wire (long_said (registers_of s.plain rows.now a))) }
 {
-    let p = s.plain;
-    let f = p.facts;
-    let length = replies::long_block(reply, p, rows, a, values::tables_of(f.edition));
+    let tables = values::tables_of(s.plain.facts.edition);
+    let length = replies::long_block(reply, s.plain, rows, a, tables);
     answer_with(s, length, d)
 }
 
@@ -158,9 +139,7 @@ pub fn start_long(s: Small, rows: &[u8; ALL_ROWS], reply: &mut [u8]) -> usize
     ensures next { result ≡ length (long_begun (without_archive s.plain rows.now)) }
     ensures held { reply.new ≡ stored reply.old 0 (long_begun (without_archive s.plain rows.now)) }
 {
-    let p = s.plain;
-    let f = p.facts;
-    replies::long_start(reply, p, rows, values::tables_of(f.edition))
+    replies::long_start(reply, s.plain, rows, values::tables_of(s.plain.facts.edition))
 }
 
 // Its end behind the periods, and what is answered and stored.
@@ -178,35 +157,21 @@ pub fn put_row(rows: &mut [u8; ALL_ROWS], r: Receiver, w: Writes)
     requires { Writable w × (length r.held ≡ held_places) }
     ensures { rows.new ≡ tables_after r.held rows.old w }
 {
-    let held = r.held;
-    match w {
-        Writes::None => {}
-        Writes::ClockSet(c) => {}
-        Writes::AccountSet => {}
-        Writes::RowSet(t) => {
-            text::put(
-                rows,
-                row_start(t),
-                text::first(text::rest(&held, 9), values::ROW_LENGTH),
-            );
-        }
-        Writes::Closed => {}
-        Writes::MonthClosed(c) => {}
+    if let Writes::RowSet(t) = w {
+        text::put(
+            rows,
+            row_start(t),
+            text::first(text::rest(&r.held, 9), values::ROW_LENGTH),
+        );
     }
 }
 
 // Whether a period is closed.
+#[tactic(auto, unfolding(crate::specs::Deeds::closes_after))]
 pub fn closes(w: Writes) -> bool
     ensures { result ≡ closes_after w }
 {
-    match w {
-        Writes::None => false,
-        Writes::ClockSet(c) => false,
-        Writes::AccountSet => false,
-        Writes::RowSet(t) => false,
-        Writes::Closed => true,
-        Writes::MonthClosed(c) => true,
-    }
+    matches!(w, Writes::Closed | Writes::MonthClosed(_))
 }
 
 // The tables after a deed.
@@ -224,8 +189,7 @@ fn archive_after(g: Registers, a: Acted) -> Archive
     requires { archive_good g.facts.decimals g.archive ≡ true }
     ensures { result ≡ archive_after g a }
 {
-    let w = a.writes;
-    if closes(w) {
+    if closes(a.writes) {
         return state::closing::close_with(g.archive, a.clock, g.counters, g.exported);
     }
     g.archive
@@ -237,12 +201,9 @@ fn registers_after(m: Meter, a: Acted) -> Registers
     ensures { result ≡ (stored_in m a).registers }
 {
     let g = m.registers;
-    let w = a.writes;
-    let account = a.account;
-    let tables = g.tables;
-    let rows = rows_after(tables, m.receiver, w);
+    let rows = rows_after(g.tables, m.receiver, a.writes);
     let next = with_archive(g, archive_after(g, a));
-    with_tables(with_clock(with_account(next, account), a.clock), rows)
+    with_tables(with_clock(with_account(next, a.account), a.clock), rows)
 }
 
 // The meter after a deed.
@@ -250,12 +211,11 @@ fn stored(m: Meter, a: Acted) -> Meter
     requires { (archive_good m.registers.facts.decimals m.registers.archive ≡ true) × (Writable a.writes × (length m.receiver.held ≡ held_places)) }
     ensures { result ≡ stored_in m a }
 {
-    let receiver = a.receiver;
     let mut next = with_registers(m, registers_after(m, a));
     next.mode = a.mode;
     next.attempts = a.attempts;
     next.speed = a.rate;
-    next.receiver = receiver;
+    next.receiver = a.receiver;
     next
 }
 
@@ -265,13 +225,11 @@ fn act(m: Meter, d: Deed, reply: &mut [u8]) -> Acted
     ensures result { result ≡ acted_with (small_of m) (said_by m.registers d) d }
     ensures held { reply.new ≡ holding reply.old (on_wire (said_by m.registers d)) }
 {
-    let g = m.registers;
-    let rows = g.tables;
     let s = small_of(m);
     if d.long {
-        return act_long(s, &rows, g.archive, d, reply);
+        return act_long(s, &m.registers.tables, m.registers.archive, d, reply);
     }
-    act_short(s, &rows, d, reply)
+    act_short(s, &m.registers.tables, d, reply)
 }
 
 // A deed done by a well-formed meter.

@@ -27,8 +27,7 @@ pub fn tick(m: Meter) -> Answer
     requires { well_formed m ≡ true }
     ensures { result ≡ answer_of (after_tick m) }
 {
-    let g = m.registers;
-    answers::quiet(1, with_registers(m, tariff::second_later(g)))
+    answers::quiet(1, with_registers(m, tariff::second_later(m.registers)))
 }
 
 // A pulse, counted in its direction.
@@ -36,11 +35,10 @@ pub fn pulse(m: Meter, out: bool, units: u32) -> Answer
     requires { (well_formed m ≡ true) × (units ≤ 1000000) }
     ensures { result ≡ answer_of (after_pulse m out units) }
 {
-    let g = m.registers;
     if out {
-        return answers::quiet(1, with_registers(m, tariff::count_out(g, units)));
+        return answers::quiet(1, with_registers(m, tariff::count_out(m.registers, units)));
     }
-    answers::quiet(1, with_registers(m, tariff::count_in(g, units)))
+    answers::quiet(1, with_registers(m, tariff::count_in(m.registers, units)))
 }
 
 // A session that starts anew.

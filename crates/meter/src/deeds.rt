@@ -1,12 +1,13 @@
 // What an event that a meter has to act on comes to, decided from the session, what is held and what the meter has for life.
 ghost use Rattle.std.specs.Prelude.{◌≡◌, ◌≤◌, length};
 ghost use Rattle.frames.specs.Session.{speed_said};
+ghost use Rattle.deciding.specs.Verdicts.{verdict_of};
 ghost use Rattle.meter.specs.SignOn.{confirms, wants_block, wants_periods, wants_program};
 ghost use Rattle.meter.specs.Deeds.{standing_in, at_rest, rests, refuses, goes_to, stays, signs_on, reads_out, invites, interrupted, starts, month_started, line_deed, confirmation_deed, password_deed, row_deed, verdict_deed, frame_deed, heard_deed, character_deed, silence_deed, left_deed};
 
 use crate::{Deed, Event, Says, Small, Standing, Writes, link};
 use clock::Clock;
-use deciding::Verdict;
+use deciding::{Command, Refusal};
 use receiving::Hearing;
 use state::HELD_PLACES;
 use state::link::rest_speed;
@@ -17,87 +18,18 @@ use values::TableNo;
 pub fn standing_in(s: Small) -> Standing
     ensures { result ≡ standing_in s }
 {
-    let r = s.receiver;
-    let p = s.plain;
-    let facts = p.facts;
     Standing {
         mode: s.mode,
         attempts: s.attempts,
         speed: s.speed,
-        count: r.count,
-        mark: r.mark,
-        place: r.place,
-        facts,
+        count: s.receiver.count,
+        mark: s.receiver.mark,
+        place: s.receiver.place,
+        facts: s.plain.facts,
     }
 }
 
-// At the link's own speed, with an empty receiver: this number, then this mode and so many attempts; this said and this written.
-fn at_rest(s: Standing, number: u8, mode: u8, attempts: u8, says: Says, writes: Writes) -> Deed
-    ensures { result ≡ at_rest s number mode attempts says writes }
-{
-    let f = s.facts;
-    let speed = rest_speed(f.link);
-    Deed {
-        number,
-        place: 0,
-        speed,
-        mode,
-        attempts,
-        rate: speed,
-        empties: true,
-        long: false,
-        says,
-        writes,
-    }
-}
-
-// Nothing said, then mode 0.
-fn rest(s: Standing, number: u8) -> Deed
-    ensures { result ≡ rests s number }
-{
-    at_rest(s, number, 0, s.attempts, Says::Nothing, Writes::None)
-}
-
-// A refusal as the link rules it, with this place and so many attempts.
-fn refuse(s: Standing, number: u8, place: u8, attempts: u8) -> Deed
-    ensures { result ≡ refuses s number place attempts }
-{
-    let f = s.facts;
-    let mode = link::fall(f.link, s.mode);
-    Deed {
-        number,
-        place,
-        speed: s.speed,
-        mode,
-        attempts,
-        rate: speed_in(f.link, mode, s.speed),
-        empties: true,
-        long: false,
-        says: Says::Refusal,
-        writes: Writes::None,
-    }
-}
-
-// ACK, then another mode and so many attempts.
-fn go_to(s: Standing, mode: u8, attempts: u8) -> Deed
-    ensures { result ≡ goes_to s mode attempts }
-{
-    let f = s.facts;
-    Deed {
-        number: 1,
-        place: 0,
-        speed: s.speed,
-        mode,
-        attempts,
-        rate: speed_in(f.link, mode, s.speed),
-        empties: true,
-        long: false,
-        says: Says::Accepted,
-        writes: Writes::None,
-    }
-}
-
-// This said and this written, in the same session.
+// This said and this written, in the same session; the receiver is emptied. The other deeds are this one but for what they name.
 fn stay(s: Standing, says: Says, writes: Writes) -> Deed
     ensures { result ≡ stays s says writes }
 {
@@ -115,6 +47,55 @@ fn stay(s: Standing, says: Says, writes: Writes) -> Deed
     }
 }
 
+// At the link's own speed, with an empty receiver: this number, then this mode and so many attempts; this said and this written.
+fn at_rest(s: Standing, number: u8, mode: u8, attempts: u8, says: Says, writes: Writes) -> Deed
+    ensures { result ≡ at_rest s number mode attempts says writes }
+{
+    let speed = rest_speed(s.facts.link);
+    Deed {
+        number,
+        speed,
+        mode,
+        attempts,
+        rate: speed,
+        ..stay(s, says, writes)
+    }
+}
+
+// Nothing said, then mode 0.
+fn rest(s: Standing, number: u8) -> Deed
+    ensures { result ≡ rests s number }
+{
+    at_rest(s, number, 0, s.attempts, Says::Nothing, Writes::None)
+}
+
+// A refusal as the link rules it, with this place and so many attempts.
+fn refuse(s: Standing, number: u8, place: u8, attempts: u8) -> Deed
+    ensures { result ≡ refuses s number place attempts }
+{
+    let mode = link::fall(s.facts.link, s.mode);
+    Deed {
+        number,
+        place,
+        mode,
+        attempts,
+        rate: speed_in(s.facts.link, mode, s.speed),
+        ..stay(s, Says::Refusal, Writes::None)
+    }
+}
+
+// ACK, then another mode and so many attempts.
+fn go_to(s: Standing, mode: u8, attempts: u8) -> Deed
+    ensures { result ≡ goes_to s mode attempts }
+{
+    Deed {
+        mode,
+        attempts,
+        rate: speed_in(s.facts.link, mode, s.speed),
+        ..stay(s, Says::Accepted, Writes::None)
+    }
+}
+
 // The identification, then mode 1.
 fn sign_on(s: Standing, writes: Writes) -> Deed
     ensures { result ≡ signs_on s writes }
@@ -126,18 +107,12 @@ fn sign_on(s: Standing, writes: Writes) -> Deed
 fn read_out(s: Standing, speed: u8, long: bool) -> Deed
     ensures { result ≡ reads_out s speed long }
 {
-    let f = s.facts;
     Deed {
-        number: 1,
-        place: 0,
         speed,
         mode: 0,
-        attempts: s.attempts,
-        rate: rest_speed(f.link),
-        empties: true,
+        rate: rest_speed(s.facts.link),
         long,
-        says: Says::Block,
-        writes: Writes::None,
+        ..stay(s, Says::Block, Writes::None)
     }
 }
 
@@ -146,16 +121,10 @@ fn invite(s: Standing, speed: u8) -> Deed
     ensures { result ≡ invites s speed }
 {
     Deed {
-        number: 1,
-        place: 0,
         speed,
         mode: 2,
-        attempts: s.attempts,
         rate: speed,
-        empties: true,
-        long: false,
-        says: Says::Invitation,
-        writes: Writes::None,
+        ..stay(s, Says::Invitation, Writes::None)
     }
 }
 
@@ -164,16 +133,14 @@ fn of_line(s: Standing, held: &[u8; HELD_PLACES as usize]) -> Deed
     requires { length s.facts.serial ≡ 10 }
     ensures { result ≡ line_deed s held.now }
 {
-    let f = s.facts;
-    let serial = f.serial;
     if s.mark == 1 {
         return rest(s, 0);
     }
     let line = text::first(held, s.count as usize);
-    if link::signs_on(f.link, line, &serial) {
+    if link::signs_on(s.facts.link, line, &s.facts.serial) {
         return sign_on(s, Writes::None);
     }
-    if link::closes(f.link, line) {
+    if link::closes(s.facts.link, line) {
         return sign_on(s, Writes::Closed);
     }
     rest(s, 0)
@@ -245,43 +212,44 @@ fn of_password(s: Standing, held: &[u8; HELD_PLACES as usize]) -> Deed
     requires { (s.attempts ≤ 3) × (length s.facts.password ≡ 8) }
     ensures { result ≡ password_deed s held.now }
 {
-    let f = s.facts;
-    let password = f.password;
-    let attempts = s.attempts;
-    if attempts == 3 {
-        return refuse(s, 11, 0, attempts);
+    if s.attempts == 3 {
+        return refuse(s, 11, 0, s.attempts);
     }
-    if text::same(text::first(text::rest(held, 5), 8), &password) {
+    if text::same(text::first(text::rest(held, 5), 8), &s.facts.password) {
         return go_to(s, 4, 0);
     }
-    refuse(s, 10, 0, attempts + 1)
+    refuse(s, 10, 0, s.attempts + 1)
 }
 
 // W1 of a table.
 fn of_row(s: Standing, t: TableNo) -> Deed
     ensures { result ≡ row_deed s t }
 {
-    let f = s.facts;
-    if values::is_table(t, values::tables_of(f.edition)) {
+    if values::is_table(t, values::tables_of(s.facts.edition)) {
         return stay(s, Says::Accepted, Writes::RowSet(t));
     }
     refuse(s, 9, 0, s.attempts)
 }
 
 // What a decision comes to.
-fn of_verdict(s: Standing, held: &[u8; HELD_PLACES as usize], v: Verdict) -> Deed
+#[tactic(auto, unfolding(crate::specs::Deeds::verdict_deed, deciding::specs::Verdicts::command_of, deciding::specs::Verdicts::verdict_of))]
+fn of_verdict(
+    s: Standing,
+    held: &[u8; HELD_PLACES as usize],
+    v: Result<Command, Refusal>,
+) -> Deed
     requires { (s.attempts ≤ 3) × (length s.facts.password ≡ 8) }
-    ensures { result ≡ verdict_deed s held.now v }
+    ensures { result ≡ verdict_deed s held.now (verdict_of v) }
 {
     match v {
-        Verdict::Refuse(n) => refuse(s, n, 0, s.attempts),
-        Verdict::Leave => go_to(s, 0, s.attempts),
-        Verdict::Enter => go_to(s, 3, s.attempts),
-        Verdict::Password => of_password(s, held),
-        Verdict::Read(a) => stay(s, Says::Asked(a), Writes::None),
-        Verdict::WriteClock(c) => stay(s, Says::Accepted, Writes::ClockSet(c)),
-        Verdict::WriteAccount => stay(s, Says::Accepted, Writes::AccountSet),
-        Verdict::WriteTable(t) => of_row(s, t),
+        Err(refusal) => refuse(s, refusal.number(), 0, s.attempts),
+        Ok(Command::Leave) => go_to(s, 0, s.attempts),
+        Ok(Command::Enter) => go_to(s, 3, s.attempts),
+        Ok(Command::Password) => of_password(s, held),
+        Ok(Command::Read(a)) => stay(s, Says::Asked(a), Writes::None),
+        Ok(Command::WriteClock(c)) => stay(s, Says::Accepted, Writes::ClockSet(c)),
+        Ok(Command::WriteAccount) => stay(s, Says::Accepted, Writes::AccountSet),
+        Ok(Command::WriteTable(t)) => of_row(s, t),
     }
 }
 
@@ -295,10 +263,9 @@ fn of_frame(s: Standing, held: &[u8; HELD_PLACES as usize], c: u8, damaged: bool
         let place = receiving::hurt_at(s.count, s.mark, s.place, damaged);
         return refuse(s, 3, place, s.attempts);
     }
-    let f = s.facts;
     let v = deciding::decide(
-        values::tables_of(f.edition),
-        f.decimals,
+        values::tables_of(s.facts.edition),
+        s.facts.decimals,
         s.mode,
         text::first(held, s.count as usize),
         false,
@@ -308,6 +275,7 @@ fn of_frame(s: Standing, held: &[u8; HELD_PLACES as usize], c: u8, damaged: bool
 }
 
 // What is heard, where it is more than a character that is held or dropped.
+#[tactic(auto, unfolding(crate::specs::Deeds::heard_deed))]
 pub fn of_hearing(
     s: Standing,
     held: &[u8; HELD_PLACES as usize],
@@ -319,10 +287,7 @@ pub fn of_hearing(
     ensures { result ≡ heard_deed s held.now h c damaged }
 {
     match h {
-        Hearing::Drop => rest(s, 0),
-        Hearing::Hold => rest(s, 0),
-        Hearing::Restart => rest(s, 0),
-        Hearing::Empty => rest(s, 0),
+        Hearing::Drop | Hearing::Hold | Hearing::Restart | Hearing::Empty => rest(s, 0),
         Hearing::Line => of_line(s, held),
         Hearing::Confirm => of_confirmation(s, held, c, damaged),
         Hearing::Frame => of_frame(s, held, c, damaged),
@@ -338,16 +303,15 @@ fn interrupt(s: Standing) -> Deed
 }
 
 // Eight seconds of silence.
+#[tactic(auto, unfolding(crate::specs::Deeds::silence_deed))]
 pub fn of_silence(s: Standing) -> Deed
     ensures { result ≡ silence_deed s }
 {
-    if s.mode == 0 {
-        return rest(s, 0);
+    match s.mode {
+        0 => rest(s, 0),
+        1 => interrupt(s),
+        _ => rest(s, 1),
     }
-    if s.mode == 1 {
-        return interrupt(s);
-    }
-    rest(s, 1)
 }
 
 // A session that starts anew.
@@ -362,16 +326,8 @@ fn of_month(s: Standing, c: Clock) -> Deed
     ensures { result ≡ month_started s c }
 {
     Deed {
-        number: 1,
-        place: 0,
-        speed: s.speed,
-        mode: s.mode,
-        attempts: s.attempts,
-        rate: s.speed,
         empties: false,
-        long: false,
-        says: Says::Nothing,
-        writes: Writes::MonthClosed(c),
+        ..stay(s, Says::Nothing, Writes::MonthClosed(c))
     }
 }
 
@@ -387,6 +343,7 @@ fn of_character(s: Standing, held: &[u8; HELD_PLACES as usize], b: u8) -> Deed
 }
 
 // An event that changes more than the receiver, the clock or the counters, or says something.
+#[tactic(auto, unfolding(crate::specs::Deeds::left_deed))]
 fn of_event(s: Standing, held: &[u8; HELD_PLACES as usize], clock: Clock, e: Event) -> Deed
     requires { (s.attempts ≤ 3) × ((length s.facts.serial ≡ 10) × (length s.facts.password ≡ 8)) }
     ensures { result ≡ left_deed s held.now clock e }
@@ -395,10 +352,8 @@ fn of_event(s: Standing, held: &[u8; HELD_PLACES as usize], clock: Clock, e: Eve
         Event::Character(b) => of_character(s, held, b),
         Event::Silence => of_silence(s),
         Event::Tick => of_month(s, clock::next_second(clock)),
-        Event::Pulse(units) => rest(s, 0),
         Event::PowerUp => of_power_up(s),
-        Event::PulseOut(units) => rest(s, 0),
-        Event::Unknown => rest(s, 0),
+        Event::Pulse(_) | Event::PulseOut(_) | Event::Unknown => rest(s, 0),
     }
 }
 
@@ -407,8 +362,5 @@ pub fn of_small(s: Small, e: Event) -> Deed
     requires { (s.attempts ≤ 3) × ((length s.plain.facts.serial ≡ 10) × (length s.plain.facts.password ≡ 8)) }
     ensures { result ≡ left_deed (standing_in s) s.receiver.held s.plain.clock e }
 {
-    let r = s.receiver;
-    let held = r.held;
-    let p = s.plain;
-    of_event(standing_in(s), &held, p.clock, e)
+    of_event(standing_in(s), &s.receiver.held, s.plain.clock, e)
 }

@@ -11,38 +11,30 @@ use crate::{Answer, Event, after, answers, passing};
 use state::Meter;
 
 // A character of a number, if it is one.
+#[tactic(auto, unfolding(crate::specs::Life::event_of))]
 fn character_of(value: u32) -> Event
     ensures { result ≡ event_of 0 value }
 {
-    if value <= 255 {
-        return Event::Character(value as u8);
+    match u8::try_from(value) {
+        Ok(b) => Event::Character(b),
+        Err(_) => Event::Unknown,
     }
-    Event::Unknown
 }
 
 // The event of a number and a value.
+#[tactic(auto, unfolding(crate::specs::Life::event_of))]
 pub fn event_of(kind: u8, value: u32) -> Event
     ensures { result ≡ event_of kind value }
 {
-    if kind == 0 {
-        return character_of(value);
+    match kind {
+        0 => character_of(value),
+        1 => Event::Silence,
+        2 => Event::Tick,
+        3 => Event::Pulse(value),
+        4 => Event::PowerUp,
+        5 => Event::PulseOut(value),
+        _ => Event::Unknown,
     }
-    if kind == 1 {
-        return Event::Silence;
-    }
-    if kind == 2 {
-        return Event::Tick;
-    }
-    if kind == 3 {
-        return Event::Pulse(value);
-    }
-    if kind == 4 {
-        return Event::PowerUp;
-    }
-    if kind == 5 {
-        return Event::PulseOut(value);
-    }
-    Event::Unknown
 }
 
 fn room_refusal(room: usize) -> u8
@@ -62,15 +54,14 @@ fn pulse_refusal(family: u8, out: bool, units: u32) -> u8
 }
 
 // The number that refuses an event of a family's meters whatever the rest of the state, or 0.
+#[tactic(auto, unfolding(crate::specs::Life::refusal))]
 pub fn refusal_of(e: Event, family: u8, room: usize) -> u8
     ensures { result ≡ refusal family room e }
 {
     match e {
-        Event::Character(b) => room_refusal(room),
-        Event::Silence => room_refusal(room),
-        Event::Tick => 0,
+        Event::Character(_) | Event::Silence => room_refusal(room),
+        Event::Tick | Event::PowerUp => 0,
         Event::Pulse(units) => pulse_refusal(family, false, units),
-        Event::PowerUp => 0,
         Event::PulseOut(units) => pulse_refusal(family, true, units),
         Event::Unknown => 99,
     }

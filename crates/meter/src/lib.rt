@@ -143,9 +143,7 @@ fn act_on(m: Meter, h: Hearing, c: u8, damaged: bool, reply: &mut [u8]) -> Answe
     ensures held { reply.new ≡ holding reply.old (on_wire (heard m c damaged h).reply) }
 {
     let s = acting::small_of(m);
-    let r = m.receiver;
-    let held = r.held;
-    let d = deeds::of_hearing(deeds::standing_in(s), &held, h, c, damaged);
+    let d = deeds::of_hearing(deeds::standing_in(s), &m.receiver.held, h, c, damaged);
     acting::perform(m, d, reply)
 }
 
@@ -164,10 +162,9 @@ fn take(m: Meter, b: u8, reply: &mut [u8]) -> Answer
         Hearing::Hold => answers::quiet(0, with_receiver(m, receiving::keep(r, c, damaged))),
         Hearing::Restart => answers::quiet(0, with_receiver(m, receiving::restart(c))),
         Hearing::Empty => answers::quiet(0, with_receiver(m, state::setting::empty_receiver())),
-        Hearing::Line => act_on(m, h, c, damaged, reply),
-        Hearing::Confirm => act_on(m, h, c, damaged, reply),
-        Hearing::Frame => act_on(m, h, c, damaged, reply),
-        Hearing::TooLong => act_on(m, h, c, damaged, reply),
+        Hearing::Line | Hearing::Confirm | Hearing::Frame | Hearing::TooLong => {
+            act_on(m, h, c, damaged, reply)
+        }
     }
 }
 

@@ -24,9 +24,7 @@ pub fn pass_second(m: Meter) -> Answer
 pub fn family_of(m: Meter) -> u8
     ensures { result ≡ family_of m }
 {
-    let g = m.registers;
-    let f = g.facts;
-    f.decimals
+    m.registers.facts.decimals
 }
 
 // Whether meters of a family refuse a pulse.

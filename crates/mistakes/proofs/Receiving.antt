@@ -35,14 +35,13 @@ use Rattle.receiving.specs.Hearing.{hearing, listening, confirming, framing}
 use Rattle.replies.specs.declared.Ask.{Ask}
 use Rattle.replies.specs.declared.Ask.TheVariants.{Clock, Serial, Account, Energy, Export, Table}
 use Rattle.deciding.specs.Asking.{table_asked, energy_named, energy_at, energy_asked, asked}
-use Rattle.deciding.specs.declared.Verdict.{Verdict}
-use Rattle.deciding.specs.declared.Verdict.TheVariants.{Refuse, Leave, Enter, Password, Read, WriteClock, WriteAccount, WriteTable}
+use Rattle.deciding.specs.Verdicts.{number_of, Verdict, Refuse, Leave, Enter, Password, Read, WriteClock, WriteAccount, WriteTable}
 use Rattle.deciding.specs.Shape.{start_good, bare_shape, content, framed_shape}
 use Rattle.deciding.specs.Verdict.{entry, bare_verdict, framed_verdict, shape_verdict, verdict}
 use Rattle.tariff.specs.Zones.{own_day, table_for, zone_in, counted}
 use Rattle.tariff.specs.Months.{month_starts, month_closed}
 use Rattle.mistakes.specs.Samples.{serial, account, twos, new_meter, used, new_eqm, used_eqm, held_in, closed_twice, oldest_first}
-use Rattle.mistakes.specs.Receiving.{full_eqm, Setting, Hearings, Decisions, Closing, Tariff}
+use Rattle.mistakes.specs.Receiving.{full_eqm, Refusals, Setting, Hearings, Decisions, Closing, Tariff}
 use Rattle.mistakes.proofs.Differing.{seen, number, flag, byte}
 
 -- each case as a number
@@ -96,6 +95,10 @@ decisions =
       decide-out = (seen verdict_case refl, seen verdict_case refl);
       sums-the-soh = (seen verdict_case refl, seen verdict_case refl);
     }
+
+pub refusals : Refusals
+unfolding number_of
+refusals = record { wrong_number = (number refl, number refl) }
 
 pub setting : Setting
 unfolding stored decimal serial account twos new_meter used held_in tables_of new_rows is_wired rest_speed

@@ -21,7 +21,7 @@ use Rattle.frames.specs.Commands.{bracketed}
 use Rattle.state.specs.declared.Meter.{Meter}
 use Rattle.state.specs.WellFormed.{limit, first_good, held_good, mark_good, receiver_good, below, zones_below, both_below, sum_of, total, tables_good, no_time, unused, period_good, every_period, archive_good, link_good, facts_good, factory_good, registers_good, well_formed, speed_good, hurt_good}
 use Rattle.state.specs.Link.{is_wired, rest_speed}
-use Rattle.state.specs.Making.{Made, facts_refused, made_of, new_rows}
+use Rattle.state.specs.Making.{number_of, Made, facts_refused, made_of, new_rows}
 use Rattle.state.specs.Closing.{periods_of, closed_with}
 use Rattle.datasets.specs.Sets.{data_set, lines_of, energy_name}
 use Rattle.replies.specs.Shown.{energy, row_of}
@@ -31,7 +31,7 @@ use Rattle.replies.specs.Periods.{kept_sets, period_sets, archive_sets, long_set
 use Rattle.replies.specs.Fixed.{identification, password_ask}
 use Rattle.state.specs.Setting.{in_mode}
 use Rattle.mistakes.specs.Samples.{serial, account, password, twos, new_meter, used, new_eqm, used_eqm, closed_twice, oldest_first, held_in}
-use Rattle.mistakes.specs.Sending.{numbered_before, next_rows, Frames, States, Sets, Replies}
+use Rattle.mistakes.specs.Sending.{Refusals, numbered_before, next_rows, Frames, States, Sets, Replies}
 use Rattle.mistakes.proofs.Differing.{seen, number, flag, byte}
 
 pub frames : Frames
@@ -64,6 +64,10 @@ states = computed.0
 
 pub ready-formed : well_formed (in_mode new_meter 4) ≡ true
 ready-formed = computed.1
+
+pub refusals : Refusals
+unfolding number_of
+refusals = record { wrong_number = (number refl, number refl) }
 
 pub sets : Sets
 unfolding stored decimal layout_text serial_text table_text date_text time_text stamp_text counter_digits counter_decimals counter_text energy_text import_name energy_name data_set energy_no serial account twos

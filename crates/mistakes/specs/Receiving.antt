@@ -17,7 +17,8 @@ use Rattle.receiving.specs.declared.Hearing.TheVariants.{Hold, Restart}
 use Rattle.receiving.specs.Hearing.{hearing}
 use Rattle.receiving.specs.Receivers.{last_held, hurt_place, kept_receiver, restarted_receiver, held_after}
 use Rattle.receiving.specs.declared.Holding.TheVariants.{More, Anew}
-use Rattle.deciding.specs.declared.Verdict.TheVariants.{Refuse, Leave, Password, Read, WriteTable}
+use Rattle.deciding.specs.declared.Refusal.TheVariants.{NotAllowed, BadSum}
+use Rattle.deciding.specs.Verdicts.{number_of, Refuse, Leave, Password, Read, WriteTable}
 use Rattle.replies.specs.declared.Ask.TheVariants.{Energy, Export}
 use Rattle.deciding.specs.Verdict.{verdict}
 use Rattle.state.specs.Setting.{with_held, with_mark, with_receiver, in_mode, with_attempts, with_registers, with_clock, with_account, with_tables, with_counters, with_exported, with_zones, with_total, zone_place, counter_of, row_start, with_speed}
@@ -59,6 +60,11 @@ pub record Decisions : Type 0 where
   -- SOH summed too: B0 refused; B0 taken with the BCC that would be
   pub sums-the-soh : RuledOut (verdict 24 0 2 (take 4 (bare_frame B0)) false (get_or (bare_frame B0) 4 0)) (Refuse 4)
       × RuledOut (verdict 24 0 2 (take 4 (bare_frame B0)) false 0x70) Leave
+
+-- of `deciding::Refusal`
+pub record Refusals : Type 0 where
+  -- what is not allowed as bad data; a wrong BCC as damage
+  pub wrong_number : RuledOut (number_of NotAllowed) 9 × RuledOut (number_of BadSum) 3
 
 -- of `state::setting`
 pub record Setting : Type 0 where

@@ -13,7 +13,8 @@ use Rattle.frames.specs.Commands.{P0, P1, bracketed}
 use Rattle.state.specs.Sizes.{row_length, reply_room, period_places, table_places}
 use Rattle.state.specs.WellFormed.{edition_of, limit, well_formed}
 use Rattle.state.specs.Closing.{closed_with}
-use Rattle.state.specs.Making.{empty_receiver, no_counters, no_period, facts_of, meter_of, blank_meter, not_made, made_of}
+use Rattle.state.specs.declared.Refusal.TheVariants.{NoEdition, NoFamily}
+use Rattle.state.specs.Making.{number_of, empty_receiver, no_counters, no_period, facts_of, meter_of, blank_meter, not_made, made_of}
 use Rattle.datasets.specs.Sets.{DataSet, data_set, lines_of, line_of, time_set, date_set, serial_set, account_set, energy_set, table_set, closed_set, kept_set}
 use Rattle.replies.specs.declared.Ask.TheVariants.{Energy, Export, Table}
 use Rattle.replies.specs.Answers.{asked_data}
@@ -70,6 +71,11 @@ pub record States : Type 0 where
   -- a serial of letters taken; 15 with a state of the bad facts
   pub make : RuledOut (made_of (facts_of account password 1 1 0) account noon) (record { number = 1; meter = meter_of (facts_of account password 1 1 0) account noon })
       × RuledOut (made_of (facts_of account password 1 1 0) account noon) (record { number = 15; meter = meter_of (facts_of account password 1 1 0) account noon })
+
+-- of `state::Refusal`
+pub record Refusals : Type 0 where
+  -- a bad fact for an edition that there is none of; that for decimals that no family has
+  pub wrong_number : RuledOut (number_of NoEdition) 15 × RuledOut (number_of NoFamily) 16
 
 -- of `datasets`
 pub record Sets : Type 0 where

@@ -7,7 +7,7 @@ use Rattle.values.specs.Registers.{good_table}
 use Rattle.state.specs.WellFormed.{family_of, tables_in}
 use Rattle.state.specs.declared.Meter.{Meter}
 use Rattle.receiving.specs.Receivers.{held_text}
-use Rattle.deciding.specs.declared.Verdict.{Verdict}
+use Rattle.deciding.specs.Verdicts.{Verdict}
 use Rattle.deciding.specs.Verdict.{verdict}
 use Rattle.meter.specs.Outcomes.{Outcome}
 use Rattle.meter.specs.Acting.{password_given, tried, acted}

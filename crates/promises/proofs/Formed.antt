@@ -45,7 +45,7 @@ use Rattle.receiving.specs.declared.Hearing.TheVariants.{Drop, Hold, Restart, Em
 use Rattle.receiving.specs.Hearing.{hearing}
 use Rattle.receiving.specs.Receivers.{held_text, last_held, kept_receiver, restarted_receiver}
 use Rattle.receiving.proofs.Laws.{Room, hold-room, restart-first}
-use Rattle.deciding.specs.declared.Verdict.{Verdict}
+use Rattle.deciding.specs.Verdicts.{Verdict}
 use Rattle.deciding.specs.Verdict.{verdict}
 use Rattle.meter.specs.Outcomes.{Outcome}
 use Rattle.meter.specs.Link.{slow_too, after_refusal}

@@ -35,7 +35,7 @@ use Rattle.receiving.specs.declared.Hearing.{Hearing}
 use Rattle.receiving.specs.declared.Hearing.TheVariants.{Drop, Hold, Restart, Empty, Line, Confirm, Frame, TooLong}
 use Rattle.receiving.specs.Hearing.{listening, hearing}
 use Rattle.receiving.specs.Receivers.{held_text, last_held}
-use Rattle.deciding.specs.declared.Verdict.{Verdict}
+use Rattle.deciding.specs.Verdicts.{Verdict}
 use Rattle.deciding.specs.Verdict.{verdict}
 use Rattle.tariff.specs.Months.{month_starts, month_closed}
 use Rattle.state.specs.Setting.{in_mode, with_clock}

@@ -8,8 +8,7 @@ use Rattle.values.proofs.Fields.{fits-long}
 use Rattle.state.specs.WellFormed.{family_of, tables_in}
 use Rattle.state.specs.declared.Meter.{Meter}
 use Rattle.receiving.specs.Receivers.{held_text}
-use Rattle.deciding.specs.declared.Verdict.{Verdict}
-use Rattle.deciding.specs.declared.Verdict.TheVariants.{Refuse, Leave, Enter, Password, Read, WriteClock, WriteAccount, WriteTable}
+use Rattle.deciding.specs.Verdicts.{Verdict, Refuse, Leave, Enter, Password, Read, WriteClock, WriteAccount, WriteTable}
 use Rattle.deciding.specs.Shape.{content}
 use Rattle.deciding.specs.Verdict.{verdict}
 use Rattle.meter.specs.Acting.{password_given}

@@ -25,8 +25,7 @@ use Rattle.values.specs.declared.TableNo.{TableNo}
 use Rattle.values.specs.Texts.{clock_form, table_form}
 use Rattle.replies.specs.Answers.{answerable}
 use Rattle.replies.specs.declared.Ask.{Ask}
-use Rattle.deciding.specs.declared.Verdict.{Verdict}
-use Rattle.deciding.specs.declared.Verdict.TheVariants.{Refuse, Leave, Enter, Password, Read, WriteClock, WriteAccount, WriteTable}
+use Rattle.deciding.specs.Verdicts.{Verdict, Refuse, Leave, Enter, Password, Read, WriteClock, WriteAccount, WriteTable}
 use Rattle.deciding.specs.Shape.{start_good, bare_shape, framed_shape, content}
 use Rattle.deciding.specs.Asking.{asked, energy_named, energy_asked, table_asked}
 use Rattle.deciding.specs.Telling.{enclosed, inner, told, clock_told, account_told, table_told}

@@ -19,8 +19,7 @@ use Rattle.receiving.specs.declared.Hearing.{Hearing}
 use Rattle.receiving.specs.declared.Hearing.TheVariants.{Line, Frame}
 use Rattle.receiving.specs.Hearing.{hearing}
 use Rattle.receiving.specs.Receivers.{held_text, last_held}
-use Rattle.deciding.specs.declared.Verdict.{Verdict}
-use Rattle.deciding.specs.declared.Verdict.TheVariants.{WriteClock, WriteAccount, WriteTable}
+use Rattle.deciding.specs.Verdicts.{Verdict, WriteClock, WriteAccount, WriteTable}
 use Rattle.deciding.specs.Shape.{content}
 use Rattle.deciding.specs.Telling.{inner}
 use Rattle.deciding.specs.Verdict.{verdict}

@@ -35,7 +35,7 @@ use Rattle.blocks.specs.Parts.{is_content}
 use Rattle.reading.specs.Whole.{Found, last_line, read_all}
 use Rattle.readback.proofs.Blocks.{block-long, part-of-block, part-is-content, block-strips, block-strips-into}
 use Rattle.readback.proofs.Lines.{sets-read-back, answer-reads-back}
-use Rattle.deciding.specs.declared.Verdict.TheVariants.{Read}
+use Rattle.deciding.specs.Verdicts.{Read}
 use Rattle.deciding.specs.Verdict.{verdict}
 use Rattle.meter.specs.Acting.{acted}
 use Rattle.promises.proofs.Verdicts.{read-answerable}

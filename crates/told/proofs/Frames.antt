@@ -23,8 +23,7 @@ use Rattle.frames.specs.Frames.{closed, frame_of, bare_frame}
 use Rattle.state.specs.WellFormed.{marked}
 use Rattle.receiving.specs.Receivers.{held_text}
 use Rattle.replies.specs.declared.Ask.{Ask}
-use Rattle.deciding.specs.declared.Verdict.{Verdict}
-use Rattle.deciding.specs.declared.Verdict.TheVariants.{Refuse, Leave, Read}
+use Rattle.deciding.specs.Verdicts.{Verdict, Refuse, Leave, Read}
 use Rattle.deciding.specs.Shape.{start_good, bare_shape, framed_shape, content}
 use Rattle.deciding.specs.Asking.{asked, energy_named, energy_asked, table_asked}
 use Rattle.deciding.specs.Verdict.{bare_verdict, framed_verdict, shape_verdict, verdict}

@@ -28,8 +28,7 @@ use Rattle.receiving.specs.declared.Hearing.{Hearing}
 use Rattle.receiving.specs.declared.Hearing.TheVariants.{Drop, Hold, Restart, Frame, TooLong}
 use Rattle.receiving.specs.Hearing.{framing, hearing}
 use Rattle.receiving.specs.Receivers.{kept_receiver, restarted_receiver}
-use Rattle.deciding.specs.declared.Verdict.{Verdict}
-use Rattle.deciding.specs.declared.Verdict.TheVariants.{Refuse, Enter, Password}
+use Rattle.deciding.specs.Verdicts.{Verdict, Refuse, Enter, Password}
 use Rattle.deciding.specs.Shape.{content}
 use Rattle.deciding.specs.Telling.{inner}
 use Rattle.deciding.specs.Telling as telling

@@ -20,8 +20,7 @@ use Rattle.values.specs.declared.TableNo.{TableNo}
 use Rattle.values.proofs.RoundTrip.{clock-reads-back, clock-read-is-text, table-reads-back, table-read-is-text}
 use Rattle.values.proofs.Rules.{row-long, table-text-long}
 use Rattle.frames.specs.Commands.{bracketed, set_clock, set_account, set_table}
-use Rattle.deciding.specs.declared.Verdict.{Verdict}
-use Rattle.deciding.specs.declared.Verdict.TheVariants.{Refuse, WriteClock, WriteAccount, WriteTable}
+use Rattle.deciding.specs.Verdicts.{Verdict, Refuse, WriteClock, WriteAccount, WriteTable}
 use Rattle.deciding.specs.Telling.{enclosed, inner, clock_told, account_told, table_told, told}
 use Rattle.promises.proofs.Choices as choice
 use Rattle.promises.proofs.Verdicts.{clock-real, table-real}

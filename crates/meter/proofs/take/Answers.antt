@@ -1,5 +1,9 @@
 -- `meter::take` meets its contract: each way out is the case of the definition that its tests name. Assumes nothing.
-use mathlib.Core.Path.{refl, sym, ◌∙◌}
+use mathlib.Core.Path.{◌≡◌, refl, sym, ◌∙◌}
+use mathlib.Core.Bool.{true}
+use mathlib.Core.Logic.{◌⊎◌, inl, inr}
+use Rattle.receiving.specs.declared.Hearing.{Hearing}
+use Rattle.receiving.specs.declared.Hearing.TheVariants.{Line, Confirm, Frame, TooLong}
 use Rattle.state.proofs.Limits.{limit-most}
 use Rattle.receiving.proofs.Laws.{hold-room}
 use native.Mathlib.Omega.{arith}
@@ -14,21 +18,16 @@ keep-requires c =
     let held = hold-room _ _ _ _ (sym c.hear-h.ensures ∙ c.in-Hold.is) in
     omega (arith, held.below, limit-most c.args.m.mode)
 
+-- each of the four is one that a meter acts on
+acted_upon : (h : Hearing) → (h ≡ Line) ⊎ ((h ≡ Confirm) ⊎ ((h ≡ Frame) ⊎ (h ≡ TooLong))) → acts h ≡ true
+unfolding acts
+acted_upon h (inl e) = rw e refl
+acted_upon h (inr (inl e)) = rw e refl
+acted_upon h (inr (inr (inl e))) = rw e refl
+acted_upon h (inr (inr (inr e))) = rw e refl
+
 pub act_on-requires : goal.act_on-requires
-unfolding acts
-act_on-requires c = (c.requires, rw c.in-Line.is refl)
-
-pub act_on-requires-in-Confirm : goal.act_on-requires-in-Confirm
-unfolding acts
-act_on-requires-in-Confirm c = (c.requires, rw c.in-Confirm.is refl)
-
-pub act_on-requires-in-Frame : goal.act_on-requires-in-Frame
-unfolding acts
-act_on-requires-in-Frame c = (c.requires, rw c.in-Frame.is refl)
-
-pub act_on-requires-in-TooLong : goal.act_on-requires-in-TooLong
-unfolding acts
-act_on-requires-in-TooLong c = (c.requires, rw c.in-TooLong.is refl)
+act_on-requires c = (c.requires, acted_upon _ c.in-Line.is)
 
 pub returns-in-Drop : goal.returns-in-Drop
 unfolding taken heard holding
@@ -53,22 +52,4 @@ pub returns-in-Line : goal.returns-in-Line
 unfolding taken holding
 returns-in-Line c =
     let said = c.act_on.ensures in
-    record { result = rw (← c.damaged-damaged.ensures, ← c.symbol_of-c.ensures, ← c.last_held.ensures, ← c.hear-h.ensures) said.result; held = rw (← c.damaged-damaged.ensures, ← c.symbol_of-c.ensures, ← c.last_held.ensures, ← c.hear-h.ensures) said.held }
-
-pub returns-in-Confirm : goal.returns-in-Confirm
-unfolding taken holding
-returns-in-Confirm c =
-    let said = c.act_on-in-Confirm.ensures in
-    record { result = rw (← c.damaged-damaged.ensures, ← c.symbol_of-c.ensures, ← c.last_held.ensures, ← c.hear-h.ensures) said.result; held = rw (← c.damaged-damaged.ensures, ← c.symbol_of-c.ensures, ← c.last_held.ensures, ← c.hear-h.ensures) said.held }
-
-pub returns-in-Frame : goal.returns-in-Frame
-unfolding taken holding
-returns-in-Frame c =
-    let said = c.act_on-in-Frame.ensures in
-    record { result = rw (← c.damaged-damaged.ensures, ← c.symbol_of-c.ensures, ← c.last_held.ensures, ← c.hear-h.ensures) said.result; held = rw (← c.damaged-damaged.ensures, ← c.symbol_of-c.ensures, ← c.last_held.ensures, ← c.hear-h.ensures) said.held }
-
-pub returns-in-TooLong : goal.returns-in-TooLong
-unfolding taken holding
-returns-in-TooLong c =
-    let said = c.act_on-in-TooLong.ensures in
     record { result = rw (← c.damaged-damaged.ensures, ← c.symbol_of-c.ensures, ← c.last_held.ensures, ← c.hear-h.ensures) said.result; held = rw (← c.damaged-damaged.ensures, ← c.symbol_of-c.ensures, ← c.last_held.ensures, ← c.hear-h.ensures) said.held }

@@ -5,4 +5,4 @@ use Rattle.deciding.proofs.shape.content_of.Goals as goal
 
 pub returns : goal.returns
 unfolding content
-returns c = rw (c.first.ensures.result_value, c.rest.ensures.result_value, c.less-n.ensures)
+returns c = rw (c.first.ensures.result_value, c.rest.ensures.result_value, c.saturating_sub.ensures)

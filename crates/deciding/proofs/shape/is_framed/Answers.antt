@@ -6,4 +6,4 @@ use Rattle.deciding.proofs.shape.is_framed.Goals as goal
 
 pub returns : goal.returns
 unfolding framed_shape is_printable between
-returns c = rw (c.all_between.ensures, c.content_of.ensures, c.start_good.ensures, c.at.ensures, c.at-last.ensures, c.less.ensures)
+returns c = rw (c.all_between.ensures, c.content_of.ensures, c.start_good.ensures, c.at.ensures, c.at-last.ensures, c.saturating_sub.ensures)

@@ -5,4 +5,4 @@ use Rattle.deciding.proofs.telling.is_enclosed.Goals as goal
 
 pub returns : goal.returns
 unfolding enclosed
-returns c = rw (c.at-closed.ensures, c.less.ensures, c.at-2.ensures, c.at.ensures)
+returns c = rw (c.at-closed.ensures, c.saturating_sub.ensures, c.at-2.ensures, c.at.ensures)

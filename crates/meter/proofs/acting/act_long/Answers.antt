@@ -5,9 +5,9 @@ use borrow.Author.Rules.{rules}
 use Rattle.meter.proofs.acting.act_long.Goals as goal
 
 pub long_block-length-requires : goal.long_block-length-requires
-long_block-length-requires c = (rw c.tables_of.ensures.value ((tables-most c.args.s.plain.facts.edition, c.requires.0)), c.requires.1)
+long_block-length-requires c = (rw c.tables_of-tables.ensures.value ((tables-most c.args.s.plain.facts.edition, c.requires.0)), c.requires.1)
 
 pub returns : goal.returns
 returns c =
-    let said = rw c.tables_of.ensures.value at c.long_block-length.ensures in
+    let said = rw c.tables_of-tables.ensures.value at c.long_block-length.ensures in
     record { result = rw (c.answer_with.ensures, said.whole); held = said.held }

@@ -3,4 +3,4 @@ use borrow.Author.Rules.{rules}
 use Rattle.meter.proofs.deeds.at_rest.Goals as goal
 
 pub returns : goal.returns
-returns c = rw c.rest_speed-speed.ensures
+returns c = rw (c.stay.ensures, c.rest_speed-speed.ensures)

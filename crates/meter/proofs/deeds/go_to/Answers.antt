@@ -3,4 +3,4 @@ use borrow.Author.Rules.{rules}
 use Rattle.meter.proofs.deeds.go_to.Goals as goal
 
 pub returns : goal.returns
-returns c = rw c.speed_in.ensures
+returns c = rw (c.stay.ensures, c.speed_in.ensures)

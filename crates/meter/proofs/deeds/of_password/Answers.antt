@@ -4,16 +4,16 @@ use Rattle.meter.specs.Deeds.{password_deed}
 use borrow.Author.Rules.{rules}
 use Rattle.meter.proofs.deeds.of_password.Goals as goal
 
-pub returns-then-attempts-eq3 : goal.returns-then-attempts-eq3
+pub returns-then-s-eq3 : goal.returns-then-s-eq3
 unfolding password_deed
-returns-then-attempts-eq3 c = rw (eq-eqb _ _ c.if-attempts-eq3.true, c.refuse.ensures)
+returns-then-s-eq3 c = rw (eq-eqb _ _ c.if-s-eq3.true, c.refuse.ensures)
 
 pub returns-then-same : goal.returns-then-same
 unfolding password_deed
 returns-then-same c =
-    rw (ne_eqb _ _ c.if-attempts-eq3.false, ← c.rest.ensures.result_value, ← c.first.ensures.result_value, ← c.same.ensures, c.if-same.true, c.go_to.ensures)
+    rw (ne_eqb _ _ c.if-s-eq3.false, ← c.rest.ensures.result_value, ← c.first.ensures.result_value, ← c.same.ensures, c.if-same.true, c.go_to.ensures)
 
 pub returns : goal.returns
 unfolding password_deed
 returns c =
-    rw (ne_eqb _ _ c.if-attempts-eq3.false, ← c.rest.ensures.result_value, ← c.first.ensures.result_value, ← c.same.ensures, c.if-same.false, c.refuse-2.ensures)
+    rw (ne_eqb _ _ c.if-s-eq3.false, ← c.rest.ensures.result_value, ← c.first.ensures.result_value, ← c.same.ensures, c.if-same.false, c.refuse-2.ensures)
