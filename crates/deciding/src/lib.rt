@@ -124,7 +124,14 @@ fn by_shape(tables: u8, family: u8, mode: u8, h: &[u8]) -> Result<Command, Refus
 }
 
 // What a whole frame comes to, of a meter with so many tables and of a family: its held characters through ETX, whether any was damaged, and its BCC.
-pub fn decide(tables: u8, family: u8, mode: u8, h: &[u8], mark: bool, sum: u8) -> Result<Command, Refusal>
+pub fn decide(
+    tables: u8,
+    family: u8,
+    mode: u8,
+    h: &[u8],
+    mark: bool,
+    sum: u8,
+) -> Result<Command, Refusal>
     ensures { verdict_of result ≡ verdict tables family mode h.now mark sum }
 {
     if mark {

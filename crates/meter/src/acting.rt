@@ -139,7 +139,12 @@ pub fn start_long(s: Small, rows: &[u8; ALL_ROWS], reply: &mut [u8]) -> usize
     ensures next { result ≡ length (long_begun (without_archive s.plain rows.now)) }
     ensures held { reply.new ≡ stored reply.old 0 (long_begun (without_archive s.plain rows.now)) }
 {
-    replies::long_start(reply, s.plain, rows, values::tables_of(s.plain.facts.edition))
+    replies::long_start(
+        reply,
+        s.plain,
+        rows,
+        values::tables_of(s.plain.facts.edition),
+    )
 }
 
 // Its end behind the periods, and what is answered and stored.

@@ -233,11 +233,7 @@ fn of_row(s: Standing, t: TableNo) -> Deed
 
 // What a decision comes to.
 #[tactic(auto, unfolding(crate::specs::Deeds::verdict_deed, deciding::specs::Verdicts::command_of, deciding::specs::Verdicts::verdict_of))]
-fn of_verdict(
-    s: Standing,
-    held: &[u8; HELD_PLACES as usize],
-    v: Result<Command, Refusal>,
-) -> Deed
+fn of_verdict(s: Standing, held: &[u8; HELD_PLACES as usize], v: Result<Command, Refusal>) -> Deed
     requires { (s.attempts ≤ 3) × (length s.facts.password ≡ 8) }
     ensures { result ≡ verdict_deed s held.now (verdict_of v) }
 {

@@ -33,10 +33,10 @@ returns c =
     let d = c.args.d.now in
     let table = table_asked c.args.tables d in
     elim c.if-is_eqm.branch [
-      then-is_eqm+in_default-energy_named w ↦
-        rw (← c.is_eqm.ensures, w.if-is_eqm.true, c.table.ensures)
-        (not_meant went table (energy_named (char "G") d) w.in_default-energy_named.ensures
-        ∙ not_meant came (cond (ltb (energy_named (char "G") d) 5) (went (energy_at (energy_named (char "G") d))) table) (energy_named (char "E") d) c.in_default.ensures)
-    | else-is_eqm w ↦
-        rw (← c.is_eqm.ensures, w.if-is_eqm.false, c.table.ensures) (not_meant came table (energy_named (char "E") d) c.in_default.ensures)
+      | then-is_eqm+in_default-energy_named w ↦
+          rw (← c.is_eqm.ensures, w.if-is_eqm.true, c.table.ensures)
+          (not_meant went table (energy_named (char "G") d) w.in_default-energy_named.ensures
+          ∙ not_meant came (cond (ltb (energy_named (char "G") d) 5) (went (energy_at (energy_named (char "G") d))) table) (energy_named (char "E") d) c.in_default.ensures)
+      | else-is_eqm w ↦
+          rw (← c.is_eqm.ensures, w.if-is_eqm.false, c.table.ensures) (not_meant came table (energy_named (char "E") d) c.in_default.ensures)
     ]
