@@ -1,16 +1,14 @@
 -- What the check answers, and that any two right answers are equal. Assumes nothing.
 use mathlib.Core.Path.{◌≡◌, refl, sym, ◌∙◌}
-use mathlib.Core.Logic.{◌⊎◌, inl, inr}
-use mathlib.Core.Bool.{false}
+use mathlib.Core.Logic.{inl, inr}
 use mathlib.Core.List.{List}
-use Prim.Native.Nat.{ℕ, ◌+◌, ◌*◌, ◌-◌, ◌<◌, ◌≤◌}
+use Prim.Native.Nat.{ℕ, ◌+◌, ◌*◌, ◌<◌, ◌≤◌}
 use native.Mathlib.Omega.{arith}
 use lib.ListN.{length, take, drop, length-drop, drop_of_length-le}
 use lib.Seq.{length-take-le}
-use Rattle.text.specs.Beginnings.{Longest}
 use Rattle.text.proofs.Beginnings.{one-longest, longest-whole}
 use Rattle.card.specs.Grammar.{IsCard}
-use Rattle.card.specs.Place.{Accepted, Refused, CheckedAs}
+use Rattle.card.specs.Place.{CheckedAs}
 use Rattle.card.specs.Columns.{account_column, table_column, FirstStray}
 use Rattle.card.specs.Fields.{Fields, Scanned}
 use Rattle.card.proofs.Fields.{length-card, tables-bound}

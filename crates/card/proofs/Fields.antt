@@ -1,21 +1,20 @@
 -- The two fields, column by column: what they hold, and that just that is such a field; and that a card has one reading. Assumes nothing.
 use mathlib.Core.Path.{◌≡◌, refl, sym, ap, ap₂, ◌∙◌}
-use mathlib.Core.Bool.{Bool, true, false, ◌&&◌}
+use mathlib.Core.Bool.{true, ◌&&◌}
 use mathlib.Core.List.{List, [], ◌∷◌, ◌++◌}
-use Prim.Native.Nat.{ℕ, zero, suc, ◌+◌, ◌-◌, ◌*◌, ◌<◌, ◌≤◌}
-use native.Mathlib.Nat.{le_of_suc-le-suc}
+use Prim.Native.Nat.{ℕ, zero, suc, ◌+◌, ◌*◌, ◌<◌, ◌≤◌}
 use native.Mathlib.Omega.{arith}
 use borrow.Author.Tests.{leb-true, ltb-true, eqb-true, eq-eqb, ne_eqb, lt-ltb, le-leb}
 use lib.Dec.{eqb, ltb, leb}
 use lib.ListN.{length, get_or, take, drop, length-append, length-drop, take-append-drop}
-use lib.Seq.{drop-cons, take_at, drop_at, get_or-drop, get_or-take, take-append-le, length-take-le, take_all, drop-drop}
+use lib.Seq.{drop-cons, take_at, drop_at, get_or-drop, get_or-take, length-take-le, drop-drop}
 use Rattle.line.specs.Runs.{every}
 use Rattle.line.proofs.Runs.{and_left, and_right, and_both, every-at}
 use Rattle.text.specs.Classes.{between}
 use Rattle.values.specs.Registers.{is_account_character, good_account, good_row}
 use Rattle.post.specs.Grammar.{Entry, rising}
 use Rattle.post.proofs.Lines.{row-length, row-zones, every_of}
-use Rattle.post.proofs.Reading.{rising-number, rising-rest, rising-table, rising-row, count_entries}
+use Rattle.post.proofs.Reading.{rising-rest, rising-row, count_entries}
 use Rattle.card.specs.Grammar.{field_text, account_field, table_field, table_fields, card_text, IsCard}
 use Rattle.card.specs.Columns.{account_column, table_column, table_stands}
 

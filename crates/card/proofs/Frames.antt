@@ -1,24 +1,23 @@
 -- The frames of a card's fields, one by one, are those of its account and its entries; what the reader answers, from what the check does; and
 -- any two right answers are equal, with every byte of the buffer. Assumes nothing.
 use mathlib.Core.Path.{◌≡◌, refl, sym, ap, ap₂, ◌∙◌}
-use mathlib.Core.Logic.{◌⊎◌, inl, inr}
+use mathlib.Core.Logic.{inl, inr}
 use mathlib.Core.Bool.{true}
-use mathlib.Core.List.{List, [], ◌∷◌, ◌++◌, append_assoc, append-nil, map}
+use mathlib.Core.List.{List, [], ◌∷◌, ◌++◌, append_assoc, append-nil}
 use Prim.Native.Nat.{ℕ, zero, suc, ◌+◌, ◌-◌, ◌*◌, ◌/◌, ◌%◌, ◌<◌, ◌≤◌}
 use native.Mathlib.Omega.{arith}
 use native.Mathlib.Numerals.{add-one}
 use lib.ListN.{length, get_or, take, drop, length-append, length-map, length-drop}
-use lib.Seq.{get_or-drop, drop-append-add, take_at, drop_at, take_all, drop-drop, length-take-le}
+use lib.Seq.{get_or-drop, drop-append-add, take_at, drop-drop, length-take-le}
 use Rattle.line.specs.Characters.{sent}
 use Rattle.text.specs.Decimal.{decimal}
 use Rattle.text.specs.Layout.{layout_text}
 use Rattle.text.specs.Writing.{stored, holding}
-use Rattle.text.specs.Beginnings.{Longest}
 use Rattle.text.proofs.Beginnings.{one-longest}
 use Rattle.text.proofs.Writing.{and_then, stored-holding, filled}
 use Rattle.values.specs.Texts.{table_text}
-use Rattle.values.specs.Registers.{good_account, good_row}
-use Rattle.frames.specs.Frames.{sealed, closed, frame_of, on_wire}
+use Rattle.values.specs.Registers.{good_row}
+use Rattle.frames.specs.Frames.{sealed, frame_of, on_wire}
 use Rattle.frames.specs.Commands.{W1, bracketed, set_account, set_table}
 use Rattle.frames.proofs.Closing.{sealed-length}
 use Rattle.frames.proofs.Table.{length-table-frame}
@@ -26,10 +25,14 @@ use Rattle.post.specs.Grammar.{Entry, rising}
 use Rattle.post.proofs.Lines.{row-length}
 use Rattle.post.proofs.Reading.{rising-row, rising-rest}
 use Rattle.export.specs.Frames.{entry_frame, frames_of}
-use Rattle.card.specs.Grammar.{account_field, table_field, table_fields, card_text, IsCard}
+use Rattle.std.specs.Prelude.{Result, Ok, Err, IsErrAnd}
+use Rattle.card.specs.declared.Refusal.{Refusal}
+use Rattle.card.specs.declared.Refusal.TheVariants as refusal
+use Rattle.card.specs.Refusals.{refusal_number, refusal_place, answer_number, answer_length, answer_place}
+use Rattle.card.specs.Grammar.{table_field, table_fields, card_text, IsCard}
 use Rattle.card.specs.Place.{Refused, CheckedAs}
-use Rattle.card.specs.Frames.{account_frame, card_frames, frames_length, field_frame, field_frames, text_frames, Done, NoRoom, NoCard, ReadAs}
-use Rattle.card.proofs.Fields.{account-length, account-field, table-field, length-first, take-account, drop-account, length-card, tables-bound, one-card}
+use Rattle.card.specs.Frames.{account_frame, card_frames, frames_length, field_frame, field_frames, text_frames, ReadAs}
+use Rattle.card.proofs.Fields.{account-length, account-field, table-field, length-first, drop-account, length-card, tables-bound, one-card}
 
 -- the frames as `sealed` starts and contents
 pub account-sealed : (a : List ℕ) → sealed ((1 ∷ 87 ∷ 49 ∷ 2 ∷ 75 ∷ 40 ∷ []) ++ (a ++ (41 ∷ []))) ≡ frame_of W1 (set_account a)
@@ -174,6 +177,20 @@ module _ (tables : ℕ) (text : List ℕ) (number place : ℕ) where
   answers-40 out c h =
       let r = refusal-of c h in
       inr (inr (record { refused = refl; no-card = r.no-card; longest = r.longest; no_length = refl; kept = refl }))
+
+-- no refusal has the number of what is done
+pub not-done : (r : Refusal) → refusal_number r ≡ 1 → ⊥
+not-done (refusal.NoCard place) e = omega arith
+not-done refusal.NoRoom e = omega arith
+not-done refusal.NoEdition e = omega arith
+
+-- what the check refuses, the reader does
+pub answers-refused : (tables : ℕ) (text out : List ℕ) (r : Refusal) (answer : Result ℕ Refusal) → CheckedAs tables text (refusal_number r) (refusal_place r)
+    → IsErrAnd answer (λ e. e ≡ r) → ReadAs tables text out (answer_number answer) (answer_length answer) (answer_place answer) out
+answers-refused tables text out r (Ok length) c e = absurd e
+answers-refused tables text out (refusal.NoCard place) (Err why) c e = rw e (answers-40 tables text 40 place out c (λ z. omega arith))
+answers-refused tables text out refusal.NoRoom (Err why) c e = absurd (omega (arith, (refusal-of tables text 41 0 c (λ z. omega arith)).refused))
+answers-refused tables text out refusal.NoEdition (Err why) c e = absurd (omega (arith, (refusal-of tables text 16 0 c (λ z. omega arith)).refused))
 
 module _ (tables : ℕ) (text out : List ℕ) (p : IsCard tables text) where
   -- the rows stand in the text, and are no more than the tables

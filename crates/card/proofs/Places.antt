@@ -1,15 +1,15 @@
 -- The longest beginning that some card shares, field by field: a field that stands at the front is passed, and where none stands the place is
 -- that of its columns. Assumes nothing.
-use mathlib.Core.Path.{◌≡◌, refl, sym, ap, ap₂, ◌∙◌}
-use mathlib.Core.Logic.{◌⊎◌, inl, inr, ⊎_elim}
-use mathlib.Core.Bool.{Bool, true, false, ◌&&◌}
+use mathlib.Core.Path.{◌≡◌, refl, sym, ap, ◌∙◌}
+use mathlib.Core.Logic.{⊎_elim}
+use mathlib.Core.Bool.{true, false}
 use mathlib.Core.List.{List, [], ◌∷◌, ◌++◌, append-nil}
-use Prim.Native.Nat.{ℕ, zero, suc, ◌+◌, ◌-◌, ◌*◌, ◌<◌, ◌≤◌}
+use Prim.Native.Nat.{ℕ, suc, ◌+◌, ◌<◌, ◌≤◌}
 use native.Mathlib.Omega.{arith}
 use borrow.Author.Tests.{ltb-true}
 use lib.Dec.{ltb, eqb}
 use lib.ListN.{length, get_or, take, drop, replicate, length-append, length-drop, take-append-drop, drop_of_length-le}
-use lib.Seq.{take_at, drop_at, length-take-le, get_or-take, take-take, take-append-le, take_all, drop-drop}
+use lib.Seq.{take_at, drop_at, length-take-le, get_or-take, take_all, drop-drop}
 use Rattle.line.specs.Runs.{every}
 use Rattle.line.proofs.Runs.{and_right}
 use Rattle.text.specs.Classes.{between, is_letter, is_digit}
@@ -20,10 +20,10 @@ use Rattle.post.specs.Grammar.{Entry, rising}
 use Rattle.post.proofs.Reading.{rising-number, rising-rest, rising-table, rising-row, rising-cons}
 use Rattle.card.specs.Grammar.{account_field, table_field, table_fields, card_text, IsCard}
 use Rattle.card.specs.Columns.{account_column, table_column, FirstStray, table_stands}
-use Rattle.card.specs.Fields.{Fields, Passed, Scanned}
+use Rattle.card.specs.Fields.{Fields, Passed}
 use Rattle.post.proofs.Mixing.{mixed, length-mixed, same-mixed, mixed-fits}
 use Rattle.card.proofs.Strays.{longest-stray}
-use Rattle.card.proofs.Fields.{length-account, length-table, account-fits, table_fits, fits-account, fits-good, entry_in, Stands, stands, fits-table, fits-stands, length-first, take-field, drop-field, length_none, length-cons, same-entry, take-account, drop-account, same-account}
+use Rattle.card.proofs.Fields.{length-account, length-table, account-fits, table_fits, fits-account, fits-good, entry_in, Stands, fits-table, fits-stands, take-field, drop-field, length_none, length-cons, same-entry, take-account, drop-account}
 
 -- what stands behind the fields may be nothing
 pub no_fields : (tables above : ℕ) → Fields tables above []

@@ -1,5 +1,5 @@
 -- What may still stand behind the fields that were read.
-use Rattle.std.specs.Prelude.{◌≡◌, true, false, List, [], ℕ, ◌+◌, ◌*◌, ◌<◌, ◌≤◌, length, drop}
+use Rattle.std.specs.Prelude.{◌≡◌, true, false, List, ℕ, ◌+◌, ◌<◌, ◌≤◌, length, drop}
 use Rattle.text.specs.Beginnings.{Longest}
 use Rattle.post.specs.Grammar.{Entry, rising}
 use Rattle.card.specs.Grammar.{table_fields, IsCard}

@@ -1,5 +1,5 @@
 -- Request [11]: a card that is read, and what the call answers.
-use Rattle.std.specs.Prelude.{◌≡◌, ◌⊎◌, true, false, List, [], ◌∷◌, ◌++◌, ℕ, zero, suc, ◌+◌, ◌*◌, ◌<◌, ◌≤◌, length, get_or, take, drop}
+use Rattle.std.specs.Prelude.{◌≡◌, ◌⊎◌, true, false, List, [], ◌++◌, ℕ, zero, suc, ◌+◌, ◌*◌, ◌<◌, ◌≤◌, length, get_or, take, drop}
 use Rattle.text.specs.Beginnings.{Longest}
 use Rattle.text.specs.Writing.{holding}
 use Rattle.values.specs.Edition.{is_edition, tables_of, row_length}

@@ -3,3 +3,4 @@ pub mod Place
 pub mod Columns
 pub mod Fields
 pub mod Frames
+pub mod Refusals

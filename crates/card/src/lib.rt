@@ -1,13 +1,14 @@
 // Cards: whether a text is one, where it leaves every card, and the frames that bring it to a meter. All is said over the number of tables.
 #![tactic(auto)]
 
-ghost use Rattle.std.specs.Prelude.{◌≡◌, ◌++◌, ◌+◌, ◌*◌, ◌<◌, ◌≤◌, length, drop};
+ghost use Rattle.std.specs.Prelude.{◌≡◌, ℕ, Bool, ◌++◌, ◌+◌, ◌*◌, ◌<◌, ◌≤◌, length, drop};
 ghost use Rattle.line.specs.Quoted.{chars};
 ghost use Rattle.text.specs.Writing.{stored, holding};
 ghost use Rattle.values.specs.Edition.{row_length};
 ghost use Rattle.frames.specs.Frames.{sealed, frame_of, on_wire};
 ghost use Rattle.frames.specs.Commands.{W1, set_table};
 ghost use Rattle.card.specs.Place.{CheckedAs, CheckedFor};
+ghost use Rattle.card.specs.Refusals.{refusal_number, refusal_place, answer_number, answer_length, answer_place};
 ghost use Rattle.card.specs.Columns.{account_column, table_column, FirstStray, table_stands};
 ghost use Rattle.card.specs.Fields.{Passed, Scanned};
 ghost use Rattle.card.specs.Frames.{account_frame, field_frame, field_frames, text_frames, ReadAs, ReadFor};
@@ -23,19 +24,35 @@ const ACCOUNT_FRAME: usize = 19;
 
 const TABLE_FRAME: usize = 36;
 
-// The check's answer: 1, or 40 with the place, or 16.
-#[derive(Clone, Copy)]
-pub struct Checked {
-    pub number: u8,
-    pub place: usize,
+// Why a text is refused, or gives no frames: it is no card, and leaves every card at this place; the buffer is too short; there is no such edition.
+#[derive(Clone, Copy, Debug, PartialEq, Eq)]
+pub enum Refusal {
+    NoCard(usize),
+    NoRoom,
+    NoEdition,
 }
 
-// The reader's answer: 1 with the length, 40 with the place, or 41, or 16.
-#[derive(Clone, Copy)]
-pub struct Framed {
-    pub number: u8,
-    pub length: usize,
-    pub place: usize,
+impl Refusal {
+    // Document 01's number: 40, 41 or 16.
+    pub fn number(self) -> u8
+        ensures { result ≡ refusal_number self }
+    {
+        match self {
+            Refusal::NoCard(_) => 40,
+            Refusal::NoRoom => 41,
+            Refusal::NoEdition => 16,
+        }
+    }
+
+    // The place that document 01 gives with it: 0 but for a text that is no card.
+    pub fn place(self) -> usize
+        ensures { result ≡ refusal_place self }
+    {
+        match self {
+            Refusal::NoCard(place) => place,
+            Refusal::NoRoom | Refusal::NoEdition => 0,
+        }
+    }
 }
 
 // How far whole fields reach, and the number of the last table.
@@ -46,68 +63,44 @@ pub struct Reached {
 }
 
 // Whether a column of the account's field may hold a byte.
+#[tactic(auto, unfolding(crate::specs::Columns::account_column))]
 fn account_column(j: usize, c: u8) -> bool
     ensures { result ≡ account_column j c }
 {
-    if j == 0 {
-        return c == 1;
+    match j {
+        0 => c == 1,
+        1 => c == 0,
+        2 => c == 10,
+        _ => values::is_account_character(c),
     }
-    if j == 1 {
-        return c == 0;
-    }
-    if j == 2 {
-        return c == 10;
-    }
-    values::is_account_character(c)
 }
 
 // Whether a column of a table's field may, below another number.
+#[tactic(auto, unfolding(crate::specs::Columns::table_column, text::specs::Classes::between))]
 fn table_column(j: usize, c: u8, above: u8, tables: u8) -> bool
     ensures { result ≡ table_column tables above j c }
 {
-    if j == 0 {
-        return (c == 2) & (above < tables);
+    match j {
+        0 => (c == 2) & (above < tables),
+        1 => c == 0,
+        2 => c == 25,
+        3 => (above < c) & (c <= tables),
+        _ => (b'1' <= c) & (c <= b'4'),
     }
-    if j == 1 {
-        return c == 0;
-    }
-    if j == 2 {
-        return c == 25;
-    }
-    if j == 3 {
-        return (above < c) & (c <= tables);
-    }
-    (b'1' <= c) & (c <= b'4')
 }
 
-// The first column of the account's field that strays.
-fn account_place(s: &[u8]) -> usize
-    ensures { FirstStray account_column 13 s.now result }
+// The first of so many columns that strays, by what each of them may hold.
+fn first_stray<F: Fn(usize, u8) -> bool>(s: &[u8], width: usize, fits: F) -> usize
+    requires { F.IsAlwaysCallable fits }
+    ensures { (column : ℕ → ℕ → Bool) → ((j c : ℕ) (r : Bool) → F.post fits j c r → r ≡ column j c) → FirstStray column width s.now result }
 {
-    let part = text::first(s, ACCOUNT_FIELD);
-    let mut j = 0;
-    while j < part.len() {
-        if !account_column(j, part[j]) {
+    let part = text::first(s, width);
+    for (j, c) in part.iter().enumerate() {
+        if !fits(j, *c) {
             return j;
         }
-        j += 1;
     }
-    j
-}
-
-// The first column of a table's field that strays.
-fn table_place(s: &[u8], above: u8, tables: u8) -> usize
-    ensures { FirstStray (table_column tables above) 28 s.now result }
-{
-    let part = text::first(s, TABLE_FIELD);
-    let mut j = 0;
-    while j < part.len() {
-        if !table_column(j, part[j], above, tables) {
-            return j;
-        }
-        j += 1;
-    }
-    j
+    part.len()
 }
 
 // Whether the field of a table that may follow stands at the front; all of it is seen at once.
@@ -129,10 +122,7 @@ fn scan(text: &[u8], tables: u8) -> Reached
 {
     let mut at = ACCOUNT_FIELD;
     let mut above = 0;
-    while at < text.len() {
-        if !table_stands(&text[at..], above, tables) {
-            return Reached { at, above };
-        }
+    while table_stands(&text[at..], above, tables) {
         above = text[at + 3];
         at += TABLE_FIELD;
     }
@@ -140,42 +130,31 @@ fn scan(text: &[u8], tables: u8) -> Reached
 }
 
 // The check, for so many tables.
-pub fn check_of(text: &[u8], tables: u8) -> Checked
-    ensures { CheckedAs tables text.now result.number result.place }
+pub fn check_of(text: &[u8], tables: u8) -> Result<(), Refusal>
+    ensures { CheckedAs tables text.now (answer_number result) (answer_place result) }
 {
-    let front = account_place(text);
+    let front = first_stray(text, ACCOUNT_FIELD, account_column);
     if front < ACCOUNT_FIELD {
-        return Checked {
-            number: 40,
-            place: front,
-        };
+        return Err(Refusal::NoCard(front));
     }
     let fields = scan(text, tables);
-    let at = fields.at;
-    if at == text.len() {
-        return Checked {
-            number: 1,
-            place: 0,
-        };
+    if fields.at == text.len() {
+        return Ok(());
     }
-    let place = table_place(&text[at..], fields.above, tables);
-    Checked {
-        number: 40,
-        place: at + place,
-    }
+    let place = first_stray(&text[fields.at..], TABLE_FIELD, |j, c| {
+        table_column(j, c, fields.above, tables)
+    });
+    Err(Refusal::NoCard(fields.at + place))
 }
 
 // The check: whether a text is a card for an edition, and if not, where it leaves every card.
-pub fn check(edition: u8, text: &[u8]) -> Checked
-    ensures { CheckedFor edition text.now result.number result.place }
+pub fn check(edition: u8, text: &[u8]) -> Result<(), Refusal>
+    ensures { CheckedFor edition text.now (answer_number result) (answer_place result) }
 {
-    if values::is_edition(edition) {
-        return check_of(text, values::tables_of(edition));
+    if !values::is_edition(edition) {
+        return Err(Refusal::NoEdition);
     }
-    Checked {
-        number: 16,
-        place: 0,
-    }
+    check_of(text, values::tables_of(edition))
 }
 
 // A frame: its start up to the content, the content, the closing bracket, ETX and BCC, with parity.
@@ -241,10 +220,8 @@ fn write_tables(text: &[u8], tables: usize, out: &mut [u8])
     requires { (13 + 28 * tables ≤ length text.now) × (19 + 36 * tables ≤ length out.old) }
     ensures { out.new ≡ stored out.old 19 (field_frames (drop 13 text.now) tables) }
 {
-    let mut i = 0;
-    while i < tables {
+    for i in 0..tables {
         write_frame(text, i, out);
-        i += 1;
     }
 }
 
@@ -258,45 +235,26 @@ fn write_frames(text: &[u8], tables: usize, out: &mut [u8])
     write_tables(text, tables, out);
 }
 
-// A card read, for so many tables.
-pub fn read_of(text: &[u8], out: &mut [u8], tables: u8) -> Framed
-    ensures { ReadAs tables text.now out.old result.number result.length result.place out.new }
+// A card read, for so many tables: how long the frames are.
+pub fn read_of(text: &[u8], out: &mut [u8], tables: u8) -> Result<usize, Refusal>
+    ensures { ReadAs tables text.now out.old (answer_number result) (answer_length result) (answer_place result) out.new }
 {
-    let checked = check_of(text, tables);
-    let number = checked.number;
-    if number != 1 {
-        return Framed {
-            number: 40,
-            length: 0,
-            place: checked.place,
-        };
-    }
+    check_of(text, tables)?;
     let rows = text.len() / TABLE_FIELD;
-    if out.len() < ACCOUNT_FRAME + TABLE_FRAME * rows {
-        return Framed {
-            number: 41,
-            length: 0,
-            place: 0,
-        };
+    let length = ACCOUNT_FRAME + TABLE_FRAME * rows;
+    if out.len() < length {
+        return Err(Refusal::NoRoom);
     }
     write_frames(text, rows, out);
-    Framed {
-        number: 1,
-        length: ACCOUNT_FRAME + TABLE_FRAME * rows,
-        place: 0,
-    }
+    Ok(length)
 }
 
 // A card read for an edition: the frames that set the account and then the tables, or why there are none; a refusal leaves the buffer as it was.
-pub fn read(edition: u8, text: &[u8], out: &mut [u8]) -> Framed
-    ensures { ReadFor edition text.now out.old result.number result.length result.place out.new }
+pub fn read(edition: u8, text: &[u8], out: &mut [u8]) -> Result<usize, Refusal>
+    ensures { ReadFor edition text.now out.old (answer_number result) (answer_length result) (answer_place result) out.new }
 {
-    if values::is_edition(edition) {
-        return read_of(text, out, values::tables_of(edition));
+    if !values::is_edition(edition) {
+        return Err(Refusal::NoEdition);
     }
-    Framed {
-        number: 16,
-        length: 0,
-        place: 0,
-    }
+    read_of(text, out, values::tables_of(edition))
 }

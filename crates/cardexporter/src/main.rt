@@ -13,6 +13,5 @@ fn main(rt: HostRuntime) {
     let n = input.length;
     let mut out = [0u8; 919];
     let shown = cardexporting::show(streams::edition_told(&rt), &text[..n], &mut out);
-    let length = shown.length;
-    streams::write_once(&rt, &out[..length], shown.number == 1);
+    streams::write_once(&rt, &out[..shown.length], shown.outcome.is_ok());
 }

@@ -14,9 +14,16 @@ use state::Meter;
 pub extern "C" fn dirgemist_card_check(edition: u8, text: &[u8], place: &mut usize) -> u8
     ensures { CheckedFor edition text.now result place.new }
 {
-    let checked = card::check(edition, text);
-    *place = checked.place;
-    checked.number
+    match card::check(edition, text) {
+        Ok(()) => {
+            *place = 0;
+            1
+        }
+        Err(refusal) => {
+            *place = refusal.place();
+            refusal.number()
+        }
+    }
 }
 
 // The frames of a card for an edition: 1, 40, 41 or 16; length and place are always written, the buffer only with 1.
@@ -30,18 +37,33 @@ pub extern "C" fn dirgemist_card_read(
 ) -> u8
     ensures { ReadFor edition text.now out.old result length.new place.new out.new }
 {
-    let framed = card::read(edition, text, out);
-    *length = framed.length;
-    *place = framed.place;
-    framed.number
+    match card::read(edition, text, out) {
+        Ok(size) => {
+            *length = size;
+            *place = 0;
+            1
+        }
+        Err(refusal) => {
+            *length = 0;
+            *place = refusal.place();
+            refusal.number()
+        }
+    }
 }
 
 fn hand_over(m: Meter, out: &mut [u8], length: &mut usize) -> u8
     ensures { (result ≡ (written_in m out.old).number) × (out.new ≡ written_to m out.old) × (length.new ≡ (written_in m out.old).length) }
 {
-    let written = cardwriting::write(m, out);
-    *length = written.length;
-    written.number
+    match cardwriting::write(m, out) {
+        Ok(size) => {
+            *length = size;
+            1
+        }
+        Err(refusal) => {
+            *length = 0;
+            refusal.number()
+        }
+    }
 }
 
 // The card of a record that is only read: 1, 16, 14 or 41; the length is always written, the buffer only with 1.

@@ -1,15 +1,14 @@
 -- A card written from a state is a card, and is read back to the state's own account and rows. Assumes nothing.
-use mathlib.Core.Path.{◌≡◌, refl, sym, ap, ◌∙◌}
+use mathlib.Core.Path.{◌≡◌, refl}
 use mathlib.Core.Bool.{true}
-use mathlib.Core.List.{List, [], ◌∷◌}
-use Prim.Native.Nat.{ℕ, zero, suc, ◌+◌, ◌-◌, ◌*◌, ◌<◌, ◌≤◌}
+use mathlib.Core.List.{List}
+use Prim.Native.Nat.{ℕ, zero, suc, ◌+◌, ◌*◌, ◌<◌, ◌≤◌}
 use native.Mathlib.Omega.{arith}
-use borrow.Author.Tests.{eqb-true, eq-eqb}
+use borrow.Author.Tests.{eq-eqb}
 use lib.Dec.{eqb}
-use lib.ListN.{length, take, drop, length-drop}
-use lib.Seq.{length-take-le}
+use lib.ListN.{length, take}
 use Rattle.line.specs.Runs.{every}
-use Rattle.line.proofs.Runs.{and_left, and_right, and_both, every_take, every_drop}
+use Rattle.line.proofs.Runs.{and_both}
 use Rattle.text.specs.Classes.{between}
 use Rattle.values.specs.Registers.{good_account, good_row}
 use Rattle.values.proofs.Editions.{tables-most}
@@ -21,9 +20,9 @@ use Rattle.state.proofs.Parts.{formed, formed-registers, rows_long, rows-held}
 use Rattle.replies.specs.Shown.{row_of}
 use Rattle.replies.proofs.Sizes.{row-long}
 use Rattle.replies.proofs.Good.{row-zones}
-use Rattle.post.specs.Grammar.{Entry, rising}
+use Rattle.post.specs.Grammar.{rising}
 use Rattle.post.proofs.Reading.{rising-cons}
-use Rattle.card.specs.Grammar.{card_text, IsCard}
+use Rattle.card.specs.Grammar.{IsCard}
 use Rattle.card.proofs.Fields.{one-card}
 use Rattle.cardwriting.specs.Writing.{entry_at, entries_from, card_of}
 

@@ -8,7 +8,7 @@ use native.Mathlib.Numerals.{add-one}
 use borrow.Author.Tests.{lt-ltb, le-ltb}
 use lib.ListN.{length, take, drop, length-append, length-drop}
 use lib.Seq.{length-take-le}
-use Rattle.text.specs.Writing.{stored, holding}
+use Rattle.text.specs.Writing.{stored}
 use Rattle.text.proofs.Writing.{and_then, stored-holding}
 use Rattle.values.specs.Edition.{is_edition, tables_of}
 use Rattle.values.proofs.Editions.{tables-most}

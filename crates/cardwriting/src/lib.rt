@@ -5,16 +5,30 @@ ghost use Rattle.std.specs.Prelude.{◌≡◌, ◌+◌, ◌*◌, ◌<◌, ◌≤
 ghost use Rattle.text.specs.Writing.{stored};
 ghost use Rattle.values.specs.Edition.{row_length};
 ghost use Rattle.card.specs.Grammar.{table_field, table_fields, card_text};
-ghost use Rattle.cardwriting.specs.Writing.{entry_at, entries_from, written_in, written_to};
+ghost use Rattle.cardwriting.specs.Writing.{entry_at, entries_from, written_in, written_to, refusal_number, told};
 
 use state::{ALL_ROWS, Meter};
 use values::ROW_LENGTH;
 
-// The writer's answer: 1 with the card's length, 16, 14 or 41.
-#[derive(Clone, Copy)]
-pub struct Written {
-    pub number: u8,
-    pub length: usize,
+// Why there is no card: no such edition, a malformed state, a buffer that is too short.
+#[derive(Clone, Copy, Debug, PartialEq, Eq)]
+pub enum Refusal {
+    NoEdition,
+    Malformed,
+    NoRoom,
+}
+
+impl Refusal {
+    // Document 01's number: 16, 14 or 41.
+    pub fn number(self) -> u8
+        ensures { result ≡ refusal_number self }
+    {
+        match self {
+            Refusal::NoEdition => 16,
+            Refusal::Malformed => 14,
+            Refusal::NoRoom => 41,
+        }
+    }
 }
 
 // Puts a table's field in its place, the first of them being 0.
@@ -34,10 +48,8 @@ fn put_fields(out: &mut [u8], rows: &[u8], tables: usize)
     requires { (tables ≤ 255) × (row_length * tables ≤ length rows.now) × (13 + 28 * tables ≤ length out.old) }
     ensures { out.new ≡ stored out.old 13 (table_fields (entries_from 0 tables rows.now)) }
 {
-    let mut i = 0;
-    while i < tables {
+    for i in 0..tables {
         put_field(out, rows, i);
-        i += 1;
     }
 }
 
@@ -59,34 +71,22 @@ fn put_own(out: &mut [u8], account: [u8; 10], rows: [u8; ALL_ROWS], tables: usiz
     put_card(out, &account, &rows, tables);
 }
 
-// The card of a state, or why there is none; a refusal leaves the buffer as it was.
-pub fn write(m: Meter, out: &mut [u8]) -> Written
-    ensures { (result ≡ written_in m out.old) × (out.new ≡ written_to m out.old) }
+// The card of a state and how long it is, or why there is none; a refusal leaves the buffer as it was.
+pub fn write(m: Meter, out: &mut [u8]) -> Result<usize, Refusal>
+    ensures { (told result ≡ written_in m out.old) × (out.new ≡ written_to m out.old) }
 {
     if !state::has_edition(m) {
-        return Written {
-            number: 16,
-            length: 0,
-        };
+        return Err(Refusal::NoEdition);
     }
     if !state::is_well_formed(m) {
-        return Written {
-            number: 14,
-            length: 0,
-        };
+        return Err(Refusal::Malformed);
     }
     let g = m.registers;
-    let f = g.facts;
-    let tables = values::tables_of(f.edition) as usize;
+    let tables = values::tables_of(g.facts.edition) as usize;
     let length = 13 + 28 * tables;
     if out.len() < length {
-        return Written {
-            number: 41,
-            length: 0,
-        };
+        return Err(Refusal::NoRoom);
     }
-    let account = g.account;
-    let rows = g.tables;
-    put_own(out, account, rows, tables);
-    Written { number: 1, length }
+    put_own(out, g.account, g.tables, tables);
+    Ok(length)
 }

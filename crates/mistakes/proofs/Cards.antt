@@ -26,8 +26,7 @@ use Rattle.card.specs.Frames.{ReadAs}
 use Rattle.card.proofs.Fields.{one-card, stands}
 use Rattle.card.proofs.Places.{passed-account, passed-more, no-account, no-field-here}
 use Rattle.card.proofs.Answers.{one_answer, answers-account, answers-field}
-use Rattle.cardwriting.specs.declared.Written.{Written}
-use Rattle.cardwriting.specs.Writing.{entries_from, card_of, written_in, written_to}
+use Rattle.cardwriting.specs.Writing.{Written, entries_from, card_of, written_in, written_to}
 use Rattle.cardwriting.proofs.Writing.{answers-14, answers-41}
 use Rattle.mistakes.specs.Samples.{account, twos, new_meter}
 use Rattle.mistakes.specs.Posts.{entry, one, ready}

@@ -1,7 +1,6 @@
 -- `card::table_frame` meets its contract: the frame fills the array. Assumes nothing.
-use mathlib.Core.Path.{◌≡◌, ap, ◌∙◌}
+use mathlib.Core.Path.{ap, ◌∙◌}
 use mathlib.Core.List.{map}
-use borrow.Author.Rules.{rules}
 use lib.ListN.{replicate}
 use Rattle.line.specs.Characters.{sent}
 use Rattle.text.specs.Writing.{holding}

@@ -1,7 +1,5 @@
 -- `card::table_stands` meets its contract: each way out is the case of the definition that its test names. Assumes nothing.
-use native.Mathlib.Omega.{arith}
 use borrow.Author.Tests.{le-leb, lt-leb}
-use borrow.Author.Rules.{rules}
 use Rattle.card.specs.Columns.{table_stands}
 use Rattle.card.proofs.table_stands.Goals as goal
 

@@ -1,6 +1,5 @@
 -- `card::write_frame` meets its contract: the frame of the number and the row, put in its place. Assumes nothing.
-use mathlib.Core.Path.{◌≡◌, ap, ◌∙◌}
-use borrow.Author.Rules.{rules}
+use mathlib.Core.Path.{ap, ◌∙◌}
 use Rattle.text.specs.Writing.{stored}
 use Rattle.card.proofs.Frames.{frame_at}
 use Rattle.card.proofs.write_frame.Goals as goal

@@ -1,6 +1,5 @@
 -- `card::write_frames` meets its contract: the account's frame, and the tables' behind it. Assumes nothing.
-use mathlib.Core.Path.{◌≡◌, ap, ◌∙◌}
-use borrow.Author.Rules.{rules}
+use mathlib.Core.Path.{ap, ◌∙◌}
 use Rattle.text.specs.Writing.{stored}
 use Rattle.card.proofs.Frames.{frames-whole}
 use Rattle.card.proofs.write_frames.Goals as goal

@@ -1,5 +1,4 @@
 -- `cardwriting::put_card` meets its contract: the account's field, and the tables' behind it. Assumes nothing.
-use borrow.Author.Rules.{rules}
 use Rattle.cardwriting.proofs.Writing.{card-put}
 use Rattle.cardwriting.proofs.put_card.Goals as goal
 

@@ -1,5 +1,4 @@
 -- `cardwriting::put_field` meets its contract: four bytes, and the row behind them. Assumes nothing.
-use borrow.Author.Rules.{rules}
 use Rattle.cardwriting.proofs.Writing.{field_put}
 use Rattle.cardwriting.proofs.put_field.Goals as goal
 

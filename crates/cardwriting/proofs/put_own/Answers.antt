@@ -1,5 +1,4 @@
 -- `cardwriting::put_own` meets its contract: that of `put_card`. Assumes nothing.
-use borrow.Author.Rules.{rules}
 use Rattle.cardwriting.proofs.put_own.Goals as goal
 
 pub put_card-requires : goal.put_card-requires

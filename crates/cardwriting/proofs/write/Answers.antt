@@ -1,8 +1,6 @@
 -- `cardwriting::write` meets its contract: each way out is the answer that the edition, the state and the room name. Assumes nothing.
-use mathlib.Core.Path.{◌≡◌, refl, sym, ◌∙◌}
+use mathlib.Core.Path.{refl, sym, ◌∙◌}
 use native.Mathlib.Omega.{arith}
-use borrow.Author.Tests.{not-true, not-false}
-use borrow.Author.Rules.{rules}
 use Rattle.state.proofs.Parts.{long}
 use Rattle.cardwriting.proofs.Writing.{answers-16, answers-14, answers-41, answers-1}
 use Rattle.cardwriting.proofs.write.Goals as goal
