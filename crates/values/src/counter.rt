@@ -16,24 +16,22 @@ pub struct Form {
 fn first_of(family: u8) -> Form
     ensures { result ≡ first_form family }
 {
-    if (family == 0) | (family == 2) {
-        return Form {
+    match family {
+        0 | 2 => Form {
             low: 0x302E_3030_3030_3030,
             bits: 0xF0FF_F0F0_F0F0_F0F0,
             spare: 0x0600_0606_0606_0606,
-        };
-    }
-    if family == 3 {
-        return Form {
+        },
+        3 => Form {
             low: 0x3030_2E30_3030_3030,
             bits: 0xF0F0_FFF0_F0F0_F0F0,
             spare: 0x0606_0006_0606_0606,
-        };
-    }
-    Form {
-        low: 0x3030_302E_3030_3030,
-        bits: 0xF0F0_F0FF_F0F0_F0F0,
-        spare: 0x0606_0600_0606_0606,
+        },
+        _ => Form {
+            low: 0x3030_302E_3030_3030,
+            bits: 0xF0F0_F0FF_F0F0_F0F0,
+            spare: 0x0606_0600_0606_0606,
+        },
     }
 }
 
@@ -41,24 +39,22 @@ fn first_of(family: u8) -> Form
 fn last_of(family: u8) -> Form
     ensures { result ≡ last_form family }
 {
-    if (family == 0) | (family == 3) {
-        return Form {
+    match family {
+        0 | 3 => Form {
             low: 0x6857_6B2A_3030_302E,
             bits: 0xFFFF_FFFF_F0F0_F0FF,
             spare: 0x0606_0600,
-        };
-    }
-    if family == 2 {
-        return Form {
+        },
+        2 => Form {
             low: 0x6857_6B2A_3030_2E30,
             bits: 0xFFFF_FFFF_F0F0_FFF0,
             spare: 0x0606_0006,
-        };
-    }
-    Form {
-        low: 0x6857_6B2A_3030_3030,
-        bits: 0xFFFF_FFFF_F0F0_F0F0,
-        spare: 0x0606_0606,
+        },
+        _ => Form {
+            low: 0x6857_6B2A_3030_3030,
+            bits: 0xFFFF_FFFF_F0F0_F0F0,
+            spare: 0x0606_0606,
+        },
     }
 }
 
@@ -80,16 +76,12 @@ fn upper(front: u32, third: u32, first: u32, family: u8) -> u32
     requires { (front < 2 ^ 15) × (third < 256) × (first < 256) }
     ensures { (result ≡ upper_of family front third first) × (result < 2 ^ 25) }
 {
-    if family == 0 {
-        return (front * 100 + third) * 10 + first;
+    match family {
+        0 => (front * 100 + third) * 10 + first,
+        2 => front * 100 + third,
+        3 => front * 100 + third + first,
+        _ => front * 100 + first,
     }
-    if family == 2 {
-        return front * 100 + third;
-    }
-    if family == 3 {
-        return front * 100 + third + first;
-    }
-    front * 100 + first
 }
 
 // The number that the pairs of both say.

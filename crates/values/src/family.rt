@@ -12,7 +12,7 @@ pub fn is_family(family: u8) -> bool
 pub fn is_eqm(family: u8) -> bool
     ensures { result ≡ is_eqm family }
 {
-    !(family == 0)
+    family != 0
 }
 
 // How many digits show a counter.
@@ -20,10 +20,10 @@ pub fn counter_digits(family: u8) -> usize
     ensures value { result ≡ counter_digits family }
     ensures few { (8 ≤ result) × (result ≤ 9) }
 {
-    if family == 0 {
-        return 9;
+    match family {
+        0 => 9,
+        _ => 8,
     }
-    8
 }
 
 // How many of them are decimals of a kWh.
@@ -31,16 +31,12 @@ pub fn counter_decimals(family: u8) -> usize
     ensures value { result ≡ counter_decimals family }
     ensures few { (2 ≤ result) × (result ≤ 4) }
 {
-    if family == 0 {
-        return 3;
+    match family {
+        0 => 3,
+        2 => 2,
+        3 => 3,
+        _ => 4,
     }
-    if family == 2 {
-        return 2;
-    }
-    if family == 3 {
-        return 3;
-    }
-    4
 }
 
 // Where a counter rolls over.
@@ -48,10 +44,10 @@ pub fn counter_end(family: u8) -> u32
     ensures value { result ≡ counter_end family }
     ensures many { (100000000 ≤ result) × (result ≤ 1000000000) }
 {
-    if family == 0 {
-        return 1_000_000_000;
+    match family {
+        0 => 1_000_000_000,
+        _ => 100_000_000,
     }
-    100_000_000
 }
 
 // Where one of what goes out does; of document 01's family it is always 0.
@@ -59,8 +55,8 @@ pub fn export_end(family: u8) -> u32
     ensures value { result ≡ export_end family }
     ensures some { (1 ≤ result) × (result ≤ 100000000) }
 {
-    if family == 0 {
-        return 1;
+    match family {
+        0 => 1,
+        _ => 100_000_000,
     }
-    100_000_000
 }

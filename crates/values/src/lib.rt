@@ -47,10 +47,10 @@ pub fn tables_of(edition: u8) -> u8
     ensures value { result ≡ tables_of edition }
     ensures few { (24 ≤ result) × (result ≤ 25) }
 {
-    if edition == 2 {
-        return 25;
+    match edition {
+        2 => 25,
+        _ => 24,
     }
-    24
 }
 
 // The number that stands for an energy in asks and addresses: 0 is the total.
@@ -122,12 +122,10 @@ pub fn is_account(s: &[u8]) -> bool
     if s.len() != 10 {
         return false;
     }
-    let mut i: u32 = 0;
-    while i < 10 {
-        if !account_takes(s[i as usize]) {
+    for c in s {
+        if !account_takes(*c) {
             return false;
         }
-        i += 1;
     }
     true
 }
@@ -140,10 +138,8 @@ pub fn is_whole_account(s: &[u8]) -> bool
         return false;
     }
     let mut ok = true;
-    let mut i: u32 = 0;
-    while i < 10 {
-        ok = ok & is_account_character(s[i as usize]);
-        i += 1;
+    for c in s {
+        ok &= is_account_character(*c);
     }
     ok
 }
@@ -157,13 +153,11 @@ pub fn is_row(s: &[u8]) -> bool
 pub fn is_table(t: TableNo, tables: u8) -> bool
     ensures { result ≡ good_table tables t.0 }
 {
-    let n = t.0;
-    (1 <= n) & (n <= tables)
+    (1 <= t.0) & (t.0 <= tables)
 }
 
 pub fn is_zone(z: ZoneNo) -> bool
     ensures { result ≡ good_zone z.0 }
 {
-    let n = z.0;
-    (1 <= n) & (n <= 4)
+    (1 <= z.0) & (z.0 <= 4)
 }

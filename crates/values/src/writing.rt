@@ -1,5 +1,6 @@
 // Values put into a lent buffer as the texts that show them. Each gives the place after its text.
-ghost use Rattle.std.specs.Prelude.{◌≡◌, ◌+◌, ◌-◌, ◌≤◌, ◌<◌, length};
+ghost use Rattle.std.specs.Prelude.{◌≡◌, ◌+◌, ◌-◌, ◌/◌, ◌%◌, ◌≤◌, length};
+ghost use Rattle.line.specs.Quoted.{char};
 ghost use Rattle.text.specs.Decimal.{decimal};
 ghost use Rattle.text.specs.Writing.{stored};
 ghost use Rattle.values.specs.Family.{counter_digits};
@@ -8,15 +9,27 @@ ghost use Rattle.values.specs.Texts.{parted, serial_text, wired_text, table_text
 use crate::TableNo;
 use clock::{Clock, Date, Stamp, Time};
 
+// The digit of a number's tens, and that of its units.
+fn tens(n: u8) -> u8
+    ensures { result ≡ char "0" + n / 10 % 10 }
+{
+    b'0' + n / 10 % 10
+}
+
+fn units(n: u8) -> u8
+    ensures { result ≡ char "0" + n % 10 }
+{
+    b'0' + n % 10
+}
+
 // A serial with a character between its third digit and the fourth.
 fn put_parted(buf: &mut [u8], at: usize, s: &[u8], between: u8) -> usize
     requires { (length s.now ≡ 10) × (at + 11 ≤ length buf.old) }
     ensures next { result ≡ at + 11 }
     ensures held { buf.new ≡ stored buf.old at (parted between s.now) }
 {
-    let one = [between];
     let a = text::put(buf, at, &s[0..3]);
-    let b = text::put(buf, a, &one);
+    let b = text::put(buf, a, &[between]);
     text::put(buf, b, &s[3..10])
 }
 
@@ -44,15 +57,7 @@ pub fn put_table(buf: &mut [u8], at: usize, t: TableNo) -> usize
     ensures next { result ≡ at + 2 }
     ensures held { buf.new ≡ stored buf.old at (table_text t.0) }
 {
-    let n = t.0;
-    let digits = [b'0' + n / 10 % 10, b'0' + n % 10];
-    text::put(buf, at, &digits)
-}
-
-fn years_since_2000(y: u16) -> u16
-    ensures { result ≡ y - 2000 }
-{
-    if y < 2000 { 0 } else { y - 2000 }
+    text::put(buf, at, &[tens(t.0), units(t.0)])
 }
 
 // A date as `yy-mm-dd`.
@@ -61,18 +66,16 @@ pub fn put_date(buf: &mut [u8], at: usize, date: Date) -> usize
     ensures next { result ≡ at + 8 }
     ensures held { buf.new ≡ stored buf.old at (date_text date) }
 {
-    let y = years_since_2000(date.year);
-    let m = date.month;
-    let d = date.day;
+    let y = date.year.saturating_sub(2000);
     let shown = [
         b'0' + (y / 10 % 10) as u8,
         b'0' + (y % 10) as u8,
         b'-',
-        b'0' + m / 10 % 10,
-        b'0' + m % 10,
+        tens(date.month),
+        units(date.month),
         b'-',
-        b'0' + d / 10 % 10,
-        b'0' + d % 10,
+        tens(date.day),
+        units(date.day),
     ];
     text::put(buf, at, &shown)
 }
@@ -83,18 +86,15 @@ pub fn put_time(buf: &mut [u8], at: usize, time: Time) -> usize
     ensures next { result ≡ at + 8 }
     ensures held { buf.new ≡ stored buf.old at (time_text time) }
 {
-    let h = time.hour;
-    let n = time.minute;
-    let s = time.second;
     let shown = [
-        b'0' + h / 10 % 10,
-        b'0' + h % 10,
+        tens(time.hour),
+        units(time.hour),
         b':',
-        b'0' + n / 10 % 10,
-        b'0' + n % 10,
+        tens(time.minute),
+        units(time.minute),
         b':',
-        b'0' + s / 10 % 10,
-        b'0' + s % 10,
+        tens(time.second),
+        units(time.second),
     ];
     text::put(buf, at, &shown)
 }
@@ -105,16 +105,13 @@ pub fn put_clock(buf: &mut [u8], at: usize, c: Clock) -> usize
     ensures next { result ≡ at + 19 }
     ensures held { buf.new ≡ stored buf.old at (clock_text c) }
 {
-    let date = c.date;
-    let d = date.day;
-    let m = date.month;
-    let y = date.year;
+    let y = c.date.year;
     let shown = [
-        b'0' + d / 10 % 10,
-        b'0' + d % 10,
+        tens(c.date.day),
+        units(c.date.day),
         b'-',
-        b'0' + m / 10 % 10,
-        b'0' + m % 10,
+        tens(c.date.month),
+        units(c.date.month),
         b'-',
         b'0' + (y / 10 / 10 / 10 % 10) as u8,
         b'0' + (y / 10 / 10 % 10) as u8,
@@ -132,15 +129,13 @@ pub fn put_stamp(buf: &mut [u8], at: usize, stamp: Stamp) -> usize
     ensures next { result ≡ at + 14 }
     ensures held { buf.new ≡ stored buf.old at (stamp_text stamp) }
 {
-    let h = stamp.hour;
-    let n = stamp.minute;
     let shown = [
         b' ',
-        b'0' + h / 10 % 10,
-        b'0' + h % 10,
+        tens(stamp.hour),
+        units(stamp.hour),
         b':',
-        b'0' + n / 10 % 10,
-        b'0' + n % 10,
+        tens(stamp.minute),
+        units(stamp.minute),
     ];
     let a = put_date(buf, at, stamp.date);
     text::put(buf, a, &shown)
@@ -160,14 +155,14 @@ fn nine_digits(n: u32) -> [u8; 9]
     let d = (low % 100) as u8;
     [
         b'0' + (above / 10_000 % 10) as u8,
-        b'0' + a / 10 % 10,
-        b'0' + a % 10,
-        b'0' + b / 10 % 10,
-        b'0' + b % 10,
-        b'0' + c / 10 % 10,
-        b'0' + c % 10,
-        b'0' + d / 10 % 10,
-        b'0' + d % 10,
+        tens(a),
+        units(a),
+        tens(b),
+        units(b),
+        tens(c),
+        units(c),
+        tens(d),
+        units(d),
     ]
 }
 
@@ -190,14 +185,10 @@ pub fn put_counter(buf: &mut [u8], at: usize, n: u32, family: u8) -> usize
     ensures held { buf.new ≡ stored buf.old at (energy_text family n) }
 {
     let nine = nine_digits(n);
-    if family == 0 {
-        return put_pointed(buf, at, &nine, 0, 6);
+    match family {
+        0 => put_pointed(buf, at, &nine, 0, 6),
+        2 => put_pointed(buf, at, &nine, 1, 7),
+        3 => put_pointed(buf, at, &nine, 1, 6),
+        _ => put_pointed(buf, at, &nine, 1, 5),
     }
-    if family == 2 {
-        return put_pointed(buf, at, &nine, 1, 7);
-    }
-    if family == 3 {
-        return put_pointed(buf, at, &nine, 1, 6);
-    }
-    put_pointed(buf, at, &nine, 1, 5)
 }

@@ -24,35 +24,23 @@ pub returns-then-s-ne10 : goal.returns-then-s-ne10
 unfolding good_account
 returns-then-s-ne10 c = rw (ne_eqb (length c.args.s.now) 10 c.if-s-ne10.true)
 
-pub loop-i-init : goal.loop-i-init
-loop-i-init c = ((omega arith, c.if-s-ne10.false), refl)
-
-pub bounds-s-i : goal.bounds-s-i
-bounds-s-i c = omega (arith, c.loop-i-test.true, c.loop-i.invariant.0.1)
+pub loop-c-init : goal.loop-c-init
+loop-c-init c = refl
 
 pub returns-then-not-account_takes : goal.returns-then-not-account_takes
 returns-then-not-account_takes c =
     let s = c.args.s.now in
-    let inv = c.loop-i.invariant in
     let bad = sym c.account_takes.ensures ∙ c.if-not-account_takes.true in
-    ap (λ (b : Bool). b && every is_account_character (drop (c.loop-i.i + 1) s)) (sym bad) ∙ next-left s c.loop-i.i _ (omega (arith, c.loop-i-test.true, inv.0.1)) inv.1 ∙ of-ten s inv.0.1
+    ap (λ (b : Bool). b && every is_account_character (drop (c.loop-c.c-index + 1) s)) (sym bad) ∙ next-left s c.loop-c.c-index _ (omega arith) c.loop-c.invariant ∙ of-ten s c.if-s-ne10.false
 
-pub overflow_add-i : goal.overflow_add-i
-overflow_add-i c = omega (arith, c.loop-i-test.true)
-
-pub loop-i-smaller : goal.loop-i-smaller
-loop-i-smaller c = omega (arith, c.loop-i-test.true)
-
-pub loop-i-preserved : goal.loop-i-preserved
-loop-i-preserved c =
+pub loop-c-preserved : goal.loop-c-preserved
+loop-c-preserved c =
     let s = c.args.s.now in
-    let inv = c.loop-i.invariant in
     let good = sym c.account_takes.ensures ∙ c.if-not-account_takes.false in
-    ((omega (arith, c.loop-i-test.true), inv.0.1), ap (λ (b : Bool). b && every is_account_character (drop (c.loop-i.i + 1) s)) (sym good) ∙ next-left s c.loop-i.i _ (omega (arith, c.loop-i-test.true, inv.0.1)) inv.1)
+    ap (λ (b : Bool). b && every is_account_character (drop (c.loop-c.c-index + 1) s)) (sym good) ∙ next-left s c.loop-c.c-index _ (omega arith) c.loop-c.invariant
 
 pub returns : goal.returns
 unfolding every
 returns c =
     let s = c.args.s.now in
-    let inv = c.loop-i.invariant in
-    sym (ap (every is_account_character) (drop_of_length-le s {i = c.loop-i.i} (omega (arith, c.loop-i-test.false, inv.0.1)))) ∙ inv.1 ∙ of-ten s inv.0.1
+    sym (ap (every is_account_character) (drop_of_length-le s {i = c.loop-c.c-index} (omega arith))) ∙ c.loop-c.invariant ∙ of-ten s c.if-s-ne10.false

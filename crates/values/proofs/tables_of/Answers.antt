@@ -1,13 +1,13 @@
--- `values::tables_of` meets its contract: each way out is the case of the definition that its tests name. Assumes nothing.
+-- `values::tables_of` meets its contract: each arm is the case of the definition that it names. Assumes nothing.
 use native.Mathlib.Omega.{arith}
-use borrow.Author.Tests.{eq-eqb, ne_eqb}
+use borrow.Author.Tests.{ne_eqb}
 use Rattle.values.specs.Edition.{tables_of}
 use Rattle.values.proofs.tables_of.Goals as goal
 
-pub returns-then-edition-eq2 : goal.returns-then-edition-eq2
+pub returns-in-2-clause-value : goal.returns-in-2-clause-value
 unfolding tables_of
-returns-then-edition-eq2 c = record { value = rw (eq-eqb _ _ c.if-edition-eq2.true); few = (omega arith, omega arith) }
+returns-in-2-clause-value c = rw (c.in-2.is)
 
-pub returns : goal.returns
+pub returns-in_default-clause-value : goal.returns-in_default-clause-value
 unfolding tables_of
-returns c = record { value = rw (ne_eqb _ _ c.if-edition-eq2.false); few = (omega arith, omega arith) }
+returns-in_default-clause-value c = rw (ne_eqb c.args.edition 2 (λ e. omega (arith, e)))

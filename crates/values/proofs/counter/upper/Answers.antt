@@ -1,21 +1,21 @@
--- `values::counter::upper` meets its contract: each way out is the case of the definition that its tests name. Assumes nothing.
+-- `values::counter::upper` meets its contract: each arm is the case of the definition that it names. Assumes nothing.
 use native.Mathlib.Omega.{arith}
-use borrow.Author.Tests.{eq-eqb, ne_eqb}
+use borrow.Author.Tests.{ne_eqb}
 use Rattle.values.specs.Counters.{upper_of}
 use Rattle.values.proofs.counter.upper.Goals as goal
 
-pub returns-then-family-eq0 : goal.returns-then-family-eq0
+pub returns-in-0 : goal.returns-in-0
 unfolding upper_of
-returns-then-family-eq0 c = (rw (eq-eqb _ _ c.if-family-eq0.true), omega arith)
+returns-in-0 c = (rw c.in-0.is, omega arith)
 
-pub returns-then-family-eq2 : goal.returns-then-family-eq2
+pub returns-in-2 : goal.returns-in-2
 unfolding upper_of
-returns-then-family-eq2 c = (rw (ne_eqb _ _ c.if-family-eq0.false, eq-eqb _ _ c.if-family-eq2.true), omega arith)
+returns-in-2 c = (rw c.in-2.is, omega arith)
 
-pub returns-then-family-eq3 : goal.returns-then-family-eq3
+pub returns-in-3 : goal.returns-in-3
 unfolding upper_of
-returns-then-family-eq3 c = (rw (ne_eqb _ _ c.if-family-eq0.false, ne_eqb _ _ c.if-family-eq2.false, eq-eqb _ _ c.if-family-eq3.true), omega arith)
+returns-in-3 c = (rw c.in-3.is, omega arith)
 
-pub returns : goal.returns
+pub returns-in_default : goal.returns-in_default
 unfolding upper_of
-returns c = (rw (ne_eqb _ _ c.if-family-eq0.false, ne_eqb _ _ c.if-family-eq2.false, ne_eqb _ _ c.if-family-eq3.false), omega arith)
+returns-in_default c = (rw (ne_eqb c.args.family 0 (λ e. omega (arith, e)), ne_eqb c.args.family 2 (λ e. omega (arith, e)), ne_eqb c.args.family 3 (λ e. omega (arith, e))), omega arith)

@@ -1,21 +1,21 @@
--- `values::family::counter_decimals` meets its contract: each way out is the case of the definition that its tests name. Assumes nothing.
+-- `values::family::counter_decimals` meets its contract: each arm is the case of the definition that it names. Assumes nothing.
 use native.Mathlib.Omega.{arith}
-use borrow.Author.Tests.{eq-eqb, ne_eqb}
+use borrow.Author.Tests.{ne_eqb}
 use Rattle.values.specs.Family.{counter_decimals}
 use Rattle.values.proofs.family.counter_decimals.Goals as goal
 
-pub returns-then-family-eq0 : goal.returns-then-family-eq0
+pub returns-in-0-clause-value : goal.returns-in-0-clause-value
 unfolding counter_decimals
-returns-then-family-eq0 c = record { value = rw (eq-eqb _ _ c.if-family-eq0.true); few = (omega arith, omega arith) }
+returns-in-0-clause-value c = rw (c.in-0.is)
 
-pub returns-then-family-eq2 : goal.returns-then-family-eq2
+pub returns-in-2-clause-value : goal.returns-in-2-clause-value
 unfolding counter_decimals
-returns-then-family-eq2 c = record { value = rw (ne_eqb _ _ c.if-family-eq0.false, eq-eqb _ _ c.if-family-eq2.true); few = (omega arith, omega arith) }
+returns-in-2-clause-value c = rw (c.in-2.is)
 
-pub returns-then-family-eq3 : goal.returns-then-family-eq3
+pub returns-in-3-clause-value : goal.returns-in-3-clause-value
 unfolding counter_decimals
-returns-then-family-eq3 c = record { value = rw (ne_eqb _ _ c.if-family-eq0.false, ne_eqb _ _ c.if-family-eq2.false, eq-eqb _ _ c.if-family-eq3.true); few = (omega arith, omega arith) }
+returns-in-3-clause-value c = rw (c.in-3.is)
 
-pub returns : goal.returns
+pub returns-in_default-clause-value : goal.returns-in_default-clause-value
 unfolding counter_decimals
-returns c = record { value = rw (ne_eqb _ _ c.if-family-eq0.false, ne_eqb _ _ c.if-family-eq2.false, ne_eqb _ _ c.if-family-eq3.false); few = (omega arith, omega arith) }
+returns-in_default-clause-value c = rw (ne_eqb c.args.family 0 (λ e. omega (arith, e)), ne_eqb c.args.family 2 (λ e. omega (arith, e)), ne_eqb c.args.family 3 (λ e. omega (arith, e)))

@@ -1,13 +1,13 @@
--- `values::family::export_end` meets its contract: each way out is the case of the definition that its test names. Assumes nothing.
+-- `values::family::export_end` meets its contract: each arm is the case of the definition that it names. Assumes nothing.
 use native.Mathlib.Omega.{arith}
-use borrow.Author.Tests.{eq-eqb, ne_eqb}
+use borrow.Author.Tests.{ne_eqb}
 use Rattle.values.specs.Family.{export_end}
 use Rattle.values.proofs.family.export_end.Goals as goal
 
-pub returns-then-family-eq0 : goal.returns-then-family-eq0
+pub returns-in-0-clause-value : goal.returns-in-0-clause-value
 unfolding export_end
-returns-then-family-eq0 c = record { value = rw (eq-eqb _ _ c.if-family-eq0.true); some = (omega arith, omega arith) }
+returns-in-0-clause-value c = rw (c.in-0.is)
 
-pub returns : goal.returns
+pub returns-in_default-clause-value : goal.returns-in_default-clause-value
 unfolding export_end
-returns c = record { value = rw (ne_eqb _ _ c.if-family-eq0.false); some = (omega arith, omega arith) }
+returns-in_default-clause-value c = rw (ne_eqb c.args.family 0 (λ e. omega (arith, e)))

@@ -25,4 +25,4 @@ in_pairs n = ap₂ (λ (a b : List ℕ). (decimal 1 (n / 10000 / 10000) ++ a) ++
 
 pub returns : goal.returns
 unfolding decimal
-returns c = in_pairs _
+returns c = rw (c.tens.ensures, c.units.ensures, c.tens-2.ensures, c.units-2.ensures, c.tens-3.ensures, c.units-3.ensures, c.tens-4.ensures, c.units-4.ensures) (in_pairs _)

@@ -11,4 +11,4 @@ unfolding clock_text time_text layout_text decimal
 returns c =
     let first = c.put-a.ensures in
     let then-time = c.put_time.ensures in
-    record { next = omega (arith, first.next, then-time.next); held = and_then _ _ _ _ _ _ _ first.held first.next then-time.held }
+    record { next = omega (arith, first.next, then-time.next); held = and_then _ _ _ _ _ _ _ (rw (c.tens.ensures, c.units.ensures, c.tens-2.ensures, c.units-2.ensures) at first.held) first.next then-time.held }

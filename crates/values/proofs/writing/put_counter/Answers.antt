@@ -40,54 +40,52 @@ long n nine e = ap length e ∙ length-decimal 9 n
 
 pub put_pointed-requires : goal.put_pointed-requires
 put_pointed-requires c =
-    ((long _ _ c.nine_digits-nine.ensures, (omega arith, omega arith)), omega (arith, c.requires, first-digits c.args.family c.if-family-eq0.true))
+    ((long _ _ c.nine_digits-nine.ensures, (omega arith, omega arith)), omega (arith, c.requires, first-digits c.args.family c.in-0.is))
 
-pub returns-then-family-eq0 : goal.returns-then-family-eq0
+pub returns-in-0 : goal.returns-in-0
 unfolding counter_decimals
-returns-then-family-eq0 c =
+returns-in-0 c =
     let a = c.args in
     let put = c.put_pointed.ensures in
-    let done = told a.family a.n 9 3 a.at _ _ a.buf.now _ (first-digits a.family c.if-family-eq0.true) (rw (eq-eqb _ _ c.if-family-eq0.true))
+    let done = told a.family a.n 9 3 a.at _ _ a.buf.now _ (first-digits a.family c.in-0.is) (rw c.in-0.is)
     (omega arith) (omega arith) c.nine_digits-nine.ensures put.next put.held in
     record { next = done.0; held = done.1 }
 
-pub put_pointed-requires-then-family-eq2 : goal.put_pointed-requires-then-family-eq2
-put_pointed-requires-then-family-eq2 c =
-    ((long _ _ c.nine_digits-nine.ensures, (omega arith, omega arith)), omega (arith, c.requires, other-digits c.args.family c.if-family-eq0.false))
+pub put_pointed-requires-in-2 : goal.put_pointed-requires-in-2
+put_pointed-requires-in-2 c =
+    ((long _ _ c.nine_digits-nine.ensures, (omega arith, omega arith)), omega (arith, c.requires, other-digits c.args.family (λ e. omega (arith, e))))
 
-pub returns-then-family-eq2 : goal.returns-then-family-eq2
+pub returns-in-2 : goal.returns-in-2
 unfolding counter_decimals
-returns-then-family-eq2 c =
+returns-in-2 c =
     let a = c.args in
-    let put = c.put_pointed-then-family-eq2.ensures in
-    let done = told a.family a.n 8 2 a.at _ _ a.buf.now _ (other-digits a.family c.if-family-eq0.false) (rw (ne_eqb _ _ c.if-family-eq0.false, eq-eqb _ _ c.if-family-eq2.true))
+    let put = c.put_pointed-in-2.ensures in
+    let done = told a.family a.n 8 2 a.at _ _ a.buf.now _ (other-digits a.family (λ e. omega (arith, e))) (rw c.in-2.is)
     (omega arith) (omega arith) c.nine_digits-nine.ensures put.next put.held in
     record { next = done.0; held = done.1 }
 
-pub put_pointed-requires-then-family-eq3 : goal.put_pointed-requires-then-family-eq3
-put_pointed-requires-then-family-eq3 c =
-    ((long _ _ c.nine_digits-nine.ensures, (omega arith, omega arith)), omega (arith, c.requires, other-digits c.args.family c.if-family-eq0.false))
+pub put_pointed-requires-in-3 : goal.put_pointed-requires-in-3
+put_pointed-requires-in-3 c =
+    ((long _ _ c.nine_digits-nine.ensures, (omega arith, omega arith)), omega (arith, c.requires, other-digits c.args.family (λ e. omega (arith, e))))
 
-pub returns-then-family-eq3 : goal.returns-then-family-eq3
+pub returns-in-3 : goal.returns-in-3
 unfolding counter_decimals
-returns-then-family-eq3 c =
+returns-in-3 c =
     let a = c.args in
-    let put = c.put_pointed-then-family-eq3.ensures in
-    let done = told a.family a.n 8 3 a.at _ _ a.buf.now _ (other-digits a.family c.if-family-eq0.false)
-    (rw (ne_eqb _ _ c.if-family-eq0.false, ne_eqb _ _ c.if-family-eq2.false, eq-eqb _ _ c.if-family-eq3.true))
+    let put = c.put_pointed-in-3.ensures in
+    let done = told a.family a.n 8 3 a.at _ _ a.buf.now _ (other-digits a.family (λ e. omega (arith, e))) (rw c.in-3.is)
     (omega arith) (omega arith) c.nine_digits-nine.ensures put.next put.held in
     record { next = done.0; held = done.1 }
 
-pub put_pointed-requires-2 : goal.put_pointed-requires-2
-put_pointed-requires-2 c =
-    ((long _ _ c.nine_digits-nine.ensures, (omega arith, omega arith)), omega (arith, c.requires, other-digits c.args.family c.if-family-eq0.false))
+pub put_pointed-requires-in_default : goal.put_pointed-requires-in_default
+put_pointed-requires-in_default c =
+    ((long _ _ c.nine_digits-nine.ensures, (omega arith, omega arith)), omega (arith, c.requires, other-digits c.args.family (λ e. omega (arith, e))))
 
-pub returns : goal.returns
+pub returns-in_default : goal.returns-in_default
 unfolding counter_decimals
-returns c =
+returns-in_default c =
     let a = c.args in
-    let put = c.put_pointed-2.ensures in
-    let done = told a.family a.n 8 4 a.at _ _ a.buf.now _ (other-digits a.family c.if-family-eq0.false)
-    (rw (ne_eqb _ _ c.if-family-eq0.false, ne_eqb _ _ c.if-family-eq2.false, ne_eqb _ _ c.if-family-eq3.false))
+    let put = c.put_pointed-in_default.ensures in
+    let done = told a.family a.n 8 4 a.at _ _ a.buf.now _ (other-digits a.family (λ e. omega (arith, e))) (rw (ne_eqb a.family 0 (λ e. omega (arith, e)), ne_eqb a.family 2 (λ e. omega (arith, e)), ne_eqb a.family 3 (λ e. omega (arith, e))))
     (omega arith) (omega arith) c.nine_digits-nine.ensures put.next put.held in
     record { next = done.0; held = done.1 }

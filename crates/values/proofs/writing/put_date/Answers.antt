@@ -6,4 +6,4 @@ use Rattle.values.proofs.writing.put_date.Goals as goal
 
 pub returns : goal.returns
 unfolding date_text layout_text decimal
-returns c = record { next = c.put.ensures.next; held = rw (← c.years_since_2000-y.ensures) c.put.ensures.held }
+returns c = record { next = c.put.ensures.next; held = rw (c.saturating_sub-y.ensures, c.tens.ensures, c.units.ensures, c.tens-2.ensures, c.units-2.ensures) at c.put.ensures.held }

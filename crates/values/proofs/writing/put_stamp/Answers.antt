@@ -11,4 +11,4 @@ unfolding stamp_text date_text layout_text decimal
 returns c =
     let first = c.put_date-a.ensures in
     let then-rest = c.put.ensures in
-    record { next = omega (arith, first.next, then-rest.next); held = and_then _ _ _ _ _ _ _ first.held first.next then-rest.held }
+    record { next = omega (arith, first.next, then-rest.next); held = and_then _ _ _ _ _ _ _ first.held first.next (rw (c.tens.ensures, c.units.ensures, c.tens-2.ensures, c.units-2.ensures) at then-rest.held) }

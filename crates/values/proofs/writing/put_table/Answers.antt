@@ -6,4 +6,4 @@ use Rattle.values.proofs.writing.put_table.Goals as goal
 
 pub returns : goal.returns
 unfolding table_text layout_text decimal
-returns c = record { next = c.put.ensures.next; held = c.put.ensures.held }
+returns c = record { next = c.put.ensures.next; held = rw (c.tens.ensures, c.units.ensures) at c.put.ensures.held }

@@ -6,4 +6,4 @@ use Rattle.values.proofs.writing.put_time.Goals as goal
 
 pub returns : goal.returns
 unfolding time_text layout_text decimal
-returns c = record { next = c.put.ensures.next; held = c.put.ensures.held }
+returns c = record { next = c.put.ensures.next; held = rw (c.tens.ensures, c.units.ensures, c.tens-2.ensures, c.units-2.ensures, c.tens-3.ensures, c.units-3.ensures) at c.put.ensures.held }
