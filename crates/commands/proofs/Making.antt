@@ -1,22 +1,23 @@
 -- The three ways out of a builder, and what the pieces of a command leave in the buffer, once over their lengths.
 -- Assumes nothing.
-use mathlib.Core.Path.{◌≡◌, sym, ap, subst, ◌∙◌}
+use mathlib.Core.Path.{◌≡◌, refl, sym, ap, subst, ◌∙◌}
 use mathlib.Core.Bool.{Bool, true, false}
 use mathlib.Core.List.{List, [], ◌∷◌, ◌++◌, append_assoc}
 use Prim.Native.Nat.{ℕ, ◌+◌, ◌<◌, ◌≤◌}
 use native.Mathlib.Omega.{arith}
-use borrow.Author.Tests.{lt-ltb, le-ltb}
+use borrow.Author.Tests.{lt-ltb, le-ltb, both_ways}
 use lib.ListN.{length, take, drop, length-append, length-map}
 use lib.Seq.{take_at, drop_at, drop-append-add, drop-drop}
 use Rattle.line.specs.Characters.{sent}
 use Rattle.text.specs.Writing.{stored, holding}
 use Rattle.text.proofs.Writing.{and_then, stored-holding}
+use Rattle.values.specs.Edition.{is_edition}
 use Rattle.frames.specs.Frames.{sealed, on_wire}
 use Rattle.frames.proofs.Closing.{sealed-length}
 use Rattle.std.specs.Prelude.{Err, IsErrOf}
 use Rattle.commands.specs.declared.Refusal.{Refusal}
-use Rattle.commands.specs.declared.Refusal.TheVariants.{Field, Short}
-use Rattle.commands.specs.Building.{Built, told, built_in, kept_or, Builds, Made}
+use Rattle.commands.specs.declared.Refusal.TheVariants.{Field, NoEdition, Short}
+use Rattle.commands.specs.Building.{Built, told, built_in, kept_or, Builds, BuildsFor, Made}
 
 module _ (buf : List ℕ) (ok : Bool) (command : List ℕ) where
   pub too_short : (e : Refusal) → (length buf < 64) × IsErrOf {T = Unit {0}} (Err e) Short → Builds buf ok command (told (Err e)) buf
@@ -34,6 +35,13 @@ module _ (buf : List ℕ) (ok : Bool) (command : List ℕ) where
   pub built : (r : Built) (after : List ℕ) → 64 ≤ length buf → ok ≡ true → Made buf command r after → Builds buf ok command r after
   unfolding built_in kept_or
   built r after h f m = record { answer = rw (le-ltb (length buf) 64 h, f) m.answer; held = rw (le-ltb (length buf) 64 h, f) m.held }
+
+-- an edition that there is not
+pub no-edition : (edition : ℕ) (buf : List ℕ) (ok : Bool) (command : List ℕ) (e : Refusal) → (is_edition edition ≡ false) × IsErrOf {T = ℕ} (Err e) NoEdition
+    → BuildsFor edition buf ok command (told (Err e)) buf
+no-edition edition buf ok command e h =
+    let is : e ≡ NoEdition = cc h.1 in
+    record { none = λ _. (rw is, refl); some = λ k. absurd (both_ways _ h.0 k) }
 
 -- the field's test is what the rule says of it
 pub judged : (buf : List ℕ) (ok good : Bool) (command : List ℕ) (r : Built) (after : List ℕ) → good ≡ ok → Builds buf good command r after → Builds buf ok command r after

@@ -5,7 +5,7 @@ use Prim.Native.Nat.{ℕ, ◌+◌, ◌≤◌}
 use native.Mathlib.Omega.{arith}
 use lib.Bits.{bit_xor, xor_comm}
 use lib.Count.{ones}
-use lib.ListN.{length, get_or}
+use lib.ListN.{length, get_or, set}
 use lib.Seq.{take_all}
 use Rattle.line.specs.Characters.{seven, sent}
 use Rattle.line.specs.Checksum.{bcc_of}
@@ -17,7 +17,7 @@ use Rattle.values.specs.Texts.{serial_text, wired_text}
 use Rattle.frames.specs.Frames.{closed, frame_of, on_wire}
 use Rattle.frames.specs.Commands.{P1, bracketed}
 use Rattle.frames.specs.Session.{sign_on_to, wired_line, wired_sign_on, password_data}
-use Rattle.commands.specs.Building.{Made}
+use Rattle.commands.specs.Building.{with_serial, Made}
 
 -- a command that is put in from the front is made
 pub made_so : (buf command : List ℕ) (n : ℕ) (after : List ℕ) → length command ≤ length buf → n ≡ 0 + length command → after ≡ stored buf 0 command
@@ -40,20 +40,26 @@ around-bcc a t b =
     ∙ xor_assoc (bcc_of t) (bcc_of a) (bcc_of b)
     ∙ ap (bit_xor (bcc_of t)) (sym (bcc-append a b))
 
-module _ (s a z : List ℕ) (n : length s ≡ 10) (e : a ≡ map sent (window 0 s)) (f : z ≡ map sent (window 2 s)) where
-  pub call-sent : (0xAF ∷ 0x3F ∷ get_or a 0 0 ∷ get_or a 1 0 ∷ get_or a 2 0 ∷ 0xA0 ∷ get_or z 1 0 ∷ get_or z 2 0 ∷ get_or z 3 0 ∷ get_or z 4 0 ∷ get_or z 5 0 ∷ get_or z 6 0 ∷ get_or z 7 0 ∷ 0x21 ∷ 0x8D ∷ 0x0A ∷ [])
-      ≡ on_wire (sign_on_to s)
-  unfolding spelled sign_on_to serial_text sent seven ones
-  call-sent =
-      rw (e, f)
-      (subst (λ (l : List ℕ). let a = map sent (window 0 l) in let z = map sent (window 2 l) in (0xAF ∷ 0x3F ∷ get_or a 0 0 ∷ get_or a 1 0 ∷ get_or a 2 0 ∷ 0xA0 ∷ get_or z 1 0 ∷ get_or z 2 0 ∷ get_or z 3 0 ∷ get_or z 4 0 ∷ get_or z 5 0 ∷ get_or z 6 0 ∷ get_or z 7 0 ∷ 0x21 ∷ 0x8D ∷ 0x0A ∷ []) ≡ on_wire (sign_on_to l)) (whole 10 s n) refl)
+-- a serial's first eight digits and its last eight are all of it
+pub both-eights : (call s a z : List ℕ) → length s ≡ 10 → a ≡ map sent (window 0 s) → z ≡ map sent (window 2 s)
+    → set (set (set (set (set (set (set (set (set (set call 2 (get_or a 0 0)) 3 (get_or a 1 0)) 4 (get_or a 2 0)) 6 (get_or z 1 0)) 7 (get_or z 2 0)) 8 (get_or z 3 0)) 9 (get_or z 4 0)) 10 (get_or z 5 0)) 11 (get_or z 6 0)) 12 (get_or z 7 0)
+    ≡ with_serial call (map sent s)
+unfolding spelled
+both-eights call s a z n e f =
+    rw (e, f)
+    (subst (λ (l : List ℕ). let a = map sent (window 0 l) in let z = map sent (window 2 l) in set (set (set (set (set (set (set (set (set (set call 2 (get_or a 0 0)) 3 (get_or a 1 0)) 4 (get_or a 2 0)) 6 (get_or z 1 0)) 7 (get_or z 2 0)) 8 (get_or z 3 0)) 9 (get_or z 4 0)) 10 (get_or z 5 0)) 11 (get_or z 6 0)) 12 (get_or z 7 0) ≡ with_serial call (map sent l)) (whole 10 s n) refl)
 
-  pub wired-sent : (0xAF ∷ 0x41 ∷ get_or a 0 0 ∷ get_or a 1 0 ∷ get_or a 2 0 ∷ 0x2E ∷ get_or z 1 0 ∷ get_or z 2 0 ∷ get_or z 3 0 ∷ get_or z 4 0 ∷ get_or z 5 0 ∷ get_or z 6 0 ∷ get_or z 7 0 ∷ 0x8D ∷ 0x0A ∷ [])
-      ≡ on_wire (wired_sign_on s)
-  unfolding spelled wired_line wired_text sent seven ones
-  wired-sent =
-      rw (e, f)
-      (subst (λ (l : List ℕ). let a = map sent (window 0 l) in let z = map sent (window 2 l) in (0xAF ∷ 0x41 ∷ get_or a 0 0 ∷ get_or a 1 0 ∷ get_or a 2 0 ∷ 0x2E ∷ get_or z 1 0 ∷ get_or z 2 0 ∷ get_or z 3 0 ∷ get_or z 4 0 ∷ get_or z 5 0 ∷ get_or z 6 0 ∷ get_or z 7 0 ∷ 0x8D ∷ 0x0A ∷ []) ≡ on_wire (wired_sign_on l)) (whole 10 s n) refl)
+pub call-sent : (s : List ℕ) → length s ≡ 10
+    → with_serial (0xAF ∷ 0x3F ∷ 95 ∷ 95 ∷ 95 ∷ 0xA0 ∷ 95 ∷ 95 ∷ 95 ∷ 95 ∷ 95 ∷ 95 ∷ 95 ∷ 0x21 ∷ 0x8D ∷ 0x0A ∷ []) (map sent s) ≡ on_wire (sign_on_to s)
+unfolding spelled sign_on_to serial_text sent seven ones
+call-sent s n =
+    subst (λ (l : List ℕ). with_serial (0xAF ∷ 0x3F ∷ 95 ∷ 95 ∷ 95 ∷ 0xA0 ∷ 95 ∷ 95 ∷ 95 ∷ 95 ∷ 95 ∷ 95 ∷ 95 ∷ 0x21 ∷ 0x8D ∷ 0x0A ∷ []) (map sent l) ≡ on_wire (sign_on_to l)) (whole 10 s n) refl
+
+pub wired-sent : (s : List ℕ) → length s ≡ 10
+    → with_serial (0xAF ∷ 0x41 ∷ 95 ∷ 95 ∷ 95 ∷ 0x2E ∷ 95 ∷ 95 ∷ 95 ∷ 95 ∷ 95 ∷ 95 ∷ 95 ∷ 0x8D ∷ 0x0A ∷ []) (map sent s) ≡ on_wire (wired_sign_on s)
+unfolding spelled wired_line wired_text sent seven ones
+wired-sent s n =
+    subst (λ (l : List ℕ). with_serial (0xAF ∷ 0x41 ∷ 95 ∷ 95 ∷ 95 ∷ 0x2E ∷ 95 ∷ 95 ∷ 95 ∷ 95 ∷ 95 ∷ 95 ∷ 95 ∷ 0x8D ∷ 0x0A ∷ []) (map sent l) ≡ on_wire (wired_sign_on l)) (whole 10 s n) refl
 
 abbrev password_front : List ℕ
 password_front = 80 ∷ 49 ∷ 2 ∷ 40 ∷ []

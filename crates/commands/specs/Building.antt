@@ -1,5 +1,5 @@
 -- Document 01, "The head": a command is built in a buffer of at least 64 bytes, or nothing is written.
-use Rattle.std.specs.Prelude.{◌≡◌, Bool, true, false, cond, ◌||◌, List, ℕ, Result, Ok, Err, ◌+◌, ◌≤◌, eqb, ltb, length}
+use Rattle.std.specs.Prelude.{◌≡◌, Bool, true, false, cond, ◌||◌, List, ℕ, Result, Ok, Err, ◌+◌, ◌≤◌, eqb, ltb, length, set, get_or}
 use Rattle.line.specs.Quoted.{char}
 use Rattle.text.specs.Writing.{holding}
 use Rattle.values.specs.Edition.{is_edition}
@@ -61,3 +61,8 @@ pub record Small (ok : Bool) (start content : List ℕ) : Type 0 where
 pub record Made (buf command : List ℕ) (r : Built) (after : List ℕ) : Type 0 where
   pub answer : r ≡ record { number = 1; length = length command }
   pub held : after ≡ holding buf command
+
+-- ten digits in a sign-on to a serial: three from its third character on, seven from its seventh
+abbrev pub with_serial : List ℕ → List ℕ → List ℕ
+with_serial call s =
+    set (set (set (set (set (set (set (set (set (set call 2 (get_or s 0 0)) 3 (get_or s 1 0)) 4 (get_or s 2 0)) 6 (get_or s 3 0)) 7 (get_or s 4 0)) 8 (get_or s 5 0)) 9 (get_or s 6 0)) 10 (get_or s 7 0)) 11 (get_or s 8 0)) 12 (get_or s 9 0)

@@ -1,17 +1,18 @@
 // What the head says: every command, built in a lent buffer of at least 64 bytes, or refused with nothing written.
 #![tactic(auto)]
 
-ghost use Rattle.std.specs.Prelude.{◌≡◌, true, false, ◌&&◌, [], ◌∷◌, ◌++◌, ◌+◌, ◌<◌, ◌≤◌, length, Ok, OnOk, OnErr, IsErrOf};
+ghost use Rattle.std.specs.Prelude.{◌≡◌, true, false, ◌&&◌, [], ◌∷◌, ◌++◌, ◌+◌, ◌<◌, ◌≤◌, length, map, Ok, IfOk, OnOk, OnErr, IsErrOf};
 ghost use Rattle.line.specs.Quoted.{chars};
+ghost use Rattle.line.specs.Characters.{sent};
 ghost use Rattle.clock.specs.Seconds.{real_clock};
-ghost use Rattle.values.specs.Edition.{tables_of, row_length};
+ghost use Rattle.values.specs.Edition.{is_edition, tables_of, row_length};
 ghost use Rattle.values.specs.Registers.{good_digits, good_serial, good_password, good_account, good_row, good_table, good_zone};
 ghost use Rattle.values.specs.Texts.{table_text, clock_text};
 ghost use Rattle.frames.specs.Frames.{sealed, frame_of, bare_frame, on_wire};
 ghost use Rattle.frames.specs.Commands.{B0, P1, R1, W1, ask_clock, ask_serial, ask_account, lettered, ask_energy, ask_export, ask_table, set_clock, set_account, set_table};
 ghost use Rattle.frames.specs.Session.{sign_on, closing_sign_on, sign_on_to, wired_sign_on, confirmation, good_speed, enter_data, password_data};
-ghost use Rattle.commands.specs.Building.{good_choice, number_of, told, Builds, BuildsFor, Room, Small, Made};
-ghost use Rattle.commands.specs.declared.Refusal.TheVariants.{Field, Short};
+ghost use Rattle.commands.specs.Building.{good_choice, number_of, told, with_serial, Builds, BuildsFor, Room, Small, Made};
+ghost use Rattle.commands.specs.declared.Refusal.TheVariants.{Field, NoEdition, Short};
 
 use clock::Clock;
 use values::{TableNo, ZoneNo};
@@ -45,13 +46,7 @@ const PASSWORD: usize = 8;
 
 const ACCOUNT: usize = 10;
 
-// As they are sent: `/`, space, CR, SOH, `1`, STX and `)` have a one on top, for their parity. The others of a sign-on and of P1 are sent as they are.
-const SENT_SLASH: u8 = 0xAF;
-
-const SENT_SPACE: u8 = 0xA0;
-
-const SENT_CR: u8 = 0x8D;
-
+// As they are sent: SOH, `1`, STX and `)` have a one on top, for their parity. The others of P1 are sent as they are.
 const SENT_SOH: u8 = 0x81;
 
 const SENT_ONE: u8 = 0xB1;
@@ -167,57 +162,30 @@ pub fn close(buf: &mut [u8]) -> Result<usize, Refusal>
     Ok(line_of(buf, b"/C", b"", b"!\r\n"))
 }
 
-// The sign-on to a serial, as it is sent: its first eight digits and its last have their parity at once.
-fn sent_call(serial: &[u8]) -> [u8; 16]
-    requires { length serial.now ≡ 10 }
-    ensures { result ≡ on_wire (sign_on_to serial.now) }
-{
-    let a = eights::sent_eight(serial, 0);
-    let z = eights::sent_eight(serial, 2);
-    [
-        SENT_SLASH,
-        b'?',
-        a[0],
-        a[1],
-        a[2],
-        SENT_SPACE,
-        z[1],
-        z[2],
-        z[3],
-        z[4],
-        z[5],
-        z[6],
-        z[7],
-        b'!',
-        SENT_CR,
-        line::LF,
-    ]
-}
+// The sign-ons to a serial as they are sent, with a blank for each of its digits: `/`, space and CR have a one on top, for their parity.
+const CALL: [u8; 16] = *b"\xAF?___\xA0_______!\x8D\n";
 
-// The same of the wired link.
-fn sent_wired(serial: &[u8]) -> [u8; 15]
-    requires { length serial.now ≡ 10 }
-    ensures { result ≡ on_wire (wired_sign_on serial.now) }
+const WIRED: [u8; 15] = *b"\xAFA___._______\x8D\n";
+
+// One of them with the serial, of which the first eight digits and the last have their parity at once.
+fn with_serial<const N: usize>(call: [u8; N], serial: &[u8]) -> [u8; N]
+    requires { (13 ≤ N) × (length serial.now ≡ 10) }
+    ensures { result ≡ with_serial call.entry (map sent serial.now) }
 {
     let a = eights::sent_eight(serial, 0);
     let z = eights::sent_eight(serial, 2);
-    [
-        SENT_SLASH,
-        b'A',
-        a[0],
-        a[1],
-        a[2],
-        b'.',
-        z[1],
-        z[2],
-        z[3],
-        z[4],
-        z[5],
-        z[6],
-        z[7],
-        SENT_CR,
-        line::LF,
-    ]
+    let mut made = call;
+    made[2] = a[0];
+    made[3] = a[1];
+    made[4] = a[2];
+    made[6] = z[1];
+    made[7] = z[2];
+    made[8] = z[3];
+    made[9] = z[4];
+    made[10] = z[5];
+    made[11] = z[6];
+    made[12] = z[7];
+    made
 }
 
 // The sign-on to the meter of a serial, given by its ten digits.
@@ -226,7 +194,7 @@ pub fn sign_on_to(buf: &mut [u8], serial: &[u8]) -> Result<usize, Refusal>
 {
     room(buf)?;
     field(is_digits::<SERIAL>(serial))?;
-    Ok(put_made(buf, &sent_call(serial)))
+    Ok(put_made(buf, &with_serial(CALL, serial)))
 }
 
 // The sign-on on the wired link, to the meter of a serial or, with zeros, to whichever is there.
@@ -235,7 +203,7 @@ pub fn sign_on_wired(buf: &mut [u8], serial: &[u8]) -> Result<usize, Refusal>
 {
     room(buf)?;
     field(is_digits::<SERIAL>(serial))?;
-    Ok(put_made(buf, &sent_wired(serial)))
+    Ok(put_made(buf, &with_serial(WIRED, serial)))
 }
 
 // The confirmation, with the character '0' (300 baud) or '5' (9600) as speed, and with '0', '1', '6' or '7'.
@@ -369,14 +337,23 @@ pub fn read_table_of(buf: &mut [u8], tables: u8, table: TableNo) -> Result<usize
     )
 }
 
+// How many tables the meters of an edition have, if there is such an edition.
+fn tables(edition: u8) -> Result<u8, Refusal>
+    ensures ok { IfOk result (λ n. (is_edition edition ≡ true) × (n ≡ tables_of edition)) }
+    ensures err { OnErr result ((is_edition edition ≡ false) × (IsErrOf result NoEdition)) }
+{
+    if values::is_edition(edition) {
+        Ok(values::tables_of(edition))
+    } else {
+        Err(Refusal::NoEdition)
+    }
+}
+
 // R1 for a table of an edition's meter.
 pub fn read_table(buf: &mut [u8], edition: u8, table: TableNo) -> Result<usize, Refusal>
     ensures { BuildsFor edition buf.old (good_table (tables_of edition) table.0) (on_wire (frame_of R1 (ask_table table.0))) (told result) buf.new }
 {
-    if !values::is_edition(edition) {
-        return Err(Refusal::NoEdition);
-    }
-    read_table_of(buf, values::tables_of(edition), table)
+    read_table_of(buf, tables(edition)?, table)
 }
 
 // The clock as it is written.
@@ -440,10 +417,7 @@ pub fn write_table(
 ) -> Result<usize, Refusal>
     ensures { BuildsFor edition buf.old (good_table (tables_of edition) table.0 && good_row row.now) (on_wire (frame_of W1 (set_table table.0 row.now))) (told result) buf.new }
 {
-    if !values::is_edition(edition) {
-        return Err(Refusal::NoEdition);
-    }
-    write_table_of(buf, values::tables_of(edition), table, row)
+    write_table_of(buf, tables(edition)?, table, row)
 }
 
 // B0, the end of a session.

@@ -2,7 +2,10 @@
 use Rattle.std.proofs.lemmas.Result.{err_from_is_err_and}
 use mathlib.Core.Path.{sym, ◌∙◌}
 use Rattle.commands.proofs.Making.{too_short, built, field-refused}
+use native.Mathlib.Omega.{arith}
+use Prim.Native.Nat.{◌≤◌}
 use Rattle.values.proofs.Rules.{digits_long}
+use Rattle.commands.proofs.Sent.{wired-sent}
 use Rattle.commands.proofs.sign_on_wired.Goals as goal
 
 pub returns-in_err-room : goal.returns-in_err-room
@@ -15,9 +18,12 @@ returns-in_err-field c =
     let p = err_from_is_err_and c.from_residual-in_err-field.result c.from_residual-in_err-field.ensures.1 in
     rw (p.1, p.2) (field-refused _ _ _ _ c.in_ok-room.ensures.ok (sym c.is_digits.ensures ∙ c.in_err-field.ensures.err.0) c.in_err-field.ensures.err.1)
 
-pub sent_wired-requires : goal.sent_wired-requires
-sent_wired-requires c = digits_long 10 _ (sym c.is_digits.ensures ∙ c.in_ok-field.ensures.ok)
+pub with_serial-requires : goal.with_serial-requires
+with_serial-requires c =
+    let places : 13 ≤ 15 = omega arith in
+    (omega arith, (places, digits_long 10 _ (sym c.is_digits.ensures ∙ c.in_ok-field.ensures.ok)))
 
 pub returns : goal.returns
 returns c =
-    rw (← c.sent_wired.ensures) (built _ _ _ _ _ c.in_ok-room.ensures.ok (sym c.is_digits.ensures ∙ c.in_ok-field.ensures.ok) c.put_made.ensures)
+    let long = digits_long 10 c.args.serial.now (sym c.is_digits.ensures ∙ c.in_ok-field.ensures.ok) in
+    rw (← wired-sent c.args.serial.now long, ← c.with_serial.ensures) (built _ _ _ _ _ c.in_ok-room.ensures.ok (sym c.is_digits.ensures ∙ c.in_ok-field.ensures.ok) c.put_made.ensures)
