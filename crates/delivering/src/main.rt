@@ -4,12 +4,10 @@
 
 fn main(rt: HostRuntime) {
     let mut text = [0u8; 4096];
-    let input = streams::read_all(&rt, &mut text);
-    if !input.ended {
+    let Ok(n) = streams::read_all(&rt, &mut text) else {
         streams::complain(&rt);
         return;
-    }
-    let n = input.length;
+    };
     let mut out = [0u8; 667];
     let said = reporting::report(streams::edition_told(&rt), &text[..n], &mut out);
     streams::write_once(&rt, &out[..said.length], said.outcome.is_ok());

@@ -5,12 +5,10 @@
 
 fn main(rt: HostRuntime) {
     let mut text = [0u8; 4096];
-    let input = streams::read_all(&rt, &mut text);
-    if !input.ended {
+    let Ok(n) = streams::read_all(&rt, &mut text) else {
         streams::complain(&rt);
         return;
-    }
-    let n = input.length;
+    };
     let mut out = [0u8; 900];
     let shown = exporting::show(streams::edition_told(&rt), &text[..n], &mut out);
     streams::write_once(&rt, &out[..shown.length], shown.outcome.is_ok());

@@ -4,13 +4,11 @@
 
 fn main(rt: HostRuntime) {
     let mut capture = [0u8; 64];
-    let input = streams::read_all(&rt, &mut capture);
-    if !input.ended {
+    let Ok(n) = streams::read_all(&rt, &mut capture) else {
         streams::complain(&rt);
         return;
-    }
-    let n = input.length;
+    };
     let mut out = [0u8; 128];
     let shown = mercuryshow::show(&capture[..n], &mut out);
-    streams::write_once(&rt, &out[..shown.length], shown.refusal.is_none());
+    streams::write_once(&rt, &out[..shown.length], shown.outcome.is_ok());
 }

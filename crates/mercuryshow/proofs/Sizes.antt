@@ -10,7 +10,7 @@ use Rattle.numerals.specs.Numerals.{number_line}
 use Rattle.numerals.proofs.Widths.{digits-few, line-few}
 use Rattle.mercury.specs.declared.answering.Energy.{Energy}
 use Rattle.std.specs.Prelude.{Some, None, Ok, Err}
-use Rattle.std.specs.Result.{result_err}
+use Rattle.std.specs.Result.{result_and}
 use Rattle.mercury.specs.declared.answering.Refusal.{Refusal}
 use Rattle.mercury.specs.declared.answering.Refusal.TheVariants.{Status, WrongLength, WrongCrc, OtherAddress}
 use Rattle.mercury.specs.Answering.{Quantity, Answer, answer_number, answer_code}
@@ -68,7 +68,7 @@ refused OtherAddress = refl
 refused (Status code) = refl
 
 -- the refusal tells the number
-pub numbered : (a : Answer) → shown_number (result_err a) ≡ answer_number a
+pub numbered : (a : Answer) → shown_number (result_and a (Ok (tt {0}))) ≡ answer_number a
 unfolding answer_number
 numbered (Ok e) = refl
 numbered (Err r) = refl

@@ -1,6 +1,6 @@
 -- What is shown of a captured exchange, and nothing more.
-use Rattle.std.specs.Prelude.{◌≡◌, Option, Some, None, Ok, Err, List, [], ◌∷◌, ◌++◌, ℕ, length, get_or, drop}
-use Rattle.std.specs.Result.{result_err}
+use Rattle.std.specs.Prelude.{◌≡◌, Result, Some, None, Ok, Err, List, [], ◌∷◌, ◌++◌, ℕ, length, get_or, drop}
+use Rattle.std.specs.Result.{result_and}
 use Rattle.line.specs.Controls.{LF}
 use Rattle.line.specs.Quoted.{chars}
 use Rattle.text.specs.Writing.{holding}
@@ -37,14 +37,14 @@ answer_text (Err (Status code)) = number_line 53 code
 unfoldable pub exchange_read : List ℕ → Answer
 exchange_read capture = read_of (get_or capture 0 0) (drop 6 capture)
 
--- the number of what is shown: that of its refusal, or 1
-abbrev pub shown_number : Option Refusal → ℕ
-shown_number None = 1
-shown_number (Some refusal) = answer_number (Err refusal)
+-- the number of what is shown: 1, or that of the refusal
+abbrev pub shown_number : {A : Type 0} → Result A Refusal → ℕ
+shown_number (Ok done) = 1
+shown_number (Err refusal) = answer_number (Err refusal)
 
--- a buffer begins with the text and is kept past it; why it has no energy, and by that its number, and its length
+-- a buffer begins with the text and is kept past it; whether energy was shown, and by that its number, and its length
 pub record Shows (capture out : List ℕ) (r : Shown) (after : List ℕ) : Type 0 where
-  pub refusal : r.refusal ≡ result_err (exchange_read capture)
-  pub number : shown_number r.refusal ≡ answer_number (exchange_read capture)
+  pub outcome : r.outcome ≡ result_and (exchange_read capture) (Ok (tt {0}))
+  pub number : shown_number r.outcome ≡ answer_number (exchange_read capture)
   pub long : r.length ≡ length (answer_text (exchange_read capture))
   pub held : after ≡ holding out (answer_text (exchange_read capture))

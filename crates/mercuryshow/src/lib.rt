@@ -14,10 +14,10 @@ pub const ROOM: usize = 128;
 // A capture begins with the request.
 const REQUEST: usize = 6;
 
-// Why the answer has no energy, if so, and how many bytes of the buffer are to be written, of a refusal too.
-#[derive(Clone, Copy, Debug, PartialEq, Eq)]
+// Whether energy was shown, or what was told in place of it; and how many bytes of the buffer are to be written.
+#[derive(Clone, Copy)]
 pub struct Shown {
-    pub refusal: Option<Refusal>,
+    pub outcome: Result<(), Refusal>,
     pub length: usize,
 }
 
@@ -80,7 +80,7 @@ pub fn show(capture: &[u8], out: &mut [u8]) -> Shown
     let a = mercury::answering::read(text::rest(capture, REQUEST), text::at(capture, 0));
     let length = put_answer(out, a);
     Shown {
-        refusal: a.err(),
+        outcome: a.and(Ok(())),
         length,
     }
 }

@@ -55,4 +55,4 @@ pub record Answering : Type 0 where
 -- of `mercuryshow`
 pub record Showing : Type 0 where
   -- an empty capture as done; nothing shown of it
-  pub show : ((after : List ℕ) → Shows [] [] (record { refusal = None; length = 0 }) after → ⊥) × ((r : Shown) → Shows [] [] r [] → ⊥)
+  pub show : ((after : List ℕ) → Shows [] [] (record { outcome = Ok (tt {0}); length = 0 }) after → ⊥) × ((r : Shown) → Shows [] [] r [] → ⊥)

@@ -32,12 +32,10 @@ fn main(rt: HostRuntime) {
         return;
     }
     let mut wire = [0u8; 4097];
-    let input = streams::read_all(&rt, &mut wire);
-    if !input.ended {
+    let Ok(n) = streams::read_all(&rt, &mut wire) else {
         streams::complain(&rt);
         return;
-    }
-    let n = input.length;
+    };
     let mut out = [0u8; 4138];
     let shown = shown(&rt, &wire[..n], &mut out);
     streams::write_once(&rt, &out[..shown.length], shown.refusal.is_none());

@@ -1,7 +1,7 @@
 // A program's streams: all of its input, its output in one go, and on standard error a word for the wrapper that gives the exit status.
 #![tactic(auto)]
 
-ghost use Rattle.std.specs.Prelude.{◌≡◌, ◌+◌, ◌-◌, ◌≤◌, length, take, IfSome};
+ghost use Rattle.std.specs.Prelude.{◌≡◌, ◌+◌, ◌-◌, ◌≤◌, length, take, IfSome, IfOk, IfErr};
 ghost use Rattle.text.specs.Writing.{stored};
 
 use std::env::FillError;
@@ -15,11 +15,10 @@ const PIECE: usize = 65_536;
 // Nothing says that an input ends, and every loop must: no run reads so many pieces.
 const PIECES: u64 = 18_446_744_073_709_551_615;
 
-// Whether an input was read to its end, and how many bytes of it are kept.
-#[derive(Clone, Copy)]
-pub struct Input {
-    pub ended: bool,
-    pub length: usize,
+// An input that was not read to its end, and how many of its bytes are kept.
+#[derive(Clone, Copy, Debug, PartialEq, Eq)]
+pub struct CutOff {
+    pub kept: usize,
 }
 
 // Puts as much of a piece into a buffer as there is room for, from a place on, and gives the place after it.
@@ -33,61 +32,22 @@ fn keep(buf: &mut [u8], at: usize, piece: &[u8]) -> usize
     text::put(buf, at, text::first(piece, room))
 }
 
-// What one read gave: whether more may come, whether it ended, and how many bytes are kept then.
-#[derive(Clone, Copy)]
-pub struct Turn {
-    pub more: bool,
-    pub ended: bool,
-    pub length: usize,
-}
-
-// Reads once, and keeps what there is room for.
-fn take_piece<R: Read>(reader: &mut R, buf: &mut [u8], held: usize) -> Turn
-    requires { held ≤ length buf.old }
-    ensures { result.length ≤ length buf.old }
-{
-    let mut piece = [0u8; PIECE];
-    match reader.read(&mut piece) {
-        Ok(0) => Turn {
-            more: false,
-            ended: true,
-            length: held,
-        },
-        Ok(n) => Turn {
-            more: true,
-            ended: false,
-            length: keep(buf, held, &piece[..n]),
-        },
-        Err(_) => Turn {
-            more: false,
-            ended: false,
-            length: held,
-        },
-    }
-}
-
-// Reads standard input to its end and keeps as many of its first bytes as the buffer holds: whoever writes a longer input is not cut off.
-pub fn read_all(rt: &impl io::Input, buf: &mut [u8]) -> Input
-    ensures { (result.length ≤ length buf.new) × (result.length ≡ length (take result.length buf.new)) }
+// Reads standard input to its end, keeps as many of its first bytes as the buffer holds, and gives how many: whoever writes a longer input is not cut off.
+pub fn read_all(rt: &impl io::Input, buf: &mut [u8]) -> Result<usize, CutOff>
+    ensures ended { IfOk result (λ n. (n ≤ length buf.new) × (n ≡ length (take n buf.new))) }
+    ensures cut_off { IfErr result (λ e. (e.kept ≤ length buf.new) × (e.kept ≡ length (take e.kept buf.new))) }
 {
     let mut reader = rt.reader();
     let mut kept = 0;
-    let mut pieces = PIECES;
-    while 0 < pieces {
-        let turn = take_piece(&mut reader, buf, kept);
-        kept = turn.length;
-        if !turn.more {
-            return Input {
-                ended: turn.ended,
-                length: kept,
-            };
+    for _ in 0..PIECES {
+        let mut piece = [0u8; PIECE];
+        match reader.read(&mut piece) {
+            Ok(0) => return Ok(kept),
+            Ok(n) => kept = keep(buf, kept, &piece[..n]),
+            Err(_) => break,
         }
-        pieces -= 1;
     }
-    Input {
-        ended: false,
-        length: kept,
-    }
+    Err(CutOff { kept })
 }
 
 // The length of a word that a program is started with, which then lies at the start of the buffer:
@@ -103,19 +63,18 @@ pub fn word_told(rt: &impl Env, at: usize, word: &mut [u8]) -> Option<usize>
 }
 
 // The edition that a program is started with, as its one word: 1 without a word, 0 where the words name none.
+// Stays: a number, and 0 for none, as C gives it to `exporting::show`, `cardexporting::show` and `reporting::report`, which refuse it with 16.
 pub fn edition_told(rt: &impl Env) -> u8 {
     let mut word = [0u8; 2];
     let Some(n) = word_told(rt, 1, &mut word) else {
         return 1;
     };
-    let one = word_told(rt, 2, &mut [0u8; 2]).is_none();
-    if one & text::same(&word[..n], b"1") {
-        return 1;
+    let alone = word_told(rt, 2, &mut [0u8; 2]).is_none();
+    match &word[..n] {
+        b"1" if alone => 1,
+        b"2" if alone => 2,
+        _ => 0,
     }
-    if one & text::same(&word[..n], b"2") {
-        return 2;
-    }
-    0
 }
 
 // Says that the input was not read. Where that can't be said either, nothing is left to do.

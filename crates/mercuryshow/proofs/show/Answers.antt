@@ -2,7 +2,8 @@
 use mathlib.Core.Path.{◌≡◌, ap, ap₂, ◌∙◌}
 use native.Mathlib.Omega.{arith}
 use lib.ListN.{length, get_or, drop}
-use Rattle.std.specs.Result.{result_err}
+use Rattle.std.specs.Prelude.{Ok}
+use Rattle.std.specs.Result.{result_and}
 use Rattle.text.specs.Writing.{stored}
 use Rattle.text.proofs.Writing.{stored-holding}
 use Rattle.numerals.proofs.Begun.{begun}
@@ -19,12 +20,12 @@ returns c =
     let put = c.put_answer-length.ensures in
     let is : read.result ≡ read_of (get_or a.capture.now 0 0) (drop 6 a.capture.now) =
     read.ensures ∙ ap₂ read_of c.at.ensures c.rest.ensures.result_value in
-    let refusal : c.err.result ≡ result_err (exchange_read a.capture.now) = c.err.ensures.value ∙ ap result_err is in
+    let outcome : c.and.result ≡ result_and (exchange_read a.capture.now) (Ok (tt {0})) = c.and.ensures ∙ ap (λ (x : Answer). result_and x (Ok tt)) is in
     let room = answer-few (exchange_read a.capture.now) in
-    let s : Shows a.capture.now a.out.now (record { refusal = c.err.result; length = c.put_answer-length.result }) _ =
+    let s : Shows a.capture.now a.out.now (record { outcome = c.and.result; length = c.put_answer-length.result }) _ =
     record {
-      refusal = refusal;
-      number = ap shown_number refusal ∙ numbered _;
+      outcome = outcome;
+      number = ap shown_number outcome ∙ numbered _;
       long = put.next ∙ ap (λ (x : Answer). length (answer_text x)) is;
       held = put.held ∙ ap (λ (x : Answer). stored a.out.now 0 (answer_text x)) is ∙ stored-holding a.out.now (answer_text (exchange_read a.capture.now)) (omega (arith, room));
     } in
