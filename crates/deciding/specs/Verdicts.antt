@@ -6,7 +6,7 @@ use Rattle.replies.specs.declared.Ask.{Ask}
 use Rattle.deciding.specs.declared.Command.{Command}
 use Rattle.deciding.specs.declared.Command.TheVariants.{Leave as leaving, Enter as entering, Password as trying, Read as reading, WriteClock as clock_written, WriteAccount as account_written, WriteTable as table_written}
 use Rattle.deciding.specs.declared.Refusal.{Refusal}
-use Rattle.deciding.specs.declared.Refusal.TheVariants.{Damaged, BadSum, NoFrame, Unknown, NotAllowed, BadData}
+use Rattle.deciding.specs.declared.Refusal.TheVariants.{Damaged, BadSum, TooLong, NoFrame, Unknown, NotAllowed, BadData, WrongPassword, LockedOut}
 
 pub data Verdict : Type 0 where
   Refuse : ℕ → Verdict
@@ -31,10 +31,13 @@ command_of (table_written t) = WriteTable t
 unfoldable pub number_of : Refusal → ℕ
 number_of Damaged = 3
 number_of BadSum = 4
+number_of TooLong = 5
 number_of NoFrame = 6
 number_of Unknown = 7
 number_of NotAllowed = 8
 number_of BadData = 9
+number_of WrongPassword = 10
+number_of LockedOut = 11
 
 unfoldable pub verdict_of : Result Command Refusal → Verdict
 verdict_of (Ok c) = command_of c

@@ -33,13 +33,15 @@ pub enum Command {
     WriteTable(TableNo),
 }
 
-// Why a frame is refused, in the order of the tests.
+// Why a frame is refused, in the order of document 01's numbers. Three of them are for the meter to tell: here no frame is too long, and no password looked at.
 #[derive(Clone, Copy)]
 pub enum Refusal {
     // A character was damaged.
     Damaged,
     // Its BCC is another.
     BadSum,
+    // It doesn't end.
+    TooLong,
     // It has no frame's shape.
     NoFrame,
     // Its command is none of ours.
@@ -48,6 +50,9 @@ pub enum Refusal {
     NotAllowed,
     // Its data are none that the command takes.
     BadData,
+    WrongPassword,
+    // After too many of them.
+    LockedOut,
 }
 
 impl Refusal {
@@ -59,10 +64,13 @@ impl Refusal {
         match self {
             Refusal::Damaged => 3,
             Refusal::BadSum => 4,
+            Refusal::TooLong => 5,
             Refusal::NoFrame => 6,
             Refusal::Unknown => 7,
             Refusal::NotAllowed => 8,
             Refusal::BadData => 9,
+            Refusal::WrongPassword => 10,
+            Refusal::LockedOut => 11,
         }
     }
 }

@@ -7,6 +7,7 @@ ghost use Rattle.state.specs.WellFormed.{well_formed};
 use state::{Meter, closing, pieces};
 
 // Whether a record is well-formed.
+// Stays: `state::is_well_formed` is the same by value; a test that both called would have two callers, and not be compiled into the one that a host uses.
 pub fn is_formed(m: &Meter) -> bool
     ensures { result ≡ well_formed m.now }
 {

@@ -3,3 +3,4 @@ pub mod Known
 pub mod Tests
 pub mod Places
 pub mod Done
+pub mod Heard

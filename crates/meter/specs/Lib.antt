@@ -1,5 +1,6 @@
 pub mod Link
 pub mod Outcomes
+pub mod Unheard
 pub mod Acting
 pub mod SignOn
 pub mod Character

@@ -1,7 +1,7 @@
 // What an event that a meter has to act on comes to, decided from the session, what is held and what the meter has for life.
 ghost use Rattle.std.specs.Prelude.{◌≡◌, ◌≤◌, length};
 ghost use Rattle.frames.specs.Session.{speed_said};
-ghost use Rattle.deciding.specs.Verdicts.{verdict_of};
+ghost use Rattle.deciding.specs.Verdicts.{number_of, verdict_of};
 ghost use Rattle.meter.specs.SignOn.{confirms, wants_block, wants_periods, wants_program};
 ghost use Rattle.meter.specs.Deeds.{standing_in, at_rest, rests, refuses, goes_to, stays, signs_on, reads_out, invites, interrupted, starts, month_started, line_deed, confirmation_deed, password_deed, row_deed, verdict_deed, frame_deed, heard_deed, character_deed, silence_deed, left_deed};
 
@@ -70,12 +70,12 @@ fn rest(s: Standing, number: u8) -> Deed
 }
 
 // A refusal as the link rules it, with this place and so many attempts.
-fn refuse(s: Standing, number: u8, place: u8, attempts: u8) -> Deed
-    ensures { result ≡ refuses s number place attempts }
+fn refuse(s: Standing, why: Refusal, place: u8, attempts: u8) -> Deed
+    ensures { result ≡ refuses s (number_of why) place attempts }
 {
     let mode = link::fall(s.facts.link, s.mode);
     Deed {
-        number,
+        number: why.number(),
         place,
         mode,
         attempts,
@@ -213,12 +213,12 @@ fn of_password(s: Standing, held: &[u8; HELD_PLACES as usize]) -> Deed
     ensures { result ≡ password_deed s held.now }
 {
     if s.attempts == 3 {
-        return refuse(s, 11, 0, s.attempts);
+        return refuse(s, Refusal::LockedOut, 0, s.attempts);
     }
     if text::same(text::first(text::rest(held, 5), 8), &s.facts.password) {
         return go_to(s, 4, 0);
     }
-    refuse(s, 10, 0, s.attempts + 1)
+    refuse(s, Refusal::WrongPassword, 0, s.attempts + 1)
 }
 
 // W1 of a table.
@@ -228,7 +228,7 @@ fn of_row(s: Standing, t: TableNo) -> Deed
     if values::is_table(t, values::tables_of(s.facts.edition)) {
         return stay(s, Says::Accepted, Writes::RowSet(t));
     }
-    refuse(s, 9, 0, s.attempts)
+    refuse(s, Refusal::BadData, 0, s.attempts)
 }
 
 // What a decision comes to.
@@ -238,7 +238,7 @@ fn of_verdict(s: Standing, held: &[u8; HELD_PLACES as usize], v: Result<Command,
     ensures { result ≡ verdict_deed s held.now (verdict_of v) }
 {
     match v {
-        Err(refusal) => refuse(s, refusal.number(), 0, s.attempts),
+        Err(why) => refuse(s, why, 0, s.attempts),
         Ok(Command::Leave) => go_to(s, 0, s.attempts),
         Ok(Command::Enter) => go_to(s, 3, s.attempts),
         Ok(Command::Password) => of_password(s, held),
@@ -257,7 +257,7 @@ fn of_frame(s: Standing, held: &[u8; HELD_PLACES as usize], c: u8, damaged: bool
     let hurt = (s.mark == 1) | damaged;
     if hurt {
         let place = receiving::hurt_at(s.count, s.mark, s.place, damaged);
-        return refuse(s, 3, place, s.attempts);
+        return refuse(s, Refusal::Damaged, place, s.attempts);
     }
     let v = deciding::decide(
         values::tables_of(s.facts.edition),
@@ -271,7 +271,7 @@ fn of_frame(s: Standing, held: &[u8; HELD_PLACES as usize], c: u8, damaged: bool
 }
 
 // What is heard, where it is more than a character that is held or dropped.
-#[tactic(auto, unfolding(crate::specs::Deeds::heard_deed))]
+#[tactic(auto, unfolding(crate::specs::Deeds::heard_deed, deciding::specs::Verdicts::number_of))]
 pub fn of_hearing(
     s: Standing,
     held: &[u8; HELD_PLACES as usize],
@@ -287,7 +287,7 @@ pub fn of_hearing(
         Hearing::Line => of_line(s, held),
         Hearing::Confirm => of_confirmation(s, held, c, damaged),
         Hearing::Frame => of_frame(s, held, c, damaged),
-        Hearing::TooLong => refuse(s, 5, 0, s.attempts),
+        Hearing::TooLong => refuse(s, Refusal::TooLong, 0, s.attempts),
     }
 }
 

@@ -7,7 +7,7 @@ ghost use Rattle.meter.specs.Outcomes.{answer_of};
 ghost use Rattle.meter.specs.Events.{pulse_refused};
 ghost use Rattle.meter.specs.Life.{event_of, met, refusal, happened};
 
-use crate::{Answer, Event, after, answers, passing};
+use crate::{Answer, Event, Unheard, after, answers, passing};
 use state::Meter;
 
 // A character of a number, if it is one.
@@ -54,6 +54,7 @@ fn pulse_refusal(family: u8, out: bool, units: u32) -> u8
 }
 
 // The number that refuses an event of a family's meters whatever the rest of the state, or 0.
+// Stays: `settling` hands the number on to C as it is, and the theorem `met-in-order` speaks of it so.
 #[tactic(auto, unfolding(crate::specs::Life::refusal))]
 pub fn refusal_of(e: Event, family: u8, room: usize) -> u8
     ensures { result ≡ refusal family room e }
@@ -98,9 +99,9 @@ fn unknown(m: Meter) -> Answer
     ensures { result ≡ answer_of (met m 0 Event.Unknown) }
 {
     if !state::has_edition(m) {
-        return answers::unheard_with(16, m);
+        return answers::unheard_with(Unheard::NoEdition.number(), m);
     }
-    answers::unheard_with(99, m)
+    answers::unheard_with(Unheard::NoEvent.number(), m)
 }
 
 // Any event, met by any meter with any buffer.

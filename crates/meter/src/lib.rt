@@ -7,6 +7,7 @@ ghost use Rattle.frames.specs.Frames.{on_wire};
 ghost use Rattle.state.specs.Sizes.{reply_room};
 ghost use Rattle.state.specs.WellFormed.{well_formed};
 ghost use Rattle.meter.specs.Outcomes.{answer_of};
+ghost use Rattle.meter.specs.Unheard.{number_of, unheard_by, short_of};
 ghost use Rattle.meter.specs.Character.{symbol, heard, taken, character};
 ghost use Rattle.meter.specs.Events.{silence};
 ghost use Rattle.meter.specs.Deeds.{acts};
@@ -94,6 +95,7 @@ pub enum Writes {
     MonthClosed(Clock),
 }
 
+// Stays: the number is document 01's for C, where 0 to 2 are no refusals; an enum of all of them would be turned back at once.
 // What an event comes to: the answer's number, place and speed; the session's mode, attempts and speed after it; whether the receiver is emptied; what is
 // said, with the closed periods where it is long, and what is written.
 #[derive(Clone, Copy)]
@@ -124,6 +126,64 @@ pub struct Acted {
     pub account: [u8; 10],
     pub clock: Clock,
     pub writes: Writes,
+}
+
+// Why an event changes nothing.
+#[derive(Clone, Copy)]
+pub enum Unheard {
+    // An edition that there is none of: 16.
+    NoEdition,
+    // A reply buffer without room: 12.
+    NoRoom,
+    // A pulse that the family doesn't count: 13.
+    BadPulse,
+    // No event: 99.
+    NoEvent,
+    // A state that is not well-formed: 14.
+    BadState,
+}
+
+impl Unheard {
+    // Document 01's number.
+    #[tactic(auto, unfolding(crate::specs::Unheard::number_of))]
+    fn number(self) -> u8
+        ensures { result ≡ number_of self }
+    {
+        match self {
+            Unheard::NoEdition => 16,
+            Unheard::NoRoom => 12,
+            Unheard::BadPulse => 13,
+            Unheard::NoEvent => 99,
+            Unheard::BadState => 14,
+        }
+    }
+}
+
+// Why a meter doesn't hear an event, if it doesn't: its edition, then what the event is refused for by itself, then its state.
+#[tactic(auto, unfolding(crate::specs::Unheard::unheard_by))]
+fn refused(m: &Meter, own: Option<Unheard>) -> Option<Unheard>
+    ensures { result ≡ unheard_by m.now own }
+{
+    if !values::is_edition(m.registers.facts.edition) {
+        return Some(Unheard::NoEdition);
+    }
+    if own.is_some() {
+        return own;
+    }
+    if !state::is_well_formed(*m) {
+        return Some(Unheard::BadState);
+    }
+    None
+}
+
+// A reply buffer by itself.
+fn short(room: usize) -> Option<Unheard>
+    ensures { result ≡ short_of room }
+{
+    if room < REPLY_ROOM {
+        return Some(Unheard::NoRoom);
+    }
+    None
 }
 
 // A character of a wire byte; a damaged one is taken as 0.
@@ -173,16 +233,10 @@ pub fn receive(m: Meter, b: u8, reply: &mut [u8]) -> Answer
     ensures result { result ≡ answer_of (character m (length reply.old) b) }
     ensures held { reply.new ≡ holding reply.old (on_wire (character m (length reply.old) b).reply) }
 {
-    if !state::has_edition(m) {
-        return answers::unheard_with(16, m);
+    match refused(&m, short(reply.len())) {
+        None => take(m, b, reply),
+        Some(why) => answers::unheard_with(why.number(), m),
     }
-    if reply.len() < REPLY_ROOM {
-        return answers::unheard_with(12, m);
-    }
-    if state::is_well_formed(m) {
-        return take(m, b, reply);
-    }
-    answers::unheard_with(14, m)
 }
 
 // Eight seconds of silence.
@@ -190,14 +244,8 @@ pub fn hear_nothing(m: Meter, reply: &mut [u8]) -> Answer
     ensures result { result ≡ answer_of (silence m (length reply.old)) }
     ensures held { reply.new ≡ holding reply.old (on_wire (silence m (length reply.old)).reply) }
 {
-    if !state::has_edition(m) {
-        return answers::unheard_with(16, m);
+    match refused(&m, short(reply.len())) {
+        None => after::silence(m, reply),
+        Some(why) => answers::unheard_with(why.number(), m),
     }
-    if reply.len() < REPLY_ROOM {
-        return answers::unheard_with(12, m);
-    }
-    if state::is_well_formed(m) {
-        return after::silence(m, reply);
-    }
-    answers::unheard_with(14, m)
 }

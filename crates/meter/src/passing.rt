@@ -4,20 +4,17 @@ ghost use Rattle.state.specs.WellFormed.{family_of};
 ghost use Rattle.meter.specs.Outcomes.{answer_of};
 ghost use Rattle.meter.specs.Events.{tick, pulse_refused, pulse, power_up};
 
-use crate::{Answer, after, answers};
+use crate::{Answer, Unheard, after, answers};
 use state::Meter;
 
 // One second has passed.
 pub fn pass_second(m: Meter) -> Answer
     ensures { result ≡ answer_of (tick m) }
 {
-    if !state::has_edition(m) {
-        return answers::unheard_with(16, m);
+    match crate::refused(&m, None) {
+        None => after::tick(m),
+        Some(why) => answers::unheard_with(why.number(), m),
     }
-    if state::is_well_formed(m) {
-        return after::tick(m);
-    }
-    answers::unheard_with(14, m)
 }
 
 // The family that a meter is of.
@@ -38,27 +35,19 @@ pub fn refuses_pulse(family: u8, out: bool, units: u32) -> bool
 pub fn take_pulse(m: Meter, out: bool, units: u32) -> Answer
     ensures { result ≡ answer_of (pulse m out units) }
 {
-    if !state::has_edition(m) {
-        return answers::unheard_with(16, m);
+    let own = refuses_pulse(family_of(m), out, units).then_some(Unheard::BadPulse);
+    match crate::refused(&m, own) {
+        None => after::pulse(m, out, units),
+        Some(why) => answers::unheard_with(why.number(), m),
     }
-    if refuses_pulse(family_of(m), out, units) {
-        return answers::unheard_with(13, m);
-    }
-    if state::is_well_formed(m) {
-        return after::pulse(m, out, units);
-    }
-    answers::unheard_with(14, m)
 }
 
 // Power has come back.
 pub fn power_up(m: Meter) -> Answer
     ensures { result ≡ answer_of (power_up m) }
 {
-    if !state::has_edition(m) {
-        return answers::unheard_with(16, m);
+    match crate::refused(&m, None) {
+        None => after::power_up(m),
+        Some(why) => answers::unheard_with(why.number(), m),
     }
-    if state::is_well_formed(m) {
-        return after::power_up(m);
-    }
-    answers::unheard_with(14, m)
 }

@@ -177,6 +177,8 @@ fn part_unused(held: &[u8; HELD_PLACES as usize], count: u8) -> bool
 }
 
 // Whether 64 characters are within 0 to 127, and 0 in each word behind that of the count. Both are gathered four at a time.
+// Stays: tried with `&[u8; 64]` in place of a length that is asked for, here and in the two like it; what is known of a lent array bounds none of its
+// characters by its place (`(k : ℕ) → get_or s k 0 < 256`), and the law of four needs that.
 fn words_held(held: &[u8], count: u8) -> bool
     requires { (length held.now ≡ held_places) × (count ≤ most_held) }
     ensures { result ≡ (every (between 0 127) held.now && every (between 0 0) (drop (count - count % 4 + 4) held.now)) }

@@ -1,41 +1,38 @@
--- `meter::receive` meets its contract: each way out is the case of the definition that its tests name. Assumes nothing.
-use mathlib.Core.Path.{sym, ◌∙◌}
-use native.Mathlib.Omega.{arith}
+-- `meter::receive` meets its contract: heard, or the number of why not. Assumes nothing.
+use Rattle.std.proofs.Common.{◌≡◌, ◌≤◌, ltb, length, None, ap, ◌∙◌, arith, ltb-false}
 use Rattle.text.specs.Writing.{holding}
-use Rattle.meter.specs.Character.{character}
-use borrow.Author.Tests.{not-true, not-false, lt-ltb, le-ltb}
-use borrow.Author.Rules.{rules}
+use Rattle.frames.specs.Frames.{on_wire}
+use Rattle.state.specs.Sizes.{reply_room}
+use Rattle.meter.specs.declared.Unheard.TheVariants.{NoRoom}
+use Rattle.meter.specs.Outcomes.{Outcome, answer_of}
+use Rattle.meter.specs.Unheard.{number_of, unheard_by, short_of}
+use Rattle.meter.specs.Character.{taken, character}
+use Rattle.meter.proofs.Heard.{heard, lost, fit}
 use Rattle.meter.proofs.receive.Goals as goal
 
-pub returns-then-not-has_edition : goal.returns-then-not-has_edition
-unfolding character holding
-returns-then-not-has_edition c =
-    let none = c.if-not-has_edition.true in
-    record { result = rw (← c.has_edition.ensures, none, c.unheard_with.ensures); held = rw (← c.has_edition.ensures, none) }
-
-pub returns-then-reply-lt-REPLY_ROOM : goal.returns-then-reply-lt-REPLY_ROOM
-unfolding character holding
-returns-then-reply-lt-REPLY_ROOM c =
-    let is = c.if-not-has_edition.false in
-    let short = lt-ltb _ _ c.if-reply-lt-REPLY_ROOM.true in
-    record { result = rw (← c.has_edition.ensures, is, short, c.unheard_with-then-reply-lt-REPLY_ROOM.ensures); held = rw (← c.has_edition.ensures, is, short) }
-
 pub take-requires : goal.take-requires
-take-requires c = (sym c.is_well_formed.ensures ∙ c.if-is_well_formed.true, omega arith)
+take-requires c =
+    let room = length c.args.reply.now in
+    let h : None ≡ unheard_by c.args.m (short_of room) = rw c.short.ensures at c.in-None.ensures in
+    let known = fit c.args.m (ltb room reply_room) NoRoom (taken c.args.m c.args.b) h in
+    let long : reply_room ≤ room = ltb-false room reply_room known.1 in
+    (known.0, long)
 
-pub returns-then-is_well_formed : goal.returns-then-is_well_formed
-unfolding character holding
-returns-then-is_well_formed c =
-    let is = c.if-not-has_edition.false in
-    let long = le-ltb _ _ c.if-reply-lt-REPLY_ROOM.false in
-    let good = c.if-is_well_formed.true in
-    let done = c.take.ensures in
-    record { result = rw (← c.has_edition.ensures, is, long, ← c.is_well_formed.ensures, good, done.result); held = rw (← c.has_edition.ensures, is, long, ← c.is_well_formed.ensures, good) done.held }
+pub returns-in-None : goal.returns-in-None
+unfolding character number_of
+returns-in-None c =
+    let m = c.args.m in
+    let room = length c.args.reply.now in
+    let h : None ≡ unheard_by m (short_of room) = rw c.short.ensures at c.in-None.ensures in
+    let all = heard m (ltb room reply_room) NoRoom (taken m c.args.b) h in
+    let said = c.take.ensures in
+    record { result = said.result ∙ ap answer_of all; held = said.held ∙ ap (λ (o : Outcome). holding c.args.reply.now (on_wire o.reply)) all }
 
-pub returns : goal.returns
-unfolding character holding
-returns c =
-    let is = c.if-not-has_edition.false in
-    let long = le-ltb _ _ c.if-reply-lt-REPLY_ROOM.false in
-    let bad = c.if-is_well_formed.false in
-    record { result = rw (← c.has_edition.ensures, is, long, ← c.is_well_formed.ensures, bad, c.unheard_with-2.ensures); held = rw (← c.has_edition.ensures, is, long, ← c.is_well_formed.ensures, bad) }
+pub returns-in-Some : goal.returns-in-Some
+unfolding character number_of holding
+returns-in-Some c =
+    let m = c.args.m in
+    let room = length c.args.reply.now in
+    let h = rw c.short.ensures at c.in-Some.ensures in
+    let all = lost m (ltb room reply_room) NoRoom (taken m c.args.b) c.in-Some.why h in
+    record { result = rw (c.unheard_with.ensures, c.number.ensures) (ap answer_of all); held = ap (λ (o : Outcome). holding c.args.reply.now (on_wire o.reply)) all }

@@ -3,4 +3,4 @@ use borrow.Author.Rules.{rules}
 use Rattle.meter.proofs.deeds.refuse.Goals as goal
 
 pub returns : goal.returns
-returns c = rw (c.stay.ensures, c.speed_in.ensures, c.fall-mode.ensures)
+returns c = rw (c.stay.ensures, c.speed_in.ensures, c.fall-mode.ensures, c.number.ensures)

@@ -1,23 +1,20 @@
--- `meter::passing::pass_second` meets its contract: each way out is the case of the definition that its tests name. Assumes nothing.
-use Rattle.meter.specs.Events.{tick}
-use mathlib.Core.Path.{sym, ◌∙◌}
-use borrow.Author.Tests.{not-true, not-false}
-use borrow.Author.Rules.{rules}
+-- `meter::passing::pass_second` meets its contract: heard, or the number of why not. Assumes nothing.
+use Rattle.std.proofs.Common.{false, ap, ◌∙◌}
+use Rattle.meter.specs.declared.Unheard.TheVariants.{NoRoom}
+use Rattle.meter.specs.Outcomes.{answer_of}
+use Rattle.meter.specs.Unheard.{number_of}
+use Rattle.meter.specs.Events.{after_tick, tick}
+use Rattle.meter.proofs.Heard.{heard, lost, fit}
 use Rattle.meter.proofs.passing.pass_second.Goals as goal
 
-pub returns-then-not-has_edition : goal.returns-then-not-has_edition
-unfolding tick
-returns-then-not-has_edition c = rw (← c.has_edition.ensures, c.if-not-has_edition.true, c.unheard_with.ensures)
-
 pub tick-requires : goal.tick-requires
-tick-requires c = sym c.is_well_formed.ensures ∙ c.if-is_well_formed.true
+tick-requires c = (fit c.args.m false NoRoom (after_tick c.args.m) c.in-None.ensures).0
 
-pub returns-then-is_well_formed : goal.returns-then-is_well_formed
+pub returns-in-None : goal.returns-in-None
 unfolding tick
-returns-then-is_well_formed c =
-    rw (← c.has_edition.ensures, c.if-not-has_edition.false, ← c.is_well_formed.ensures, c.if-is_well_formed.true, c.tick.ensures)
+returns-in-None c = c.tick.ensures ∙ ap answer_of (heard c.args.m false NoRoom (after_tick c.args.m) c.in-None.ensures)
 
-pub returns : goal.returns
+pub returns-in-Some : goal.returns-in-Some
 unfolding tick
-returns c =
-    rw (← c.has_edition.ensures, c.if-not-has_edition.false, ← c.is_well_formed.ensures, c.if-is_well_formed.false, c.unheard_with-2.ensures)
+returns-in-Some c =
+    rw (c.unheard_with.ensures, c.number.ensures) (ap answer_of (lost c.args.m false NoRoom (after_tick c.args.m) c.in-Some.why c.in-Some.ensures))

@@ -1,19 +1,17 @@
--- `meter::passing::power_up` meets its contract: each way out is the case of the definition that its tests name. Assumes nothing.
-use Rattle.meter.specs.Events.{power_up}
-use borrow.Author.Tests.{not-true, not-false}
-use borrow.Author.Rules.{rules}
+-- `meter::passing::power_up` meets its contract: heard, or the number of why not. Assumes nothing.
+use Rattle.std.proofs.Common.{false, ap, ◌∙◌}
+use Rattle.meter.specs.declared.Unheard.TheVariants.{NoRoom}
+use Rattle.meter.specs.Outcomes.{answer_of}
+use Rattle.meter.specs.Unheard.{number_of}
+use Rattle.meter.specs.Events.{after_power_up, power_up}
+use Rattle.meter.proofs.Heard.{heard, lost, fit}
 use Rattle.meter.proofs.passing.power_up.Goals as goal
 
-pub returns-then-not-has_edition : goal.returns-then-not-has_edition
+pub returns-in-None : goal.returns-in-None
 unfolding power_up
-returns-then-not-has_edition c = rw (← c.has_edition.ensures, c.if-not-has_edition.true, c.unheard_with.ensures)
+returns-in-None c = c.power_up.ensures ∙ ap answer_of (heard c.args.m false NoRoom (after_power_up c.args.m) c.in-None.ensures)
 
-pub returns-then-is_well_formed : goal.returns-then-is_well_formed
+pub returns-in-Some : goal.returns-in-Some
 unfolding power_up
-returns-then-is_well_formed c =
-    rw (← c.has_edition.ensures, c.if-not-has_edition.false, ← c.is_well_formed.ensures, c.if-is_well_formed.true, c.power_up.ensures)
-
-pub returns : goal.returns
-unfolding power_up
-returns c =
-    rw (← c.has_edition.ensures, c.if-not-has_edition.false, ← c.is_well_formed.ensures, c.if-is_well_formed.false, c.unheard_with-2.ensures)
+returns-in-Some c =
+    rw (c.unheard_with.ensures, c.number.ensures) (ap answer_of (lost c.args.m false NoRoom (after_power_up c.args.m) c.in-Some.why c.in-Some.ensures))

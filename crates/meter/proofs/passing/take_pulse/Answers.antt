@@ -1,33 +1,40 @@
--- `meter::passing::take_pulse` meets its contract: each way out is the case of the definition that its tests name. Assumes nothing.
-use mathlib.Core.Path.{sym, ◌∙◌}
-use Rattle.meter.specs.Events.{pulse}
-use borrow.Author.Tests.{not-true, not-false}
+-- `meter::passing::take_pulse` meets its contract: heard, or the number of why not. Assumes nothing.
+use Rattle.std.proofs.Common.{◌≡◌, Bool, true, false, cond, Option, Some, None, refl, ap, ◌∙◌}
+use Rattle.std.specs.Bool.{then_some}
+use Rattle.state.specs.WellFormed.{family_of}
+use Rattle.meter.specs.declared.Unheard.{Unheard}
+use Rattle.meter.specs.declared.Unheard.TheVariants.{BadPulse}
+use Rattle.meter.specs.Outcomes.{answer_of}
+use Rattle.meter.specs.Unheard.{number_of, unheard_by}
+use Rattle.meter.specs.Events.{pulse_refused, after_pulse, pulse}
 use Rattle.meter.proofs.Tests.{few-units}
-use borrow.Author.Rules.{rules}
+use Rattle.meter.proofs.Heard.{heard, lost, fit}
 use Rattle.meter.proofs.passing.take_pulse.Goals as goal
 
-pub returns-then-not-has_edition : goal.returns-then-not-has_edition
-unfolding pulse
-returns-then-not-has_edition c = rw (← c.has_edition.ensures, c.if-not-has_edition.true, c.unheard_with.ensures)
-
-pub returns-then-refuses_pulse : goal.returns-then-refuses_pulse
-unfolding pulse
-returns-then-refuses_pulse c =
-    let refused = rw c.family_of.ensures at c.refuses_pulse.ensures in
-    rw (← c.has_edition.ensures, c.if-not-has_edition.false, ← refused, c.if-refuses_pulse.true, c.unheard_with-then-refuses_pulse.ensures)
+either : (b : Bool) (w : Unheard) → then_some b w ≡ cond b (Some w) None
+either true w = refl
+either false w = refl
 
 pub pulse-requires : goal.pulse-requires
 pulse-requires c =
-    (sym c.is_well_formed.ensures ∙ c.if-is_well_formed.true, few-units _ c.args.out c.args.units (sym c.refuses_pulse.ensures ∙ c.if-refuses_pulse.false))
+    let a = c.args in
+    let test = pulse_refused (family_of a.m) a.out a.units in
+    let h = rw (c.then_some-own.ensures, c.refuses_pulse.ensures, c.family_of.ensures, either test BadPulse) at c.in-None.ensures in
+    let known = fit a.m test BadPulse (after_pulse a.m a.out a.units) h in
+    (known.0, few-units _ a.out a.units known.1)
 
-pub returns-then-is_well_formed : goal.returns-then-is_well_formed
-unfolding pulse
-returns-then-is_well_formed c =
-    let refused = rw c.family_of.ensures at c.refuses_pulse.ensures in
-    rw (← c.has_edition.ensures, c.if-not-has_edition.false, ← refused, c.if-refuses_pulse.false, ← c.is_well_formed.ensures, c.if-is_well_formed.true, c.pulse.ensures)
+pub returns-in-None : goal.returns-in-None
+unfolding pulse number_of
+returns-in-None c =
+    let a = c.args in
+    let test = pulse_refused (family_of a.m) a.out a.units in
+    let h = rw (c.then_some-own.ensures, c.refuses_pulse.ensures, c.family_of.ensures, either test BadPulse) at c.in-None.ensures in
+    c.pulse.ensures ∙ ap answer_of (heard a.m test BadPulse (after_pulse a.m a.out a.units) h)
 
-pub returns : goal.returns
-unfolding pulse
-returns c =
-    let refused = rw c.family_of.ensures at c.refuses_pulse.ensures in
-    rw (← c.has_edition.ensures, c.if-not-has_edition.false, ← refused, c.if-refuses_pulse.false, ← c.is_well_formed.ensures, c.if-is_well_formed.false, c.unheard_with-2.ensures)
+pub returns-in-Some : goal.returns-in-Some
+unfolding pulse number_of
+returns-in-Some c =
+    let a = c.args in
+    let test = pulse_refused (family_of a.m) a.out a.units in
+    let h = rw (c.then_some-own.ensures, c.refuses_pulse.ensures, c.family_of.ensures, either test BadPulse) at c.in-Some.ensures in
+    rw (c.unheard_with.ensures, c.number.ensures) (ap answer_of (lost a.m test BadPulse (after_pulse a.m a.out a.units) c.in-Some.why h))
