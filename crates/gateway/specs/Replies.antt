@@ -1,6 +1,6 @@
 -- What a refused slice answers.
 use Rattle.storing.specs.declared.Reply.{Reply}
-use Rattle.whole.specs.declared.Looked.{Looked}
+use Rattle.whole.specs.Looking.{Looked}
 
 -- a number and a speed, and no reply
 abbrev pub refused_reply : Looked → Reply

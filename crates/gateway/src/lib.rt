@@ -2,41 +2,28 @@
 // the test of the state goes on having one caller. A record is too long to be handed on, so these functions pass values on, and store what is small.
 #![tactic(auto)]
 
-ghost use Rattle.std.specs.Prelude.{◌≡◌, not, eqb, length};
+ghost use Rattle.std.specs.Prelude.{◌≡◌, length};
 ghost use Rattle.text.specs.Writing.{holding};
 ghost use Rattle.frames.specs.Frames.{on_wire};
 ghost use Rattle.whole.specs.Whole.{frame_at};
+ghost use Rattle.whole.specs.Looking.{number_of, speed_of, refuses};
 ghost use Rattle.storing.specs.Replies.{reply_of};
 ghost use Rattle.gateway.specs.Replies.{refused_reply};
 
 use state::Meter;
 use storing::Reply;
-use whole::Looked;
+use whole::Refusal;
 
-// Whether a look at a slice refuses it.
-fn is_refused(l: Looked) -> bool
-    ensures { result ≡ not (eqb l.number 0) }
-{
-    l.number != 0
-}
-
-// What it refuses has no reply.
-fn refused(l: Looked) -> Reply
-    ensures { result ≡ refused_reply l }
+// What is refused has no reply.
+fn refused(e: Refusal) -> Reply
+    ensures { result ≡ refused_reply (refuses (number_of e) (speed_of e)) }
 {
     Reply {
-        number: l.number,
+        number: e.number(),
         length: 0,
-        speed: l.speed,
+        speed: e.speed(),
         place: 0,
     }
-}
-
-// The last byte, as an event has it.
-fn last_of(l: Looked) -> u32
-    ensures { result ≡ l.last }
-{
-    l.last as u32
 }
 
 // A frame that comes whole; the record becomes the next state. What is refused stores nothing; else the receiver is filled where it lies, and the last byte acted on.
@@ -55,11 +42,13 @@ pub fn frame_in_place(m: &mut Meter, frame: &[u8], reply: &mut [u8]) -> Reply
         frame,
         reply.len(),
     );
-    if is_refused(looked) {
-        return refused(looked);
+    match looked {
+        Ok(gathered) => {
+            m.receiver = gathered.receiver;
+            storing::act_in_place(m, 0, gathered.last as u32, reply)
+        }
+        Err(refusal) => refused(refusal),
     }
-    m.receiver = looked.receiver;
-    storing::act_in_place(m, 0, last_of(looked), reply)
 }
 
 // The same for C: the answer's number, with the reply's length, its speed and the place where the caller asks for them.

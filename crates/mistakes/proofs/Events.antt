@@ -43,8 +43,7 @@ use Rattle.meter.specs.Events.{after_silence, silence, tick, pulse_refused, puls
 use Rattle.meter.specs.declared.Event.{Event}
 use Rattle.meter.specs.declared.Event.TheVariants.{Character, Silence, Tick, Pulse, PowerUp, PulseOut, Unknown}
 use Rattle.meter.specs.Life.{event_of, met, refusal, happened}
-use Rattle.settling.specs.declared.Heard.{Heard}
-use Rattle.settling.specs.Settling.{heard_as, heard_by, ticked_by, heard_of, settles_by, clock_after, counters_after, exported_after}
+use Rattle.settling.specs.Settling.{Heard, heard_as, heard_by, ticked_by, heard_of, settles_by, clock_after, counters_after, exported_after}
 use Rattle.keeping.specs.declared.Shown.{Shown}
 use Rattle.keeping.specs.Shown.{checked_as, shown_as}
 use Rattle.storing.specs.declared.Reply.{Reply}
@@ -109,6 +108,7 @@ events = (
     stores-no-second = seen (λ (m : Meter). m.registers.clock.time.second) refl;
     stores-in-as-out = seen (λ (m : Meter). m.registers.counters.total) refl;
     says-16-after-12 = seen (λ (h : Heard). h.number) refl;
+    refusal_number = (number refl, number refl);
   },
   record {
     meet_in_place = (seen (λ (r : Reply). r.length) refl, seen (λ (m : Meter). m.receiver.count) refl);

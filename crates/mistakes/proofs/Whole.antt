@@ -35,12 +35,11 @@ use Rattle.meter.specs.Acting.{tried, acted}
 use Rattle.meter.specs.SignOn.{confirms, wants_block, wants_program}
 use Rattle.meter.specs.Character.{symbol, line_ended, confirmed, heard, taken, character}
 use Rattle.whole.specs.Whole.{ends, finishes_at, at_the_last, awaits, frame_taken, frame_at}
-use Rattle.whole.specs.declared.Looked.{Looked}
 use Rattle.whole.specs.Gathering.{is, held_next, held_after, held_at_last, held_over, held_in as held_before}
-use Rattle.whole.specs.Looking.{gathered, looked_by}
+use Rattle.whole.specs.Looking.{Looked, gathered, looked_by}
 use Rattle.mistakes.specs.Samples.{serial, account, password, new_meter, held_in}
 use Rattle.mistakes.specs.Whole.{awaiting, slice, held_slice, Whole}
-use Rattle.mistakes.proofs.Differing.{seen}
+use Rattle.mistakes.proofs.Differing.{seen, number}
 
 pub frames : Whole
 unfolding ones damaged_at seven sent bcc_of every stored holding between is_digit is_letter is_printable matching same_text decimal value_from value_of number_at layout_text pattern agrees fits leap thirty days_in real_date real_time real_clock good_digits is_account_character good_account good_row good_table table_text table_read closed bracketed sign_on limit first_good held_good mark_good hurt_good receiver_good tables_good link_good is_family facts_good registers_good well_formed hearing listening confirming framing start_good bare_shape content framed_shape enclosed inner table_told told_by entry bare_verdict framed_verdict shape_verdict verdict is_wired rest_speed refused_reply after_refusal tried acted calls optical_call wired_call identified slow_too symbol line_ended confirmed heard taken character serial account password new_meter held_in below zones_below counter_end export_end both_below sum_of total factory_good confirms wants_block wants_program confirmation speed_said speed_good ends finishes_at at_the_last awaits frame_taken frame_at awaiting slice held_slice no_time unused period_good every_period archive_good closes is_edition tables_of new_rows is held_next held_after held_at_last held_over held_before gathered looked_by
@@ -51,4 +50,6 @@ frames =
       takes-the-bcc-for-the-end = seen (λ (a : Answer). a.number) refl;
       receive-frame-held = (seen (λ (a : Answer). a.next.receiver.count) refl, seen (λ (a : Answer). a.number) refl);
       look = (seen (λ (l : Looked). l.speed) refl, seen (λ (l : Looked). l.receiver.count) refl);
+      refusal_number = (number refl, number refl);
+      refusal_speed = (number refl, number refl);
     }

@@ -20,8 +20,8 @@ use Rattle.meter.specs.Events.{silence, tick, pulse_refused, pulse, power_up}
 use Rattle.meter.specs.declared.Event.TheVariants.{Character, Silence, Tick, Pulse, Unknown}
 use Rattle.meter.specs.Life.{event_of, met, refusal, happened}
 use Rattle.receiving.specs.declared.Holding.TheVariants.{Anew}
-use Rattle.settling.specs.declared.Change.TheVariants.{Time, In}
-use Rattle.settling.specs.Settling.{seen_in, standing, goes_on, refuses, moves_on, settles, settled_in}
+use Rattle.settling.specs.declared.Refusal.TheVariants.{NoEdition, Malformed}
+use Rattle.settling.specs.Settling.{number_of, Time, In, seen_in, standing, goes_on, refuses, moves_on, settles, settled_in}
 use Rattle.keeping.specs.Shown.{checked_as, shown_as}
 use Rattle.storing.specs.Replies.{reply_of}
 use Rattle.mistakes.specs.RuledOut.{RuledOut}
@@ -212,6 +212,8 @@ pub record Settling : Type 0 where
   pub stores-in-as-out : RuledOut (settled_in new_meter (moves_on (seen_in new_meter) In one_unit)) (with_registers new_meter (with_exported new_meter.registers one_unit))
   -- 12 for an edition that there is not
   pub says-16-after-12 : RuledOut (settles no_edition 2047 (Character 47)) (refuses (seen_in no_edition) 12)
+  -- 14 for an edition that there is not; 16 for a malformed state
+  pub refusal_number : RuledOut (number_of NoEdition) 14 × RuledOut (number_of Malformed) 16
 
 -- of `firmware`
 pub record Lent : Type 0 where

@@ -6,7 +6,8 @@ use Rattle.state.specs.Making.{empty_receiver}
 use Rattle.state.specs.Setting.{in_mode, with_speed}
 use Rattle.meter.specs.Outcomes.{Outcome, answer_of, silent, ack}
 use Rattle.whole.specs.Whole.{no_frame, frame_at}
-use Rattle.whole.specs.Looking.{refuses, finishes, looked}
+use Rattle.whole.specs.declared.Refusal.TheVariants.{ShortBuffer, Malformed, NoFrame}
+use Rattle.whole.specs.Looking.{number_of, speed_of, refuses, finishes, looked}
 use Rattle.mistakes.specs.RuledOut.{RuledOut}
 use Rattle.mistakes.specs.Samples.{new_meter, held_in}
 
@@ -41,3 +42,7 @@ pub record Whole : Type 0 where
       × RuledOut (answer_of held_slice) (answer_of (ack 0 (in_mode new_meter 0)))
   -- 17 at speed 0; the last byte to be taken upon an empty receiver
   pub look : RuledOut (looked awaiting reply_room []) (refuses 17 0) × RuledOut (looked awaiting reply_room good_bye) (finishes empty_receiver 113)
+  -- 14 for a short buffer; 14 for a slice that is no frame
+  pub refusal_number : RuledOut (number_of ShortBuffer) 14 × RuledOut (number_of (NoFrame 5)) 14
+  -- the state's speed not said with 17; a speed said with 14
+  pub refusal_speed : RuledOut (speed_of (NoFrame 5)) 0 × RuledOut (speed_of Malformed) 5

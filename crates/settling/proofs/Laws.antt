@@ -1,11 +1,12 @@
 -- What is settled is all that the event does; what is left meets a well-formed meter, nothing else refuses it, and it comes of its deed. Assumes nothing.
 use mathlib.Core.Path.{◌≡◌, refl, ◌∙◌}
 use mathlib.Core.Bool.{Bool, true, false, cond}
+use Rattle.std.specs.Prelude.{MatchOption}
 use mathlib.Core.List.{List}
 use Prim.Native.Nat.{ℕ, ◌≤◌}
 use native.Mathlib.Omega.{arith}
 use lib.Dec.{eqb}
-use borrow.Author.Tests.{eqb-true}
+use borrow.Author.Tests.{eqb-true, eq-eqb}
 use Rattle.line.specs.Characters.{damaged_at}
 use Rattle.values.specs.Edition.{is_edition}
 use Rattle.clock.specs.declared.Clock.{Clock}
@@ -31,10 +32,9 @@ use Rattle.meter.specs.Life.{met, refusal, happened}
 use Rattle.meter.proofs.Tests.{met-in-order, pulse-small, pulse-out-small}
 use Rattle.meter.proofs.Done.{heard-done, silence-done, start-done, month-done}
 use Rattle.settling.specs.declared.Seen.{Seen}
-use Rattle.settling.specs.declared.Change.TheVariants.{Time}
-use Rattle.settling.specs.declared.Heard.{Heard}
+use Rattle.settling.specs.declared.Energy.{Energy}
 use Rattle.settling.specs.Acting.{deed_of}
-use Rattle.settling.specs.Settling.{seen_in, ends, refuses, moves_on, heard_as, heard_by, ticked_by, pulsed_by, told_by, heard_of, settles_by, settles, clock_after, counters_after, exported_after, settled_meter, settled_in, settled_outcome, Countable}
+use Rattle.settling.specs.Settling.{Time, Heard, seen_in, ends, refuses, moves_on, heard_as, heard_by, ticked_by, pulsed_by, pulse_of, heard_of, settles_by, settles, clock_after, counters_after, exported_after, settled_meter, settled_in, settled_outcome, Countable, Passes}
 
 heard-settled : (m : Meter) (c : ℕ) (damaged : Bool) (h : Hearing) → (heard_as (seen_in m) c damaged h).settled ≡ true → heard m c damaged h ≡ settled_outcome m (heard_as (seen_in m) c damaged h)
 unfolding heard_as heard held_after clock_after counters_after exported_after
@@ -81,16 +81,21 @@ event-settled m (PulseOut units) s = pulse-settled m true units
 event-settled m Unknown s = absurd (let z : ◌≡◌ {A = ℕ} 0 1 = cc in omega arith)
 
 -- a pulse is heard as what it says, and is small where nothing refuses it
-pub pulse-told : (s : Seen) (held tables : List ℕ) (family room : ℕ) (e : Event) → (told_by e).pulse ≡ true → refusal family room e ≡ 0
-    → (pulsed_by s tables (told_by e).out (told_by e).units ≡ heard_of s held tables e) × ((told_by e).units ≤ 1000000)
-unfolding told_by heard_of
-pulse-told s held tables family room (Character b) t h = absurd (let z : ◌≡◌ {A = ℕ} 0 1 = cc in omega arith)
-pulse-told s held tables family room Silence t h = absurd (let z : ◌≡◌ {A = ℕ} 0 1 = cc in omega arith)
-pulse-told s held tables family room Tick t h = absurd (let z : ◌≡◌ {A = ℕ} 0 1 = cc in omega arith)
-pulse-told s held tables family room (Pulse units) t h = (refl, pulse-small family room (Pulse units) units refl h)
-pulse-told s held tables family room PowerUp t h = absurd (let z : ◌≡◌ {A = ℕ} 0 1 = cc in omega arith)
-pulse-told s held tables family room (PulseOut units) t h = (refl, pulse-out-small family room (PulseOut units) units refl h)
-pulse-told s held tables family room Unknown t h = absurd (let z : ◌≡◌ {A = ℕ} 0 1 = cc in omega arith)
+pub pulse-told : (s : Seen) (held tables : List ℕ) (family room : ℕ) (e : Event) → refusal family room e ≡ 0
+    → MatchOption (pulse_of e) (Unit {0}) (λ (p : Energy). (pulsed_by s tables p.out p.units ≡ heard_of s held tables e) × (p.units ≤ 1000000))
+unfolding pulse_of heard_of
+pulse-told s held tables family room (Character b) h = tt
+pulse-told s held tables family room Silence h = tt
+pulse-told s held tables family room Tick h = tt
+pulse-told s held tables family room (Pulse units) h = (refl, pulse-small family room (Pulse units) units refl h)
+pulse-told s held tables family room PowerUp h = tt
+pulse-told s held tables family room (PulseOut units) h = (refl, pulse-out-small family room (PulseOut units) units refl h)
+pulse-told s held tables family room Unknown h = tt
+
+-- an event that passes is heard
+pub passed : (s : Seen) (formed : Bool) (held tables : List ℕ) (room : ℕ) (e : Event) → Passes s formed room e → settles_by s formed held tables room e ≡ heard_of s held tables e
+unfolding settles_by
+passed s formed held tables room e p = rw (p.edition, eq-eqb (refusal s.family room e) 0 p.unrefused, p.well)
 
 -- a well-formed meter's pulse can be counted
 pub countable : (m : Meter) → well_formed m ≡ true → Countable (seen_in m)
@@ -169,6 +174,15 @@ settled-apart m room e = go (is_edition (edition_of m)) (refusal (family_of m) r
     go true n true true h f = f
     go true n true false h f = refl
     go true n false q h f = same (eqb n 1)
+
+-- nothing of what is refused is stored
+pub refused-stands : (m : Meter) (n : ℕ) → m ≡ settled_in m (refuses (seen_in m) n)
+unfolding held_after clock_after counters_after exported_after
+refused-stands m n = go (eqb n 1)
+  where
+    go : (b : Bool) → m ≡ cond b m m
+    go true = refl
+    go false = refl
 
 -- what the meter has to act on
 pub record Left (m : Meter) (room : ℕ) (e : Event) : Type 0 where

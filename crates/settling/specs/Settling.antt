@@ -1,5 +1,5 @@
 -- What an event does that has no reply and changes little: the receiver, the clock or the counters, and nothing else of the meter.
-use Rattle.std.specs.Prelude.{◌≡◌, Bool, true, false, cond, List, [], ℕ, ◌+◌, ◌-◌, ◌≤◌, eqb, get_or}
+use Rattle.std.specs.Prelude.{◌≡◌, Bool, true, false, cond, List, [], ℕ, ◌+◌, ◌-◌, ◌≤◌, eqb, get_or, Option, Some, None, Result, Ok, Err}
 use Rattle.line.specs.Characters.{damaged_at}
 use Rattle.values.specs.Edition.{is_edition}
 use Rattle.state.specs.declared.Receiver.{Receiver}
@@ -25,10 +25,33 @@ use Rattle.meter.specs.declared.Event.{Event}
 use Rattle.meter.specs.declared.Event.TheVariants.{Character, Silence, Tick, Pulse, PowerUp, PulseOut, Unknown}
 use Rattle.meter.specs.Life.{refusal}
 use Rattle.settling.specs.declared.Seen.{Seen}
-use Rattle.settling.specs.declared.Change.{Change}
-use Rattle.settling.specs.declared.Change.TheVariants.{Stay, Time, In, Out}
-use Rattle.settling.specs.declared.Heard.{Heard}
-use Rattle.settling.specs.declared.Told.{Told}
+use Rattle.settling.specs.declared.Kept.{Kept}
+use Rattle.settling.specs.declared.Moved.{Moved}
+use Rattle.settling.specs.declared.Moved.TheVariants.{Second, CameIn, WentOut}
+use Rattle.settling.specs.declared.Settled.{Settled}
+use Rattle.settling.specs.declared.Refusal.{Refusal}
+use Rattle.settling.specs.declared.Refusal.TheVariants.{NoEdition, Event as EventRefused, Malformed}
+use Rattle.settling.specs.declared.Energy.{Energy}
+
+-- what becomes of clock and counters: they stay, the clock shows another time, or what came in or went out is counted
+pub data Change : Type 0 where
+  Stay : Change
+  Time : Clock → Change
+  In : Change
+  Out : Change
+
+-- what an event does: where it is settled, the answer's number and speed, the next receiver, and what becomes of clock and counters, with those of the
+-- direction that is counted; otherwise the meter has to act
+pub record Heard : Type 0 where
+  pub settled : Bool
+  pub number : ℕ
+  pub speed : ℕ
+  pub holding : Holding
+  pub count : ℕ
+  pub mark : ℕ
+  pub place : ℕ
+  pub change : Change
+  pub counters : Counters
 
 -- what an event that is settled asks of a meter, besides what the receiver holds and the tables
 abbrev pub seen_in : Meter → Seen
@@ -124,15 +147,15 @@ pulsed_by s tables out units =
     (moves_on s Out (counted (export_end s.family) s.exported (zone_at tables s.edition s.clock) units))
     (moves_on s In (counted (counter_end s.family) s.counters (zone_at tables s.edition s.clock) units))
 
--- whether an event is a pulse, its direction and its units
-unfoldable pub told_by : Event → Told
-told_by (Character b) = record { pulse = false; out = false; units = 0 }
-told_by Silence = record { pulse = false; out = false; units = 0 }
-told_by Tick = record { pulse = false; out = false; units = 0 }
-told_by (Pulse units) = record { pulse = true; out = false; units = units }
-told_by PowerUp = record { pulse = false; out = false; units = 0 }
-told_by (PulseOut units) = record { pulse = true; out = true; units = units }
-told_by Unknown = record { pulse = false; out = false; units = 0 }
+-- the energy that an event says, if it is a pulse
+unfoldable pub pulse_of : Event → Option Energy
+pulse_of (Character b) = None
+pulse_of Silence = None
+pulse_of Tick = None
+pulse_of (Pulse units) = Some (record { out = false; units = units })
+pulse_of PowerUp = None
+pulse_of (PulseOut units) = Some (record { out = true; units = units })
+pulse_of Unknown = None
 
 -- a character may change the receiver alone, a second the clock, a pulse its counters; on all else the meter has to act
 unfoldable pub heard_of : Seen → List ℕ → List ℕ → Event → Heard
@@ -154,6 +177,63 @@ settles_by s formed held tables room e =
 
 abbrev pub settles : Meter → ℕ → Event → Heard
 settles m room e = settles_by (seen_in m) (well_formed m) m.receiver.held m.registers.tables room e
+
+-- a refusal's number
+abbrev pub number_of : Refusal → ℕ
+number_of NoEdition = 16
+number_of (EventRefused number) = number
+number_of Malformed = 14
+
+-- the receiver as it is
+abbrev pub kept_in : Seen → Kept
+kept_in s = record { holding = Same; count = s.count; mark = s.mark; place = s.place }
+
+-- what a settled event says: a second and a pulse are answered with 1
+abbrev pub answered : Option Moved → ℕ
+answered None = 0
+answered (Some x) = 1
+
+abbrev pub change_of : Option Moved → Change
+change_of None = Stay
+change_of (Some (Second next)) = Time next
+change_of (Some (CameIn counters)) = In
+change_of (Some (WentOut counters)) = Out
+
+abbrev pub counters_of : Counters → Option Moved → Counters
+counters_of counters None = counters
+counters_of counters (Some (Second next)) = counters
+counters_of counters (Some (CameIn next)) = next
+counters_of counters (Some (WentOut next)) = next
+
+abbrev pub said : Seen → Settled → Heard
+said s r =
+    record {
+      settled = true;
+      number = answered r.moved;
+      speed = s.speed;
+      holding = r.kept.holding;
+      count = r.kept.count;
+      mark = r.kept.mark;
+      place = r.kept.place;
+      change = change_of r.moved;
+      counters = counters_of s.counters r.moved;
+    }
+
+-- settled, or left to the meter
+abbrev pub heard_or_left : Seen → Option Settled → Heard
+heard_or_left s None = ends s
+heard_or_left s (Some r) = said s r
+
+-- what a look's result says
+abbrev pub told : Seen → Result (Option Settled) Refusal → Heard
+told s (Ok r) = heard_or_left s r
+told s (Err e) = refuses s (number_of e)
+
+-- an event that passes: nothing refuses it
+pub record Passes (s : Seen) (formed : Bool) (room : ℕ) (e : Event) : Type 0 where
+  pub edition : is_edition s.edition ≡ true
+  pub unrefused : refusal s.family room e ≡ 0
+  pub well : formed ≡ true
 
 -- where the state is well-formed, a pulse can be counted
 abbrev pub Countable : Seen → Type 0

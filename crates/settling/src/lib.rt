@@ -2,13 +2,13 @@
 // from what they ask of the state, so that none of it is copied for them but that. On the others the meter acts, with its tables lent on where they lie.
 #![tactic(auto)]
 
-ghost use Rattle.std.specs.Prelude.{◌≡◌, true, false, ◌≤◌, ◌<◌, length};
+ghost use Rattle.std.specs.Prelude.{◌≡◌, ℕ, true, ◌≤◌, ◌<◌, List, length, MatchResult};
 ghost use Rattle.text.specs.Writing.{holding};
 ghost use Rattle.frames.specs.Frames.{on_wire};
 ghost use Rattle.state.specs.WellFormed.{well_formed, family_of};
 ghost use Rattle.meter.specs.Life.{event_of, refusal};
 ghost use Rattle.meter.specs.Deeds.{standing_in, left_deed, said_by};
-ghost use Rattle.settling.specs.Settling.{standing, goes_on, moves_on, heard_as, heard_by, ticked_by, pulsed_by, told_by, heard_of, settles_by, settles, Countable};
+ghost use Rattle.settling.specs.Settling.{number_of, kept_in, said, heard_or_left, told, seen_in, heard_as, heard_by, ticked_by, pulsed_by, pulse_of, heard_of, refuses, settles_by, settles, Countable, Passes};
 ghost use Rattle.settling.specs.Acting.{deed_of, acted_by};
 
 use clock::Clock;
@@ -33,250 +33,185 @@ pub struct Seen {
     pub exported: Counters,
 }
 
-// What becomes of clock and counters: they stay, the clock shows another time, or what came in or went out is counted.
+// The receiver after an event: what becomes of the held characters, how many, and the mark with its place.
 #[derive(Clone, Copy)]
-pub enum Change {
-    Stay,
-    Time(Clock),
-    In,
-    Out,
-}
-
-// What an event does: where it is settled, the answer's number and speed, the next receiver, and what becomes of clock and counters, with those of the
-// direction that is counted; otherwise the meter has to act.
-#[derive(Clone, Copy)]
-pub struct Heard {
-    pub settled: bool,
-    pub number: u8,
-    pub speed: u8,
+pub struct Kept {
     pub holding: Holding,
     pub count: u8,
     pub mark: u8,
     pub place: u8,
-    pub change: Change,
-    pub counters: Counters,
 }
 
-// Whether an event is a pulse, its direction and its units.
+// What a second or a pulse moves: the clock shows another time, or what came in or went out is counted.
 #[derive(Clone, Copy)]
-pub struct Told {
-    pub pulse: bool,
+pub enum Moved {
+    Second(Clock),
+    CameIn(Counters),
+    WentOut(Counters),
+}
+
+// All that a settled event does. The receiver stands apart from what is moved, though where one changes the other doesn't: with both in one enum, a character took longer.
+#[derive(Clone, Copy)]
+pub struct Settled {
+    pub kept: Kept,
+    pub moved: Option<Moved>,
+}
+
+// Why an event is refused with nothing changed: an edition that there is not, what refuses the event whatever the rest of the state, or a malformed state.
+#[derive(Clone, Copy, PartialEq, Eq)]
+pub enum Refusal {
+    NoEdition,
+    Event(u8),
+    Malformed,
+}
+
+impl Refusal {
+    pub fn number(self) -> u8
+        ensures { result ≡ number_of self }
+    {
+        match self {
+            Refusal::NoEdition => 16,
+            Refusal::Event(number) => number,
+            Refusal::Malformed => 14,
+        }
+    }
+}
+
+// The energy that a pulse says: its direction and its units.
+#[derive(Clone, Copy)]
+pub struct Energy {
     pub out: bool,
     pub units: u32,
 }
 
-// All as it is.
-fn stand(s: Seen, settled: bool, number: u8, speed: u8) -> Heard
-    ensures { result ≡ standing s settled number speed }
+// The receiver as it is.
+fn kept_in(s: Seen) -> Kept
+    ensures { result ≡ kept_in s }
 {
-    let counters = s.counters;
-    Heard {
-        settled,
-        number,
-        speed,
+    Kept {
         holding: Holding::Same,
         count: s.count,
         mark: s.mark,
         place: s.place,
-        change: Change::Stay,
-        counters,
     }
 }
 
-// Answer 0, with a receiver that holds this, so many, and this mark with its place.
-fn go_on(s: Seen, holding: Holding, count: u8, mark: u8, place: u8) -> Heard
-    ensures { result ≡ goes_on s holding count mark place }
-{
-    let counters = s.counters;
-    Heard {
-        settled: true,
-        number: 0,
-        speed: s.speed,
-        holding,
-        count,
-        mark,
-        place,
-        change: Change::Stay,
-        counters,
-    }
-}
-
-// Answer 1, and this of clock and counters.
-fn move_on(s: Seen, change: Change, counters: Counters) -> Heard
-    ensures { result ≡ moves_on s change counters }
-{
-    Heard {
-        settled: true,
-        number: 1,
-        speed: s.speed,
-        holding: Holding::Same,
-        count: s.count,
-        mark: s.mark,
-        place: s.place,
-        change,
-        counters,
-    }
-}
-
-// A character that is held.
-fn keep(s: Seen, c: u8, damaged: bool) -> Heard
+// One more is held.
+fn keep(s: Seen, c: u8, damaged: bool) -> Kept
     requires { s.count < 255 }
-    ensures { result ≡ heard_as s c damaged Hearing.Hold }
+    ensures { said s (record { kept = result; moved = None }) ≡ heard_as s c damaged Hearing.Hold }
 {
-    let mark = receiving::mark_after(s.mark, damaged);
-    let place = receiving::hurt_at(s.count, s.mark, s.place, damaged);
-    go_on(s, Holding::More(s.count, c), s.count + 1, mark, place)
+    Kept {
+        holding: Holding::More(s.count, c),
+        count: s.count + 1,
+        mark: receiving::mark_after(s.mark, damaged),
+        place: receiving::hurt_at(s.count, s.mark, s.place, damaged),
+    }
+}
+
+// The first of a line or frame is held; or none, as c is 0.
+fn anew(c: u8, count: u8) -> Kept
+    ensures { result ≡ record { holding = Holding.Anew c; count = count; mark = 0; place = 0 } }
+{
+    Kept {
+        holding: Holding::Anew(c),
+        count,
+        mark: 0,
+        place: 0,
+    }
+}
+
+// The receiver alone changes.
+fn heard(kept: Kept) -> Option<Settled>
+    ensures { result ≡ Some (record { kept = kept; moved = None }) }
+{
+    Some(Settled { kept, moved: None })
 }
 
 // A character, heard by a well-formed meter with room for any reply.
-fn hear(s: Seen, held: &[u8; HELD_PLACES as usize], b: u8) -> Heard
-    ensures { result ≡ heard_by s held.now b }
+fn hear(s: Seen, held: &[u8; HELD_PLACES as usize], b: u8) -> Option<Settled>
+    ensures { heard_or_left s result ≡ heard_by s held.now b }
 {
     let damaged = line::damaged(b);
     let c = meter::symbol_of(b);
     let h = receiving::hear(s.mode, s.count, receiving::last_in(held, s.count), c);
     match h {
-        Hearing::Drop => stand(s, true, 0, s.speed),
-        Hearing::Hold => keep(s, c, damaged),
-        Hearing::Restart => go_on(s, Holding::Anew(c), 1, 0, 0),
-        Hearing::Empty => go_on(s, Holding::Anew(0), 0, 0, 0),
-        Hearing::Line => stand(s, false, 0, 0),
-        Hearing::Confirm => stand(s, false, 0, 0),
-        Hearing::Frame => stand(s, false, 0, 0),
-        Hearing::TooLong => stand(s, false, 0, 0),
+        Hearing::Drop => heard(kept_in(s)),
+        Hearing::Hold => heard(keep(s, c, damaged)),
+        Hearing::Restart => heard(anew(c, 1)),
+        Hearing::Empty => heard(anew(0, 0)),
+        Hearing::Line | Hearing::Confirm | Hearing::Frame | Hearing::TooLong => None,
     }
 }
 
 // A second; the meter has to act where a month starts.
-fn tick(s: Seen) -> Heard
-    ensures { result ≡ ticked_by s }
+fn tick(s: Seen) -> Option<Settled>
+    ensures { heard_or_left s result ≡ ticked_by s }
 {
     let next = clock::next_second(s.clock);
     if tariff::month_starts(next) {
-        return stand(s, false, 0, 0);
+        return None;
     }
-    move_on(s, Change::Time(next), s.counters)
+    Some(Settled {
+        kept: kept_in(s),
+        moved: Some(Moved::Second(next)),
+    })
 }
 
 // A pulse, counted in its direction.
-fn pulse(s: Seen, tables: &[u8; ALL_ROWS], out: bool, units: u32) -> Heard
-    requires { Countable s × (units ≤ 1000000) }
-    ensures { result ≡ pulsed_by s tables.now out units }
+fn pulse(s: Seen, tables: &[u8; ALL_ROWS], p: Energy) -> Moved
+    requires { Countable s × (p.units ≤ 1000000) }
+    ensures { said s (record { kept = kept_in s; moved = Some result }) ≡ pulsed_by s tables.now p.out p.units }
 {
     let zone = tariff::zone_at(tables, s.edition, s.clock);
-    if out {
-        let x = tariff::count(s.exported, zone, units, family::export_end(s.family));
-        return move_on(s, Change::Out, x);
+    if p.out {
+        let end = family::export_end(s.family);
+        return Moved::WentOut(tariff::count(s.exported, zone, p.units, end));
     }
-    let c = tariff::count(s.counters, zone, units, family::counter_end(s.family));
-    move_on(s, Change::In, c)
+    let end = family::counter_end(s.family);
+    Moved::CameIn(tariff::count(s.counters, zone, p.units, end))
 }
 
-fn no_pulse() -> Told
-    ensures { result ≡ told_by Event.Tick }
-{
-    Told {
-        pulse: false,
-        out: false,
-        units: 0,
-    }
-}
-
-fn told_by(e: Event) -> Told
-    ensures { result ≡ told_by e }
+fn pulse_of(e: Event) -> Option<Energy>
+    ensures { result ≡ pulse_of e }
 {
     match e {
-        Event::Character(b) => no_pulse(),
-        Event::Silence => no_pulse(),
-        Event::Tick => no_pulse(),
-        Event::Pulse(units) => Told {
-            pulse: true,
-            out: false,
-            units,
-        },
-        Event::PowerUp => no_pulse(),
-        Event::PulseOut(units) => Told {
-            pulse: true,
-            out: true,
-            units,
-        },
-        Event::Unknown => no_pulse(),
+        Event::Pulse(units) => Some(Energy { out: false, units }),
+        Event::PulseOut(units) => Some(Energy { out: true, units }),
+        _ => None,
     }
 }
 
 // A character or a second, but no pulse; all else is left to the meter.
-fn hear_or_leave<'a>(
-    s: Seen,
-    held: &'a [u8; HELD_PLACES as usize],
-    tables: &'a [u8; ALL_ROWS],
-    e: Event,
-) -> Heard
-    requires { (told_by e).pulse ≡ false }
-    ensures { result ≡ heard_of s held.now tables.now e }
+fn hear_or_leave(s: Seen, held: &[u8; HELD_PLACES as usize], e: Event) -> Option<Settled>
+    requires { pulse_of e ≡ None }
+    ensures { (tables : List ℕ) → heard_or_left s result ≡ heard_of s held.now tables e }
 {
     match e {
         Event::Character(b) => hear(s, held, b),
-        Event::Silence => stand(s, false, 0, 0),
         Event::Tick => tick(s),
-        Event::Pulse(units) => stand(s, false, 0, 0),
-        Event::PowerUp => stand(s, false, 0, 0),
-        Event::PulseOut(units) => stand(s, false, 0, 0),
-        Event::Unknown => stand(s, false, 0, 0),
+        _ => None,
     }
 }
 
-// A pulse, with so much room for a reply. It goes its own way from the first test on: with one way for all events, each took longer.
-fn settle_pulse<'a>(
-    s: Seen,
-    formed: bool,
-    held: &'a [u8; HELD_PLACES as usize],
-    tables: &'a [u8; ALL_ROWS],
-    e: Event,
-    room: usize,
-) -> Heard
-    requires { (formed ≡ true → Countable s) × ((told_by e).pulse ≡ true) }
-    ensures { result ≡ settles_by s formed held.now tables.now room e }
+// Whether an event passes, with so much room for a reply.
+fn pass(s: Seen, formed: bool, e: Event, room: usize) -> Result<(), Refusal>
+    ensures { MatchResult result (λ _. Passes s formed room e) (λ r. (held tables : List ℕ) → settles_by s formed held tables room e ≡ refuses s (number_of r)) }
 {
     if !values::is_edition(s.edition) {
-        return stand(s, true, 16, 0);
+        return Err(Refusal::NoEdition);
     }
     let number = events::refusal_of(e, s.family, room);
     if number != 0 {
-        return stand(s, true, number, 0);
+        return Err(Refusal::Event(number));
     }
     if formed {
-        let told = told_by(e);
-        return pulse(s, tables, told.out, told.units);
+        return Ok(());
     }
-    stand(s, true, 14, 0)
+    Err(Refusal::Malformed)
 }
 
-// Any other event.
-fn settle_other<'a>(
-    s: Seen,
-    formed: bool,
-    held: &'a [u8; HELD_PLACES as usize],
-    tables: &'a [u8; ALL_ROWS],
-    e: Event,
-    room: usize,
-) -> Heard
-    requires { (told_by e).pulse ≡ false }
-    ensures { result ≡ settles_by s formed held.now tables.now room e }
-{
-    if !values::is_edition(s.edition) {
-        return stand(s, true, 16, 0);
-    }
-    let number = events::refusal_of(e, s.family, room);
-    if number != 0 {
-        return stand(s, true, number, 0);
-    }
-    if formed {
-        return hear_or_leave(s, held, tables, e);
-    }
-    stand(s, true, 14, 0)
-}
-
-// An event, told by a number and a value.
+// An event, told by a number and a value. A pulse goes its own way from the first test on: with one way for all events, each took longer.
 fn settle<'a>(
     s: Seen,
     formed: bool,
@@ -285,21 +220,29 @@ fn settle<'a>(
     kind: u8,
     value: u32,
     room: usize,
-) -> Heard
+) -> Result<Option<Settled>, Refusal>
     requires { formed ≡ true → Countable s }
-    ensures { result ≡ settles_by s formed held.now tables.now room (event_of kind value) }
+    ensures { told s result ≡ settles_by s formed held.now tables.now room (event_of kind value) }
 {
     let e = events::event_of(kind, value);
-    let told = told_by(e);
-    if told.pulse {
-        return settle_pulse(s, formed, held, tables, e, room);
+    match pulse_of(e) {
+        Some(p) => {
+            pass(s, formed, e, room)?;
+            Ok(Some(Settled {
+                kept: kept_in(s),
+                moved: Some(pulse(s, tables, p)),
+            }))
+        }
+        None => {
+            pass(s, formed, e, room)?;
+            Ok(hear_or_leave(s, held, e))
+        }
     }
-    settle_other(s, formed, held, tables, e, room)
 }
 
 // The same of a record that is lent.
-pub fn look(m: &Meter, kind: u8, value: u32, room: usize) -> Heard
-    ensures { result ≡ settles m.now room (event_of kind value) }
+pub fn look(m: &Meter, kind: u8, value: u32, room: usize) -> Result<Option<Settled>, Refusal>
+    ensures { told (seen_in m.now) result ≡ settles m.now room (event_of kind value) }
 {
     let formed = lent::is_formed(m);
     let s = Seen {
@@ -333,13 +276,6 @@ fn deed_of(s: Small, kind: u8, value: u32) -> Deed
     deeds::of_small(s, events::event_of(kind, value))
 }
 
-// Whether it says the closed periods.
-fn is_long(d: Deed) -> bool
-    ensures { result ≡ d.long }
-{
-    d.long
-}
-
 // An event that is not settled, by a record that is lent: its reply, and what is to be stored. Tables and archive are lent on.
 pub fn act(m: &Meter, kind: u8, value: u32, reply: &mut [u8]) -> Acted
     requires { (well_formed m.now ≡ true) × (refusal (family_of m.now) (length reply.old) (event_of kind value) ≡ 0) }
@@ -360,7 +296,7 @@ pub fn act(m: &Meter, kind: u8, value: u32, reply: &mut [u8]) -> Acted
         },
     };
     let d = deed_of(s, kind, value);
-    if is_long(d) {
+    if d.long {
         let family = m.registers.facts.decimals;
         let at = acting::start_long(s, &m.registers.tables, reply);
         let end = replies::lent_periods(reply, at, &m.registers.archive, family);

@@ -2,19 +2,18 @@
 // A record is too long to be handed on, so these functions pass values on, and store what is small.
 #![tactic(auto)]
 
-ghost use Rattle.std.specs.Prelude.{◌≡◌, true, not, ◌≤◌, length, drop};
+ghost use Rattle.std.specs.Prelude.{◌≡◌, true, length};
 ghost use Rattle.text.specs.Writing.{holding};
 ghost use Rattle.frames.specs.Frames.{on_wire};
-ghost use Rattle.state.specs.Sizes.{held_places, period_places};
-ghost use Rattle.state.specs.WellFormed.{unused, every_period, family_of, well_formed};
-ghost use Rattle.state.specs.Closing.{period_of, closed_with};
+ghost use Rattle.state.specs.Sizes.{held_places};
+ghost use Rattle.state.specs.WellFormed.{family_of, well_formed};
 ghost use Rattle.meter.specs.Life.{event_of, refusal};
-ghost use Rattle.meter.specs.Deeds.{Writable, tables_after, closes_after, stored_in, done};
+ghost use Rattle.meter.specs.Deeds.{Writable, tables_after, stored_in, done};
 ghost use Rattle.settling.specs.Acting.{deed_of};
 ghost use Rattle.storing.specs.Replies.{reply_to, reply_of};
 
 use meter::{Acted, acting};
-use state::{ALL_ROWS, Archive, Counters, Meter, Receiver};
+use state::{ALL_ROWS, Meter, Receiver, closing};
 
 // What is left of an answer once its next state lies in the record.
 #[derive(Clone, Copy)]
@@ -30,8 +29,7 @@ fn put_row(rows: &mut [u8; ALL_ROWS], r: Receiver, a: Acted) -> Reply
     requires { Writable a.writes × (length r.held ≡ held_places) }
     ensures { (result ≡ reply_to a) × (rows.new ≡ tables_after r.held rows.old a.writes) }
 {
-    let w = a.writes;
-    acting::put_row(rows, r, w);
+    acting::put_row(rows, r, a.writes);
     Reply {
         number: a.number,
         length: a.length,
@@ -40,29 +38,12 @@ fn put_row(rows: &mut [u8; ALL_ROWS], r: Receiver, a: Acted) -> Reply
     }
 }
 
-// Whether a deed closes no period.
-fn keeps(a: Acted) -> bool
-    ensures { result ≡ not (closes_after a.writes) }
-{
-    let w = a.writes;
-    !acting::closes(w)
-}
-
-// The archive with a period closed at the deed's time.
-fn close(archive: Archive, a: Acted, counters: Counters, exported: Counters) -> Archive
-    requires { ((archive.count ≤ period_places) × (length archive.periods ≡ period_places)) × (every_period unused (drop archive.count archive.periods) ≡ true) }
-    ensures { result ≡ closed_with (period_of a.clock counters exported) archive }
-{
-    state::closing::close_with(archive, a.clock, counters, exported)
-}
-
 // What a deed leaves of a well-formed meter, stored where it lies; and its answer.
 fn store(m: &mut Meter, a: Acted) -> Reply
     requires { (well_formed m.old ≡ true) × Writable a.writes }
     ensures { (result ≡ reply_to a) × (m.new ≡ stored_in m.old a) }
 {
-    let receiver = m.receiver;
-    let told = put_row(&mut m.registers.tables, receiver, a);
+    let told = put_row(&mut m.registers.tables, m.receiver, a);
     m.mode = a.mode;
     m.attempts = a.attempts;
     m.speed = a.rate;
@@ -70,15 +51,14 @@ fn store(m: &mut Meter, a: Acted) -> Reply
     let account = a.account;
     m.registers.account = account;
     m.registers.clock = a.clock;
-    if keeps(a) {
-        return told;
+    if acting::closes(a.writes) {
+        m.registers.archive = closing::close_with(
+            m.registers.archive,
+            a.clock,
+            m.registers.counters,
+            m.registers.exported,
+        );
     }
-    m.registers.archive = close(
-        m.registers.archive,
-        a,
-        m.registers.counters,
-        m.registers.exported,
-    );
     told
 }
 

@@ -15,7 +15,6 @@ use Rattle.text.specs.Writing.{stored, holding}
 use Rattle.text.proofs.Writing.{stored-holding}
 use Rattle.state.specs.Sizes.{held_places}
 use Rattle.state.specs.declared.Receiver.{Receiver}
-use Rattle.state.specs.Setting.{with_held, with_mark}
 use Rattle.receiving.specs.Receivers.{last_held, kept_receiver, restarted_receiver}
 use Rattle.meter.specs.Character.{symbol}
 use Rattle.whole.specs.Gathering.{is, filled}

@@ -1,17 +1,17 @@
 -- The character engine, given a slice byte by byte, comes to its last byte with just the bytes held that a look at the whole tells. The invariant
 -- (`Holds`): the receiver is the one that holds the bytes since the last restart. Assumes nothing.
 use mathlib.Core.Path.{◌≡◌, refl, sym, ap, ap₂, ◌∙◌}
-use mathlib.Core.Bool.{Bool, true, false, cond, not, ◌&&◌, ◌||◌, and-false}
+use mathlib.Core.Bool.{Bool, true, false, cond, ◌||◌}
 use mathlib.Core.List.{List, [], ◌∷◌, ◌++◌, append_assoc}
-use Prim.Native.Nat.{ℕ, zero, suc, ◌+◌, ◌-◌, ◌≤◌, ◌<◌}
+use Prim.Native.Nat.{ℕ, suc, ◌+◌, ◌-◌, ◌≤◌, ◌<◌}
 use native.Mathlib.Omega.{arith}
 use borrow.Author.Tests.{eqb-true, ne_eqb, le-ltb, le-leb, leb-true, leb-false}
 use lib.Dec.{eqb, leb}
 use lib.ListN.{length, get_or, take, drop, length-append}
-use lib.Seq.{take-append_seam, drop-append-add, get_or-append-add, get_or-append_seam, take_at, take-suc, take_all, length-take-le}
+use lib.Seq.{take-append_seam, drop-append-add, get_or-append-add, get_or-append_seam, take-suc, take_all}
 use Rattle.line.specs.Characters.{damaged_at}
 use Rattle.line.proofs.Runs.{and_left, and_right}
-use Rattle.state.specs.Sizes.{reply_room, held_places}
+use Rattle.state.specs.Sizes.{reply_room}
 use Rattle.state.specs.declared.Receiver.{Receiver}
 use Rattle.state.specs.declared.Meter.{Meter}
 use Rattle.state.specs.WellFormed.{well_formed, marked}
@@ -30,7 +30,7 @@ use Rattle.state.proofs.Parts.{edition-good}
 use Rattle.promises.proofs.Formed.{character-stays}
 use Rattle.promises.proofs.Hurt.{hearing-is}
 use Rattle.promises.proofs.Verdicts.{never-zero}
-use Rattle.whole.specs.Whole.{ends, finishes_at, no_frame, at_the_last, awaits, starts_anew, frame_taken}
+use Rattle.whole.specs.Whole.{ends, finishes_at, no_frame, at_the_last, awaits, frame_taken}
 use Rattle.whole.specs.Gathering.{is, held_next, held_after, held_at_last, front, last_of, held_over, held_in, run_of, filled}
 use Rattle.whole.proofs.Gathering.{zero-none, short_none, after-few, last-few, after_dead, last-dead}
 use Rattle.whole.proofs.Filled.{one_more, anew, last_one, last_more}

@@ -1,33 +1,36 @@
 -- What is held over a run, a byte at a time, and of a run that has no control character inside. Assumes nothing.
 use mathlib.Core.Path.{◌≡◌, refl, sym, ap, ◌∙◌}
-use mathlib.Core.Bool.{Bool, true, false, cond, not, ◌&&◌}
-use mathlib.Core.List.{List, [], ◌∷◌, ◌++◌}
-use Prim.Native.Nat.{ℕ, zero, suc, ◌+◌, ◌-◌, ◌≤◌, ◌<◌}
+use mathlib.Core.Bool.{Bool, true, false, cond}
+use mathlib.Core.List.{List, [], ◌∷◌}
+use Prim.Native.Nat.{ℕ, suc, ◌+◌, ◌-◌, ◌≤◌, ◌<◌}
 use native.Mathlib.Omega.{arith}
-use native.Mathlib.Numerals.{add-one}
-use borrow.Author.Tests.{eqb-true, eqb-false, eq-eqb, ne_eqb, ltb-true, ltb-false, lt-leb, leb-false, not-true}
+use borrow.Author.Tests.{eqb-true, eqb-false, ne_eqb, ltb-true, ltb-false, lt-leb, leb-false, not-true}
 use lib.Dec.{eqb, leb, ltb}
 use lib.ListN.{length, get_or, take, drop, drop_of_length-le}
 use lib.Seq.{length-take-le, get_or-take}
 use Rattle.line.specs.Runs.{every}
 use Rattle.line.proofs.Runs.{left-next, and_left, and_right}
 use Rattle.meter.specs.Character.{symbol}
-use Rattle.line.specs.Characters.{damaged_at, seven, sent}
-use Rattle.line.proofs.Parity.{sent-comes-back, sent-undamaged, undamaged-is-sent}
-use Rattle.whole.specs.Gathering.{is, is_not, held_next, held_after, held_at_last, held_over, held_in, front, last_of}
+use Rattle.line.specs.Characters.{damaged_at, seven}
+use Rattle.whole.specs.Gathering.{is, is_not, held_next, held_after, held_at_last, held_over, held_in, any_held, front, last_of}
+use Rattle.std.specs.Prelude.{Option, Some, None, MatchOption}
 
--- a turn of a walk over the run, and its end
-module _ (run : List ℕ) (i held whole : ℕ) where
-  pub after_turn : i < length run → held_after held (get_or run (i - 1) 0) (drop i run) ≡ whole
-      → held_after (held_next held (get_or run (i - 1) 0) (get_or run i 0)) (get_or run (i + 1 - 1) 0) (drop (i + 1) run) ≡ whole
-  unfolding held_after
-  after_turn h e =
-      let at : i + 1 - 1 ≡ i = omega arith in
-      rw at (rw (left-next i run h) at e)
+-- what any held says of how many
+any-tells : (n : ℕ) (r : Option ℕ) → r ≡ any_held n → MatchOption r (n ≡ 0) (λ k. (n ≡ k) × (1 ≤ k))
+any-tells n r e = rw e (go (eqb n 0) refl)
+  where
+    go : (z : Bool) → eqb n 0 ≡ z → MatchOption (cond z None (Some n)) (n ≡ 0) (λ k. (n ≡ k) × (1 ≤ k))
+    go true z = eqb-true n 0 z
+    go false z = (refl, omega (arith, eqb-false n 0 z))
 
-  pub after-end : length run ≤ i → held_after held (get_or run (i - 1) 0) (drop i run) ≡ whole → held ≡ whole
-  unfolding held_after
-  after-end h e = rw (drop_of_length-le run h) at e
+pub some_held : (n k : ℕ) → Some k ≡ any_held n → (n ≡ k) × (1 ≤ k)
+some_held n k e = any-tells n (Some k) e
+
+pub none_held : (n : ℕ) → None ≡ any_held n → n ≡ 0
+none_held n e = any-tells n None e
+
+pub held-some : (n : ℕ) → 1 ≤ n → Some n ≡ any_held n
+held-some n h = rw (ne_eqb n 0 (λ e. omega (arith, h, e)))
 
 -- no SOH in it and no ETX before its last: all are held
 plain-all : (n before : ℕ) (bs : List ℕ) → 1 ≤ n → n + length bs ≤ 63 → every (is_not 1) bs ≡ true → every (is_not 3) (take (length bs) (before ∷ bs)) ≡ true
@@ -113,6 +116,21 @@ after_dead before (b ∷ bs) = after_dead b bs
 
 pub last-dead : (before b : ℕ) → held_at_last 0 before b ≡ 0
 last-dead before b = omega (arith, last-few 0 before b)
+
+-- a turn of a walk over what follows the first byte, and its end
+module _ (rest : List ℕ) (i held before whole : ℕ) where
+  pub after_turn : i < length rest → held_after held before (drop i rest) ≡ whole
+      → held_after (held_next held before (get_or rest i 0)) (get_or rest i 0) (drop (i + 1) rest) ≡ whole
+  unfolding held_after
+  after_turn h e = rw (left-next i rest h) at e
+
+  pub after-end : length rest ≤ i → held_after held before (drop i rest) ≡ whole → held ≡ whole
+  unfolding held_after
+  after-end h e = rw (drop_of_length-le rest h) at e
+
+  -- no frame can come of it
+  pub after-none : i < length rest → held_after held before (drop i rest) ≡ whole → held_next held before (get_or rest i 0) ≡ 0 → whole ≡ 0
+  after-none h e z = sym (after_turn h e) ∙ ap (λ (n : ℕ). held_after n (get_or rest i 0) (drop (i + 1) rest)) z ∙ after_dead (get_or rest i 0) (drop (i + 1) rest)
 
 over-few : (run : List ℕ) → 1 ≤ length run → (held_over run ≤ length run) × (held_over run ≤ 63)
 unfolding held_over

@@ -1,5 +1,5 @@
 -- A look at a slice says what `frame_at` says: what it refuses is refused there, and what it finishes is the meter's step at the last byte, upon a receiver with which the state is well-formed. Assumes nothing.
-use mathlib.Core.Path.{◌≡◌, refl, ◌∙◌}
+use mathlib.Core.Path.{◌≡◌, refl, sym, ap, subst, ◌∙◌}
 use mathlib.Core.Bool.{Bool, true, false, cond}
 use mathlib.Core.List.{List}
 use Prim.Native.Nat.{ℕ, ◌≤◌, ◌<◌}
@@ -14,11 +14,19 @@ use Rattle.meter.specs.Outcomes.{unheard}
 use Rattle.meter.specs.Character.{taken}
 use Rattle.meter.specs.Life.{event_of, refusal}
 use Rattle.meter.specs.Deeds.{standing_of, left_deed, done}
-use Rattle.whole.specs.declared.Looked.{Looked}
 use Rattle.whole.specs.Whole.{finishes_at, awaits, frame_taken, frame_at}
 use Rattle.whole.specs.Gathering.{last_of, held_in, run_of, filled}
-use Rattle.whole.specs.Looking.{refuses, finishes, gathered, looked_by, looked, refused_with, filled_with}
+use Rattle.whole.specs.declared.Refusal.{Refusal}
+use Rattle.whole.specs.declared.Refusal.TheVariants.{NoEdition, ShortBuffer, Malformed, NoFrame}
+use Rattle.whole.specs.Looking.{Looked, number_of, speed_of, refuses, finishes, gathered, looked_by, looked, refused_with, filled_with}
 use Rattle.whole.proofs.Finishing.{taken_none, nothing-whole, frame-whole, frame-formed, frame-ended, told-fits, ended-done}
+
+-- a refusal has a number
+never-zero : (x : Refusal) → number_of x ≡ 0 → ⊥
+never-zero NoEdition z = omega (arith, z)
+never-zero ShortBuffer z = omega (arith, z)
+never-zero Malformed z = omega (arith, z)
+never-zero (NoFrame speed) z = omega (arith, z)
 
 module _ (m : Meter) (room : ℕ) (bytes : List ℕ) where
   -- the last byte is to be taken
@@ -94,6 +102,14 @@ module _ (m : Meter) (room : ℕ) (bytes : List ℕ) where
 
   pub finished-is : (looked m room bytes).number ≡ 0 → Finished (looked m room bytes)
   finished-is z = looks.finished z
+
+  -- the same of what a look's result says
+  pub finished_as : (l : Looked) → l ≡ looked m room bytes → l.number ≡ 0 → Finished l
+  finished_as l e z = rw e (finished-is (ap (λ (k : Looked). k.number) (sym e) ∙ z))
+
+  pub refused_as : (x : Refusal) → refuses (number_of x) (speed_of x) ≡ looked m room bytes → frame_at m room bytes ≡ refused_with m (refuses (number_of x) (speed_of x))
+  refused_as x e =
+      subst (λ (l : Looked). frame_at m room bytes ≡ refused_with m l) (sym e) (refused-is (λ z. never-zero x (ap (λ (k : Looked). k.number) e ∙ z)))
 
   -- the last byte as an event: nothing refuses it, and all comes of its deed
   pub finished-fits : (l : Looked) → Finished l → l.last < 256 → refusal (family_of (filled_with m l)) room (event_of 0 l.last) ≡ 0

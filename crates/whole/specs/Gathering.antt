@@ -1,5 +1,5 @@
 -- The same by a look at the whole slice: how many of the bytes before the last are held when it comes, and the receiver that holds them.
-use Rattle.std.specs.Prelude.{Bool, cond, not, List, [], ◌∷◌, ◌++◌, map, ℕ, ◌+◌, ◌-◌, eqb, leb, length, get_or, take, drop, replicate}
+use Rattle.std.specs.Prelude.{Bool, cond, not, List, [], ◌∷◌, ◌++◌, map, ℕ, ◌+◌, ◌-◌, eqb, leb, length, get_or, take, drop, replicate, Option, Some, None}
 use Rattle.line.specs.Controls.{SOH, ETX}
 use Rattle.line.specs.Characters.{undamaged_all}
 use Rattle.damage.specs.First.{first_damaged}
@@ -25,6 +25,10 @@ held_after n before (b ∷ bs) = held_after (held_next n before b) b bs
 -- b is the last byte: so many are held when it finishes a frame, else 0
 unfoldable pub held_at_last : ℕ → ℕ → ℕ → ℕ
 held_at_last n before b = cond (is ETX before) n (cond (is SOH b) 0 (cond (leb most_held n) n 0))
+
+-- so many are held, where any are
+abbrev pub any_held : ℕ → Option ℕ
+any_held n = cond (eqb n 0) None (Some n)
 
 -- the bytes of a slice before its last, and the last
 abbrev pub front : List ℕ → List ℕ

@@ -1,5 +1,5 @@
 -- What a look at a slice comes to, told by what it asks of a state: refused with a number and a speed, or its last byte is to be taken upon a receiver that is filled at once.
-use Rattle.std.specs.Prelude.{Bool, cond, ◌&&◌, List, [], ℕ, eqb, leb, ltb}
+use Rattle.std.specs.Prelude.{Bool, cond, ◌&&◌, List, [], ℕ, eqb, leb, ltb, Result, Ok, Err}
 use Rattle.values.specs.Edition.{is_edition}
 use Rattle.state.specs.Sizes.{reply_room}
 use Rattle.state.specs.declared.Receiver.{Receiver}
@@ -8,8 +8,17 @@ use Rattle.state.specs.Making.{empty_receiver}
 use Rattle.state.specs.Setting.{with_receiver}
 use Rattle.state.specs.WellFormed.{edition_of, well_formed}
 use Rattle.meter.specs.Outcomes.{Outcome}
-use Rattle.whole.specs.declared.Looked.{Looked}
+use Rattle.whole.specs.declared.Refusal.{Refusal}
+use Rattle.whole.specs.declared.Refusal.TheVariants.{NoEdition, ShortBuffer, Malformed, NoFrame}
+use Rattle.whole.specs.declared.Gathered.{Gathered}
 use Rattle.whole.specs.Gathering.{last_of, held_in, run_of, filled}
+
+-- a refusal's number and its speed; or number 0, the last byte, and the receiver that holds what comes before it
+pub record Looked : Type 0 where
+  pub number : ℕ
+  pub speed : ℕ
+  pub last : ℕ
+  pub receiver : Receiver
 
 -- 12, 14, 16 or 17, at a speed
 abbrev pub refuses : ℕ → ℕ → Looked
@@ -18,6 +27,24 @@ refuses number speed = record { number = number; speed = speed; last = 0; receiv
 -- the last byte, and the receiver that holds what comes before it
 abbrev pub finishes : Receiver → ℕ → Looked
 finishes r last = record { number = 0; speed = 0; last = last; receiver = r }
+
+-- of a refusal, the number and the speed
+abbrev pub number_of : Refusal → ℕ
+number_of NoEdition = 16
+number_of ShortBuffer = 12
+number_of Malformed = 14
+number_of (NoFrame speed) = 17
+
+abbrev pub speed_of : Refusal → ℕ
+speed_of NoEdition = 0
+speed_of ShortBuffer = 0
+speed_of Malformed = 0
+speed_of (NoFrame speed) = speed
+
+-- what a look's result says
+abbrev pub told : Result Gathered Refusal → Looked
+told (Ok g) = finishes g.receiver g.last
+told (Err e) = refuses (number_of e) (speed_of e)
 
 -- a frame is finished by the last byte, with so many held before it; 17 at this speed where none is
 unfoldable pub gathered : ℕ → List ℕ → Looked

@@ -12,8 +12,8 @@ ghost use Rattle.state.specs.Setting.{with_receiver};
 ghost use Rattle.meter.specs.Outcomes.{answer_of};
 ghost use Rattle.meter.specs.Character.{symbol, taken};
 ghost use Rattle.whole.specs.Whole.{frame_at};
-ghost use Rattle.whole.specs.Gathering.{is, is_not, held_next, held_at_last, held_over, held_in, filled};
-ghost use Rattle.whole.specs.Looking.{refuses, finishes, gathered, awaits_in, looked_by, looked, refused_with};
+ghost use Rattle.whole.specs.Gathering.{is, is_not, held_next, held_at_last, held_over, held_in, any_held, filled};
+ghost use Rattle.whole.specs.Looking.{number_of, speed_of, told, gathered, awaits_in, looked_by, looked, refused_with, refuses};
 
 use meter::Answer;
 use state::setting::{empty_receiver, with_held, with_mark, with_receiver};
@@ -31,102 +31,98 @@ fn has_no(c: u8, s: &[u8]) -> bool
     ensures { result ≡ every (is_not c) s.now }
 {
     let mut ok = true;
-    let mut i = 0;
-    while i < s.len() {
-        ok = ok & !is_control(c, s[i]);
-        i += 1;
+    for b in s {
+        ok = ok & !is_control(c, *b);
     }
     ok
 }
 
-// How many are held after a byte that is not the last; 0 where no frame can come of it.
-fn hold(held: usize, before: u8, b: u8) -> usize
-    ensures { result ≡ held_next held before b }
+// How many are held after a byte that is not the last; none where no frame can come of it.
+fn hold(held: usize, before: u8, b: u8) -> Option<usize>
+    requires { 1 ≤ held }
+    ensures { result ≡ any_held (held_next held before b) }
 {
-    if held == 0 {
-        return 0;
-    }
     if is_control(line::ETX, before) {
-        return 0;
+        return None;
     }
     if is_control(line::SOH, b) {
-        return 1;
+        return Some(1);
     }
     if MOST_HELD as usize <= held {
-        return 0;
+        return None;
     }
-    held + 1
+    Some(held + 1)
 }
 
-// How many are held when the last byte finishes a frame, else 0.
-fn hold_at_last(held: usize, before: u8, b: u8) -> usize
-    ensures { result ≡ held_at_last held before b }
+// How many are held when the last byte finishes a frame.
+fn hold_at_last(held: usize, before: u8, b: u8) -> Option<usize>
+    requires { 1 ≤ held }
+    ensures { result ≡ any_held (held_at_last held before b) }
 {
     if is_control(line::ETX, before) {
-        return held;
+        return Some(held);
     }
     if is_control(line::SOH, b) {
-        return 0;
+        return None;
     }
     if MOST_HELD as usize <= held {
-        return held;
+        return Some(held);
     }
-    0
+    None
 }
 
 // A run with restarts in it, or an ETX before its end: byte by byte.
-fn held_slowly(run: &[u8]) -> usize
+fn held_slowly(run: &[u8]) -> Option<usize>
     requires { 1 ≤ length run.now }
-    ensures { result ≡ held_over run.now }
+    ensures { result ≡ any_held (held_over run.now) }
 {
     let mut held = 1;
-    let mut i = 1;
-    while i < run.len() {
-        held = hold(held, run[i - 1], run[i]);
-        i += 1;
+    let mut before = run[0];
+    let rest = text::rest(run, 1);
+    for b in rest {
+        held = hold(held, before, *b)?;
+        before = *b;
     }
-    held
+    Some(held)
 }
 
 // How many bytes of a run are held at its end, the first being an SOH. Most have no other control character but the ETX that ends them, and are held whole.
-fn held_over(run: &[u8]) -> usize
+fn held_over(run: &[u8]) -> Option<usize>
     requires { 1 ≤ length run.now }
-    ensures { result ≡ held_over run.now }
+    ensures { result ≡ any_held (held_over run.now) }
 {
     let n = run.len();
     if n <= MOST_HELD as usize {
         let plain = has_no(line::SOH, text::rest(run, 1))
             & has_no(line::ETX, text::first(run, n - 1));
         if plain {
-            return n;
+            return Some(n);
         }
     }
     held_slowly(run)
 }
 
-// How many bytes before the last are held when it finishes a frame; 0 where it does not, or a frame was finished before.
-fn held_in(frame: &[u8]) -> usize
-    ensures { result ≡ held_in frame.now }
+// How many bytes before the last are held when it finishes a frame; none where it does not, or a frame was finished before.
+fn held_in(frame: &[u8]) -> Option<usize>
+    ensures { result ≡ any_held (held_in frame.now) }
 {
     let n = frame.len();
     if n < 2 {
-        return 0;
+        return None;
     }
-    if is_control(line::SOH, frame[0]) {
-        let held = held_over(text::first(frame, n - 1));
-        return hold_at_last(held, frame[n - 2], frame[n - 1]);
+    if !is_control(line::SOH, frame[0]) {
+        return None;
     }
-    0
+    let held = held_over(text::first(frame, n - 1))?;
+    hold_at_last(held, frame[n - 2], frame[n - 1])
 }
 
 // Each byte of a run becomes its character.
 fn to_characters(s: &mut [u8])
     ensures { s.new ≡ map symbol s.old }
 {
-    let mut i = 0;
-    while i < s.len() {
-        s[i] = meter::symbol_of(s[i]);
-        i += 1;
+    for b in s.iter_mut() {
+        *b = meter::symbol_of(*b);
     }
 }
 
@@ -146,48 +142,60 @@ fn fill(run: &[u8]) -> Receiver
     with_mark(next, 1, damage::first_damaged(run) as u8)
 }
 
-// What a look at a slice comes to: a refusal's number and its speed; or number 0, the last byte, and the receiver that holds what comes before it.
+// Why a slice is refused, and at what speed the answer is sent where the state has one.
+#[derive(Clone, Copy, PartialEq, Eq)]
+pub enum Refusal {
+    NoEdition,
+    ShortBuffer,
+    Malformed,
+    NoFrame(u8),
+}
+
+impl Refusal {
+    pub fn number(self) -> u8
+        ensures { result ≡ number_of self }
+    {
+        match self {
+            Refusal::NoEdition => 16,
+            Refusal::ShortBuffer => 12,
+            Refusal::Malformed => 14,
+            Refusal::NoFrame(_) => 17,
+        }
+    }
+
+    pub fn speed(self) -> u8
+        ensures { result ≡ speed_of self }
+    {
+        match self {
+            Refusal::NoFrame(speed) => speed,
+            _ => 0,
+        }
+    }
+}
+
+// What a slice that is a frame comes to: its last byte, and the receiver that holds what comes before it. The byte stands first: a refusal lies where the first
+// two bytes do, and the held characters behind it are copied as a whole.
 #[derive(Clone, Copy)]
-pub struct Looked {
-    pub number: u8,
-    pub speed: u8,
+pub struct Gathered {
     pub last: u8,
     pub receiver: Receiver,
 }
 
-fn refuse(number: u8, speed: u8) -> Looked
-    ensures { result ≡ refuses number speed }
-{
-    Looked {
-        number,
-        speed,
-        last: 0,
-        receiver: empty_receiver(),
-    }
-}
-
-fn finish(receiver: Receiver, last: u8) -> Looked
-    ensures { result ≡ finishes receiver last }
-{
-    Looked {
-        number: 0,
-        speed: 0,
-        last,
-        receiver,
-    }
-}
-
 // A slice that may be a frame: what its last byte finishes, if it does.
-fn gather(speed: u8, frame: &[u8]) -> Looked
-    ensures { result ≡ gathered speed frame.now }
+fn gather(speed: u8, frame: &[u8]) -> Result<Gathered, Refusal>
+    ensures { told result ≡ gathered speed frame.now }
 {
-    let held = held_in(frame);
-    if held == 0 {
-        return refuse(17, speed);
+    match held_in(frame) {
+        Some(held) => {
+            let last = frame.len() - 1;
+            let run = text::first(text::rest(frame, last - held), held);
+            Ok(Gathered {
+                last: frame[last],
+                receiver: fill(run),
+            })
+        }
+        None => Err(Refusal::NoFrame(speed)),
     }
-    let last = frame.len() - 1;
-    let run = text::first(text::rest(frame, last - held), held);
-    finish(fill(run), frame[last])
 }
 
 // Modes 2 to 4 with an empty receiver.
@@ -206,36 +214,33 @@ pub fn look(
     formed: bool,
     frame: &[u8],
     room: usize,
-) -> Looked
-    ensures { result ≡ looked_by mode speed count edition formed frame.now room }
+) -> Result<Gathered, Refusal>
+    ensures { told result ≡ looked_by mode speed count edition formed frame.now room }
 {
     if !values::is_edition(edition) {
-        return refuse(16, 0);
+        return Err(Refusal::NoEdition);
     }
     if room < REPLY_ROOM {
-        return refuse(12, 0);
+        return Err(Refusal::ShortBuffer);
     }
     if !formed {
-        return refuse(14, 0);
+        return Err(Refusal::Malformed);
     }
     if !awaits_frame(mode, count) {
-        return refuse(17, speed);
+        return Err(Refusal::NoFrame(speed));
     }
     gather(speed, frame)
 }
 
 // The same of a state by value.
-fn look_at(m: Meter, frame: &[u8], room: usize) -> Looked
-    ensures { result ≡ looked m room frame.now }
+fn look_at(m: Meter, frame: &[u8], room: usize) -> Result<Gathered, Refusal>
+    ensures { told result ≡ looked m room frame.now }
 {
-    let v = m.receiver;
-    let g = m.registers;
-    let f = g.facts;
     look(
         m.mode,
         m.speed,
-        v.count,
-        f.edition,
+        m.receiver.count,
+        m.registers.facts.edition,
         state::is_well_formed(m),
         frame,
         room,
@@ -243,13 +248,13 @@ fn look_at(m: Meter, frame: &[u8], room: usize) -> Looked
 }
 
 // Nothing changed, and no reply.
-fn refused(m: Meter, l: Looked) -> Answer
-    ensures { result ≡ answer_of (refused_with m l) }
+fn refused(m: Meter, e: Refusal) -> Answer
+    ensures { result ≡ answer_of (refused_with m (refuses (number_of e) (speed_of e))) }
 {
     Answer {
-        number: l.number,
+        number: e.number(),
         length: 0,
-        speed: l.speed,
+        speed: e.speed(),
         place: 0,
         next: m,
     }
@@ -269,9 +274,8 @@ pub fn receive_frame(m: Meter, frame: &[u8], reply: &mut [u8]) -> Answer
     ensures result { result ≡ answer_of (frame_at m (length reply.old) frame.now) }
     ensures held { reply.new ≡ holding reply.old (on_wire (frame_at m (length reply.old) frame.now).reply) }
 {
-    let l = look_at(m, frame, reply.len());
-    if l.number != 0 {
-        return refused(m, l);
+    match look_at(m, frame, reply.len()) {
+        Ok(g) => take_last(m, g.receiver, g.last, reply),
+        Err(e) => refused(m, e),
     }
-    take_last(m, l.receiver, l.last, reply)
 }

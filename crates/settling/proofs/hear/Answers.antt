@@ -1,9 +1,11 @@
 -- `settling::hear` meets its contract: each way out is the case of the definition that its tests name. Assumes nothing.
-use mathlib.Core.Path.{sym, ◌∙◌}
-use native.Mathlib.Omega.{arith}
+use Rattle.std.proofs.Common.{◌≡◌, ◌⊎◌, inl, inr, ℕ, Bool, sym, ◌∙◌, arith}
 use Rattle.state.proofs.Limits.{limit-most}
 use Rattle.receiving.proofs.Laws.{hold-room}
-use Rattle.settling.specs.Settling.{heard_by, heard_as}
+use Rattle.receiving.specs.declared.Hearing.{Hearing}
+use Rattle.receiving.specs.declared.Hearing.TheVariants.{Line, Confirm, Frame, TooLong}
+use Rattle.settling.specs.declared.Seen.{Seen}
+use Rattle.settling.specs.Settling.{ends, heard_by, heard_as}
 use Rattle.settling.proofs.hear.Goals as goal
 
 pub keep-requires : goal.keep-requires
@@ -14,39 +16,31 @@ keep-requires c =
 pub returns-in-Drop : goal.returns-in-Drop
 unfolding heard_by heard_as
 returns-in-Drop c =
-    rw (← c.damaged-damaged.ensures, ← c.symbol_of-c.ensures, ← c.last_in.ensures, ← c.hear-h.ensures, c.in-Drop.is, c.stand.ensures)
+    rw (← c.damaged-damaged.ensures, ← c.symbol_of-c.ensures, ← c.last_in.ensures, ← c.hear-h.ensures, c.in-Drop.is, c.heard.ensures, c.kept_in.ensures)
 
 pub returns-in-Hold : goal.returns-in-Hold
-unfolding heard_by heard_as
+unfolding heard_by
 returns-in-Hold c =
-    rw (← c.damaged-damaged.ensures, ← c.symbol_of-c.ensures, ← c.last_in.ensures, ← c.hear-h.ensures, c.in-Hold.is, c.keep.ensures)
+    rw (← c.damaged-damaged.ensures, ← c.symbol_of-c.ensures, ← c.last_in.ensures, ← c.hear-h.ensures, c.in-Hold.is, c.heard-in-Hold.ensures) c.keep.ensures
 
 pub returns-in-Restart : goal.returns-in-Restart
 unfolding heard_by heard_as
 returns-in-Restart c =
-    rw (← c.damaged-damaged.ensures, ← c.symbol_of-c.ensures, ← c.last_in.ensures, ← c.hear-h.ensures, c.in-Restart.is, c.go_on.ensures)
+    rw (← c.damaged-damaged.ensures, ← c.symbol_of-c.ensures, ← c.last_in.ensures, ← c.hear-h.ensures, c.in-Restart.is, c.heard-in-Restart.ensures, c.anew.ensures)
 
 pub returns-in-Empty : goal.returns-in-Empty
 unfolding heard_by heard_as
 returns-in-Empty c =
-    rw (← c.damaged-damaged.ensures, ← c.symbol_of-c.ensures, ← c.last_in.ensures, ← c.hear-h.ensures, c.in-Empty.is, c.go_on-in-Empty.ensures)
+    rw (← c.damaged-damaged.ensures, ← c.symbol_of-c.ensures, ← c.last_in.ensures, ← c.hear-h.ensures, c.in-Empty.is, c.heard-in-Empty.ensures, c.anew-in-Empty.ensures)
+
+-- what ends a line, a confirmation or a frame, or is one too many, is left to the meter
+left : (s : Seen) (c : ℕ) (damaged : Bool) (h : Hearing) → (h ≡ Line) ⊎ ((h ≡ Confirm) ⊎ ((h ≡ Frame) ⊎ (h ≡ TooLong))) → ends s ≡ heard_as s c damaged h
+unfolding heard_as
+left s c damaged h (inl e) = rw e
+left s c damaged h (inr (inl e)) = rw e
+left s c damaged h (inr (inr (inl e))) = rw e
+left s c damaged h (inr (inr (inr e))) = rw e
 
 pub returns-in-Line : goal.returns-in-Line
-unfolding heard_by heard_as
-returns-in-Line c =
-    rw (← c.damaged-damaged.ensures, ← c.symbol_of-c.ensures, ← c.last_in.ensures, ← c.hear-h.ensures, c.in-Line.is, c.stand-in-Line.ensures)
-
-pub returns-in-Confirm : goal.returns-in-Confirm
-unfolding heard_by heard_as
-returns-in-Confirm c =
-    rw (← c.damaged-damaged.ensures, ← c.symbol_of-c.ensures, ← c.last_in.ensures, ← c.hear-h.ensures, c.in-Confirm.is, c.stand-in-Confirm.ensures)
-
-pub returns-in-Frame : goal.returns-in-Frame
-unfolding heard_by heard_as
-returns-in-Frame c =
-    rw (← c.damaged-damaged.ensures, ← c.symbol_of-c.ensures, ← c.last_in.ensures, ← c.hear-h.ensures, c.in-Frame.is, c.stand-in-Frame.ensures)
-
-pub returns-in-TooLong : goal.returns-in-TooLong
-unfolding heard_by heard_as
-returns-in-TooLong c =
-    rw (← c.damaged-damaged.ensures, ← c.symbol_of-c.ensures, ← c.last_in.ensures, ← c.hear-h.ensures, c.in-TooLong.is, c.stand-in-TooLong.ensures)
+unfolding heard_by
+returns-in-Line c = rw (← c.symbol_of-c.ensures, ← c.last_in.ensures, ← c.hear-h.ensures) (left _ _ _ _ c.in-Line.is)

@@ -1,41 +1,28 @@
--- `settling::hear_or_leave` meets its contract: each way out is the case of the definition that its tests name. Assumes nothing.
-use mathlib.Core.Path.{◌≡◌}
-use mathlib.Core.Bool.{Bool, true, false}
-use Prim.Native.Nat.{ℕ}
-use native.Mathlib.Omega.{arith}
-use Rattle.settling.specs.Settling.{told_by, heard_of}
+-- `settling::hear_or_leave` meets its contract: each way out is the case of the definition that its test names. Assumes nothing.
+use Rattle.std.proofs.Common.{◌≡◌, ℕ, List, None, refl}
+use Rattle.meter.specs.declared.Event.{Event}
+use Rattle.meter.specs.declared.Event.TheVariants.{Character, Silence, Tick, Pulse, PowerUp, PulseOut, Unknown}
+use Rattle.settling.specs.declared.Seen.{Seen}
+use Rattle.settling.specs.Settling.{ends, pulse_of, heard_of}
 use Rattle.settling.proofs.hear_or_leave.Goals as goal
 
--- there is no pulse
-none : (b : Bool) → b ≡ true → b ≡ false → ⊥
-none b t f = let z : ◌≡◌ {A = ℕ} 0 1 = cc in omega arith
+left : (s : Seen) (held tables : List ℕ) (e : Event) → pulse_of e ≡ None → ((x : ℕ) → e ≡ Character x → ⊥) → (e ≡ Tick → ⊥) → ends s ≡ heard_of s held tables e
+unfolding pulse_of heard_of
+left s held tables (Character b) none c t = absurd (c b refl)
+left s held tables Silence none c t = refl
+left s held tables Tick none c t = absurd (t refl)
+left s held tables (Pulse units) none c t = cc
+left s held tables PowerUp none c t = refl
+left s held tables (PulseOut units) none c t = cc
+left s held tables Unknown none c t = refl
 
 pub returns-in-Character : goal.returns-in-Character
 unfolding heard_of
-returns-in-Character c = rw (c.in-Character.is, c.hear.ensures)
-
-pub returns-in-Silence : goal.returns-in-Silence
-unfolding heard_of
-returns-in-Silence c = rw (c.in-Silence.is, c.stand.ensures)
+returns-in-Character c = λ tables. rw c.in-Character.is c.hear.ensures
 
 pub returns-in-Tick : goal.returns-in-Tick
 unfolding heard_of
-returns-in-Tick c = rw (c.in-Tick.is, c.tick.ensures)
+returns-in-Tick c = λ tables. rw c.in-Tick.is c.tick.ensures
 
-pub returns-in-Pulse : goal.returns-in-Pulse
-unfolding told_by
-returns-in-Pulse c =
-    absurd (none (told_by c.args.e).pulse (rw c.in-Pulse.is) c.requires)
-
-pub returns-in-PowerUp : goal.returns-in-PowerUp
-unfolding heard_of
-returns-in-PowerUp c = rw (c.in-PowerUp.is, c.stand-in-PowerUp.ensures)
-
-pub returns-in-PulseOut : goal.returns-in-PulseOut
-unfolding told_by
-returns-in-PulseOut c =
-    absurd (none (told_by c.args.e).pulse (rw c.in-PulseOut.is) c.requires)
-
-pub returns-in-Unknown : goal.returns-in-Unknown
-unfolding heard_of
-returns-in-Unknown c = rw (c.in-Unknown.is, c.stand-in-Unknown.ensures)
+pub returns-in_default : goal.returns-in_default
+returns-in_default c = λ tables. left c.args.s c.args.held.now tables c.args.e c.requires c.in_default.not-Character c.in_default.not-Tick

@@ -4,4 +4,4 @@ use Rattle.settling.proofs.keep.Goals as goal
 
 pub returns : goal.returns
 unfolding heard_as
-returns c = rw (c.go_on.ensures, c.hurt_at-place.ensures, c.mark_after-mark.ensures)
+returns c = rw (c.hurt_at.ensures, c.mark_after.ensures)

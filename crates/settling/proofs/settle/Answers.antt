@@ -1,14 +1,21 @@
--- `settling::settle` meets its contract: the event that is named goes one way or the other, and either meets it. Assumes nothing.
+-- `settling::settle` meets its contract: a pulse goes its way and any other event another, and either meets it. Assumes nothing.
+use Rattle.std.proofs.Common.{sym, ◌∙◌}
+use Rattle.settling.proofs.Laws.{pulse-told, passed}
 use Rattle.settling.proofs.settle.Goals as goal
 
-pub settle_pulse-requires : goal.settle_pulse-requires
-settle_pulse-requires c = (c.requires, rw c.told_by-told.ensures at c.if-told.true)
+pub pulse-requires : goal.pulse-requires
+pulse-requires c =
+    let passes = c.in_ok-pass-in-Some.ensures in
+    let told = rw (sym c.in-Some.ensures) at (pulse-told c.args.s c.args.held.now c.args.tables.now _ _ _ passes.unrefused) in
+    (c.requires passes.well, told.1)
 
-pub returns-then-told : goal.returns-then-told
-returns-then-told c = rw (c.settle_pulse.ensures, c.event_of-e.ensures)
+pub returns-in_ok-pass-in-Some : goal.returns-in_ok-pass-in-Some
+returns-in_ok-pass-in-Some c =
+    let passes = c.in_ok-pass-in-Some.ensures in
+    let told = rw (sym c.in-Some.ensures) at (pulse-told c.args.s c.args.held.now c.args.tables.now _ _ _ passes.unrefused) in
+    rw (← c.event_of-e.ensures, passed _ _ _ _ _ _ passes, c.kept_in.ensures) (c.pulse.ensures ∙ told.0)
 
-pub settle_other-requires : goal.settle_other-requires
-settle_other-requires c = rw c.told_by-told.ensures at c.if-told.false
-
-pub returns : goal.returns
-returns c = rw (c.settle_other.ensures, c.event_of-e.ensures)
+pub returns-in_ok-pass-in-None : goal.returns-in_ok-pass-in-None
+returns-in_ok-pass-in-None c =
+    let passes = c.in_ok-pass-in-None.ensures in
+    rw (← c.event_of-e.ensures, passed _ _ _ _ _ _ passes) (c.hear_or_leave.ensures c.args.tables.now)

@@ -1,13 +1,11 @@
 -- `whole::fill` meets its contract: the run is put in at once, and the mark is that of the first damaged byte. Assumes nothing.
-use mathlib.Core.Path.{◌≡◌, refl, sym, ap, ◌∙◌}
+use mathlib.Core.Path.{sym, ap, ◌∙◌}
 use mathlib.Core.List.{map}
 use Prim.Native.Nat.{ℕ}
 use native.Mathlib.Omega.{arith}
-use borrow.Author.Rules.{rules}
 use Rattle.state.specs.Sizes.{held_places}
-use lib.ListN.{length, replicate, length-replicate}
+use lib.ListN.{length-replicate}
 use Rattle.damage.proofs.First.{first-hurt}
-use Rattle.text.specs.Writing.{stored}
 use Rattle.meter.specs.Character.{symbol}
 use Rattle.whole.proofs.Filled.{filled-good, filled-hurt}
 use Rattle.whole.proofs.fill.Goals as goal

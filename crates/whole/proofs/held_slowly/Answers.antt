@@ -1,23 +1,26 @@
 -- `whole::held_slowly` meets its contract: what is held so far, with what is left, gives what the whole does. Assumes nothing.
-use mathlib.Core.Path.{◌≡◌, refl, sym, ap, ◌∙◌}
-use Prim.Native.Nat.{◌≤◌, ◌-◌, ◌+◌}
-use native.Mathlib.Omega.{arith}
-use borrow.Author.Rules.{rules}
-use lib.ListN.{length, drop, get_or}
-use Rattle.whole.specs.Gathering.{held_after, held_over}
-use Rattle.whole.proofs.Gathering.{after_turn, after-end}
+use Rattle.std.proofs.Common.{arith, sym, ◌∙◌}
+use Rattle.whole.specs.Gathering.{held_over}
+use Rattle.whole.proofs.Gathering.{after_turn, after-end, after-none, some_held, none_held, held-some}
 use Rattle.whole.proofs.held_slowly.Goals as goal
 
-pub loop-i-init : goal.loop-i-init
+pub loop-b-init : goal.loop-b-init
 unfolding held_over
-loop-i-init c = (omega arith, omega arith, refl)
+loop-b-init c = (omega arith, rw c.rest-rest.ensures.result_value)
 
-pub loop-i-preserved : goal.loop-i-preserved
-loop-i-preserved c =
-    let a = c.args in
-    (omega arith, omega arith, rw c.hold-held.ensures (after_turn a.run.now c.loop-i.i c.loop-i.held _ (omega arith) c.loop-i.invariant.2))
+pub returns-in_err-held : goal.returns-in_err-held
+returns-in_err-held c =
+    let l = c.loop-b in
+    let none = none_held _ (sym c.in_err-held.was ∙ c.hold.ensures) in
+    rw (c.from_residual.ensures, after-none c.rest-rest.result.now l.b-index l.held l.before _ (omega arith) l.invariant.1 none)
+
+pub loop-b-preserved : goal.loop-b-preserved
+loop-b-preserved c =
+    let l = c.loop-b in
+    let next = some_held _ _ (sym c.in_ok-held.was ∙ c.hold.ensures) in
+    (next.1, rw (← next.0) (after_turn c.rest-rest.result.now l.b-index l.held l.before _ (omega arith) l.invariant.1))
 
 pub returns : goal.returns
 returns c =
-    let a = c.args in
-    after-end a.run.now c.loop-i.i c.loop-i.held _ (omega arith) c.loop-i.invariant.2
+    let l = c.loop-b in
+    rw (← after-end c.rest-rest.result.now l.b-index l.held l.before _ (omega arith) l.invariant.1) (held-some l.held l.invariant.0)

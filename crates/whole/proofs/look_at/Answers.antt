@@ -1,5 +1,4 @@
 -- `whole::look_at` meets its contract: that of `look`, with the test of the state by value. Assumes nothing.
-use borrow.Author.Rules.{rules}
 use Rattle.whole.proofs.look_at.Goals as goal
 
 pub returns : goal.returns

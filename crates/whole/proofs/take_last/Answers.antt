@@ -1,6 +1,5 @@
 -- `whole::take_last` meets its contract: the meter takes the last byte upon the filled receiver. Assumes nothing.
 use native.Mathlib.Omega.{arith}
-use borrow.Author.Rules.{rules}
 use Rattle.whole.proofs.Finishing.{told-fits, told_is}
 use Rattle.whole.proofs.take_last.Goals as goal
 

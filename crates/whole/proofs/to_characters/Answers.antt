@@ -1,36 +1,19 @@
--- `whole::to_characters` meets its contract. The invariant: the bytes passed are characters, the others are as they were.
--- Assumes nothing.
-use mathlib.Core.Path.{◌≡◌, refl, sym, ap, ◌∙◌}
-use mathlib.Core.List.{List}
-use Prim.Native.Nat.{ℕ, ◌<◌, ◌≤◌, ◌-◌}
-use native.Mathlib.Omega.{arith}
-use lib.ListN.{length, get_or, set, length-set}
+-- `whole::to_characters` meets its contract. The invariant: the bytes passed are characters, the others are as they were. Assumes nothing.
+use Rattle.std.proofs.Common.{◌≡◌, ◌<◌, length, set, ap, ◌∙◌}
 use Rattle.meter.specs.Character.{symbol}
 use Rattle.line.proofs.Runs.{changed, changed-none, changed-more, changed-next, changed-all}
 use Rattle.whole.proofs.to_characters.Goals as goal
 
-pub loop-i-init : goal.loop-i-init
-loop-i-init c = (omega arith, refl, changed-none symbol _)
+pub loop-b-init : goal.loop-b-init
+loop-b-init c = changed-none symbol _
 
-pub loop-i-smaller : goal.loop-i-smaller
-loop-i-smaller c = simp length-set (omega arith)
-
-pub loop-i-preserved : goal.loop-i-preserved
-loop-i-preserved c =
+pub loop-b-preserved : goal.loop-b-preserved
+loop-b-preserved c =
     let s₀ = c.args.s.now in
-    let i = c.loop-i.i in
-    let h : i < length s₀ = omega arith in
-    let e : c.loop-i.s ≡ changed symbol i s₀ = c.loop-i.invariant.2 in (
-      simp length-set (omega arith),
-      simp length-set c.loop-i.invariant.1,
-      ap (set c.loop-i.s i) c.symbol_of.ensures ∙ (rw (e, changed-next symbol i s₀ h) (changed-more symbol i s₀ h)),
-    )
-
-pub shape_of-s : goal.shape_of-s
-shape_of-s c = c.loop-i.invariant.1
+    let i = c.loop-b.b-index in
+    let h : i < length s₀ = c.loop-b-test.true in
+    let e : c.loop-b.s ≡ changed symbol i s₀ = c.loop-b.invariant in
+    ap (set c.loop-b.s i) c.symbol_of.ensures ∙ (rw (e, changed-next symbol i s₀ h) (changed-more symbol i s₀ h))
 
 pub returns : goal.returns
-returns c =
-    let s₀ = c.args.s.now in
-    let h : length s₀ ≤ c.loop-i.i = omega arith in
-    c.loop-i.invariant.2 ∙ changed-all symbol c.loop-i.i s₀ h
+returns c = c.loop-b.invariant ∙ changed-all symbol c.loop-b.b-index c.args.s.now c.loop-b-test.false
