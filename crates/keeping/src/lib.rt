@@ -2,20 +2,32 @@
 // so that there the test of the state has one caller and is compiled into it.
 #![tactic(auto)]
 
-ghost use Rattle.std.specs.Prelude.{◌≡◌};
+ghost use Rattle.std.specs.Prelude.{◌≡◌, ℕ, true, MatchResult};
+ghost use Rattle.values.specs.Edition.{is_edition};
 ghost use Rattle.state.specs.Making.{facts_of, made_of};
 ghost use Rattle.keeping.specs.Making.{clock_of};
-ghost use Rattle.keeping.specs.Shown.{checked_by, checked_as, shown_by, shown_as};
+ghost use Rattle.keeping.specs.Shown.{number_of, checked_by, checked_as, refused_with, shown_by, shown_as};
 
 use state::Meter;
 
 mod making;
 
-// What a display shows of a record: the total with 1, or 0 with 14.
-#[derive(Clone, Copy)]
-pub struct Shown {
-    pub number: u8,
-    pub total: u32,
+// Why a record is not taken: it is of an edition that there is not, or malformed.
+#[derive(Clone, Copy, PartialEq, Eq)]
+pub enum Refusal {
+    NoEdition,
+    Malformed,
+}
+
+impl Refusal {
+    fn number(self) -> u8
+        ensures { result ≡ number_of self }
+    {
+        match self {
+            Refusal::NoEdition => 16,
+            Refusal::Malformed => 14,
+        }
+    }
 }
 
 // A new meter in the record, whatever stood there.
@@ -52,17 +64,18 @@ pub extern "C" fn dirgemist_meter_make(
     }
 }
 
-// What the test of a record answers, from its edition and from whether it is well-formed: a record is too long to be handed on.
-fn check(edition: u8, formed: bool) -> u8
-    ensures { result ≡ checked_by edition formed }
+// The test of a record, from its edition and from whether it is well-formed: a record is too long to be handed on.
+fn check(edition: u8, formed: bool) -> Result<(), Refusal>
+    ensures { MatchResult result (λ _. (is_edition edition ≡ true) × (formed ≡ true))
+        (λ e. (checked_by edition formed ≡ number_of e) × ((total : ℕ) → shown_by edition formed total ≡ refused_with e)) }
 {
     if !values::is_edition(edition) {
-        return 16;
+        return Err(Refusal::NoEdition);
     }
     if formed {
-        return 1;
+        return Ok(());
     }
-    14
+    Err(Refusal::Malformed)
 }
 
 // Whether the record is well-formed.
@@ -71,32 +84,10 @@ pub extern "C" fn dirgemist_meter_check(m: &Meter) -> u8
     ensures { result ≡ checked_as m.now }
 {
     let formed = lent::is_formed(m);
-    check(m.registers.facts.edition, formed)
-}
-
-fn show(edition: u8, formed: bool, total: u32) -> Shown
-    ensures { result ≡ shown_by edition formed total }
-{
-    if !values::is_edition(edition) {
-        return Shown {
-            number: 16,
-            total: 0,
-        };
+    match check(m.registers.facts.edition, formed) {
+        Ok(()) => 1,
+        Err(refusal) => refusal.number(),
     }
-    if formed {
-        return Shown { number: 1, total };
-    }
-    Shown {
-        number: 14,
-        total: 0,
-    }
-}
-
-fn hand_out(s: Shown, total: &mut u32) -> u8
-    ensures { (result ≡ s.number) × (total.new ≡ s.total) }
-{
-    *total = s.total;
-    s.number
 }
 
 // The total for a display, from a record that is only read. Nothing is added up on its way but for the check.
@@ -105,10 +96,14 @@ pub extern "C" fn dirgemist_meter_total(m: &Meter, total: &mut u32) -> u8
     ensures { (result ≡ (shown_as m.now).number) × (total.new ≡ (shown_as m.now).total) }
 {
     let formed = lent::is_formed(m);
-    let s = show(
-        m.registers.facts.edition,
-        formed,
-        m.registers.counters.total,
-    );
-    hand_out(s, total)
+    match check(m.registers.facts.edition, formed) {
+        Ok(()) => {
+            *total = m.registers.counters.total;
+            1
+        }
+        Err(refusal) => {
+            *total = 0;
+            refusal.number()
+        }
+    }
 }

@@ -1,5 +1,5 @@
 // A meter made from lent texts and numbers, as C gives them.
-ghost use Rattle.std.specs.Prelude.{◌≡◌, length};
+ghost use Rattle.std.specs.Prelude.{◌≡◌};
 ghost use Rattle.clock.specs.Seconds.{date_of, time_of};
 ghost use Rattle.state.specs.Making.{facts_of, made_of, told};
 ghost use Rattle.keeping.specs.Making.{clock_of};
@@ -7,6 +7,7 @@ ghost use Rattle.keeping.specs.Making.{clock_of};
 use clock::{Clock, Date, Time};
 use state::{Facts, Meter, Refusal};
 
+// Stays: the six numbers travel apart as C's interface has them, up to here.
 fn clock_of(year: u16, month: u8, day: u8, hour: u8, minute: u8, second: u8) -> Clock
     ensures { result ≡ clock_of year month day hour minute second }
 {
@@ -18,14 +19,6 @@ fn clock_of(year: u16, month: u8, day: u8, hour: u8, minute: u8, second: u8) -> 
             second,
         },
     }
-}
-
-// Eight characters as an array.
-fn eight(s: &[u8]) -> [u8; 8]
-    requires { length s.now ≡ 8 }
-    ensures { result ≡ s.now }
-{
-    [s[0], s[1], s[2], s[3], s[4], s[5], s[6], s[7]]
 }
 
 // A text of another length is a bad fact.
@@ -40,23 +33,23 @@ fn make_from(
 ) -> Result<Meter, Refusal>
     ensures { told result ≡ made_of (facts_of serial.now password.now edition link decimals) account.now clock }
 {
-    if serial.len() != 10 {
+    let Ok(serial) = <[u8; 10]>::try_from(serial) else {
         return Err(state::not_made(edition, decimals));
-    }
-    if account.len() != 10 {
+    };
+    let Ok(account) = <[u8; 10]>::try_from(account) else {
         return Err(state::not_made(edition, decimals));
-    }
-    if password.len() != 8 {
+    };
+    let Ok(password) = <[u8; 8]>::try_from(password) else {
         return Err(state::not_made(edition, decimals));
-    }
+    };
     let facts = Facts {
-        serial: state::setting::ten(serial),
-        password: eight(password),
+        serial,
+        password,
         edition,
         link,
         decimals,
     };
-    state::make(facts, state::setting::ten(account), clock)
+    state::make(facts, account, clock)
 }
 
 // A new meter, or why there is none.

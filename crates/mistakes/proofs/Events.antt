@@ -44,8 +44,7 @@ use Rattle.meter.specs.declared.Event.{Event}
 use Rattle.meter.specs.declared.Event.TheVariants.{Character, Silence, Tick, Pulse, PowerUp, PulseOut, Unknown}
 use Rattle.meter.specs.Life.{event_of, met, refusal, happened}
 use Rattle.settling.specs.Settling.{Heard, heard_as, heard_by, ticked_by, heard_of, settles_by, clock_after, counters_after, exported_after}
-use Rattle.keeping.specs.declared.Shown.{Shown}
-use Rattle.keeping.specs.Shown.{checked_as, shown_as}
+use Rattle.keeping.specs.Shown.{Shown, checked_as, shown_as}
 use Rattle.storing.specs.declared.Reply.{Reply}
 use Rattle.mistakes.specs.Samples.{serial, account, password, twos, new_meter, new_eqm, held_in}
 use Rattle.mistakes.specs.Events.{told, told_all, told_met, short_password, short_tried, signed_on, slow_confirmed, odd_confirmed, slow_entered, fast_left, restarted, hurt, hurt_last, hurt_anew, clock_sent, clock_set, month_ends, no_edition, one_unit, Receiving, Passing, Happening, Settling, Lent, Kept}
@@ -108,7 +107,7 @@ events = (
     stores-no-second = seen (λ (m : Meter). m.registers.clock.time.second) refl;
     stores-in-as-out = seen (λ (m : Meter). m.registers.counters.total) refl;
     says-16-after-12 = seen (λ (h : Heard). h.number) refl;
-    refusal_number = (number refl, number refl);
+    refusal-number = (number refl, number refl);
   },
   record {
     meet_in_place = (seen (λ (r : Reply). r.length) refl, seen (λ (m : Meter). m.receiver.count) refl);

@@ -50,6 +50,6 @@ frames =
       takes-the-bcc-for-the-end = seen (λ (a : Answer). a.number) refl;
       receive-frame-held = (seen (λ (a : Answer). a.next.receiver.count) refl, seen (λ (a : Answer). a.number) refl);
       look = (seen (λ (l : Looked). l.speed) refl, seen (λ (l : Looked). l.receiver.count) refl);
-      refusal_number = (number refl, number refl);
-      refusal_speed = (number refl, number refl);
+      refusal-number = (number refl, number refl);
+      refusal-speed = (number refl, number refl);
     }

@@ -213,7 +213,7 @@ pub record Settling : Type 0 where
   -- 12 for an edition that there is not
   pub says-16-after-12 : RuledOut (settles no_edition 2047 (Character 47)) (refuses (seen_in no_edition) 12)
   -- 14 for an edition that there is not; 16 for a malformed state
-  pub refusal_number : RuledOut (number_of NoEdition) 14 × RuledOut (number_of Malformed) 16
+  pub refusal-number : RuledOut (number_of NoEdition) 14 × RuledOut (number_of Malformed) 16
 
 -- of `firmware`
 pub record Lent : Type 0 where

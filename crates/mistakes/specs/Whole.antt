@@ -43,6 +43,6 @@ pub record Whole : Type 0 where
   -- 17 at speed 0; the last byte to be taken upon an empty receiver
   pub look : RuledOut (looked awaiting reply_room []) (refuses 17 0) × RuledOut (looked awaiting reply_room good_bye) (finishes empty_receiver 113)
   -- 14 for a short buffer; 14 for a slice that is no frame
-  pub refusal_number : RuledOut (number_of ShortBuffer) 14 × RuledOut (number_of (NoFrame 5)) 14
+  pub refusal-number : RuledOut (number_of ShortBuffer) 14 × RuledOut (number_of (NoFrame 5)) 14
   -- the state's speed not said with 17; a speed said with 14
-  pub refusal_speed : RuledOut (speed_of (NoFrame 5)) 0 × RuledOut (speed_of Malformed) 5
+  pub refusal-speed : RuledOut (speed_of (NoFrame 5)) 0 × RuledOut (speed_of Malformed) 5

@@ -19,6 +19,7 @@ use state::{ALL_ROWS, Counters, HELD_PLACES, Meter};
 use values::family;
 
 // What an event that is settled asks of a state, besides what the receiver holds and the tables: a state is too long to be handed on.
+// Stays: mode, mark, edition and family are the numbers that C's record has.
 #[derive(Clone, Copy)]
 pub struct Seen {
     pub mode: u8,
@@ -58,6 +59,7 @@ pub struct Settled {
 }
 
 // Why an event is refused with nothing changed: an edition that there is not, what refuses the event whatever the rest of the state, or a malformed state.
+// Stays: the event's own refusal is the number that the contract of `meter::events::refusal_of` has.
 #[derive(Clone, Copy, PartialEq, Eq)]
 pub enum Refusal {
     NoEdition,
@@ -201,6 +203,7 @@ fn pass(s: Seen, formed: bool, e: Event, room: usize) -> Result<(), Refusal>
     if !values::is_edition(s.edition) {
         return Err(Refusal::NoEdition);
     }
+    // Stays: 0 for none, as the contract of `meter::events::refusal_of` has it.
     let number = events::refusal_of(e, s.family, room);
     if number != 0 {
         return Err(Refusal::Event(number));

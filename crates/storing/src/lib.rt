@@ -16,6 +16,7 @@ use meter::{Acted, acting};
 use state::{ALL_ROWS, Meter, Receiver, closing};
 
 // What is left of an answer once its next state lies in the record.
+// Stays: number, speed and place are what C is handed.
 #[derive(Clone, Copy)]
 pub struct Reply {
     pub number: u8,

@@ -26,7 +26,7 @@ fn is_control(c: u8, b: u8) -> bool
     meter::symbol_of(b) == c
 }
 
-// Whether no byte of a run is this control character.
+// Whether no byte of a run is this control character. Every byte is looked at, with one way out at the end: `all` would leave at each.
 fn has_no(c: u8, s: &[u8]) -> bool
     ensures { result ≡ every (is_not c) s.now }
 {
@@ -206,6 +206,7 @@ fn awaits_frame(mode: u8, count: u8) -> bool
 }
 
 // A frame that comes whole, by what it asks of a state: a state is too long to be handed on.
+// Stays: a public function keeps its parameters.
 pub fn look(
     mode: u8,
     speed: u8,
