@@ -126,6 +126,7 @@ pub fn part_check(stripped: &[u8]) -> Result<(), Refusal>
 }
 
 // The same part where the block has one, and where it is refused the empty part at its start.
+// Stays: `part` of docs/CONTRACTS.md could not fail; `find`, which can, stands beside it.
 pub fn part(stripped: &[u8]) -> &[u8]
     ensures lies { result.ref_ptr ≡ (stripped.entry.ref_ptr.0, (part_of stripped.now).start + stripped.entry.ref_ptr.1) }
     ensures result_value { result.now ≡ take (part_of stripped.now).length (drop (part_of stripped.now).start stripped.now) }
