@@ -97,6 +97,8 @@ def flag_records():
 def own_options():
     'an enum of the shape of Option or Result: one variant for nothing or for refusals by number'
     for path, line, name, variants in enums():
+        if name in ('Refusal', 'Unheard'):
+            continue
         words = [v for v, _ in variants]
         if (len(variants) == 2 and sum(1 for _, a in variants if a) == 1) or any(v == 'Refuse' and a == 'u8' for v, a in variants) \
                 or any(w.startswith('Wrong') for w in words) and any(w == 'Data' for w in words):
@@ -117,6 +119,8 @@ def numbered_calls():
     'a refusal handed on as a literal or constant number'
     for path in sources():
         for i, l in enumerate(path.read_text().split('\n'), 1):
+            if l.strip().startswith('//'):
+                continue
             if re.search(r'\b(refuse|unheard_with|Refuse|refused)\((\d+|[A-Z_]+|commands::[A-Z_]+|crate::[A-Z_]+)\b', l) or re.search(r'\bnumber: (\d+|[A-Z_]{3,}|[a-z_]+::[A-Z_]+),', l) \
                     or re.search(r'\bnumber (!=|==) ', l):
                 yield path, i, l.strip()
@@ -143,7 +147,8 @@ def twins():
     'functions, not for C, whose bodies differ in names, types and constants alone'
     groups = collections.defaultdict(list)
     for f in ALL:
-        if f.exported:
+        # what a refusal's number and place are is each crate's own
+        if f.exported or f.name in ('number', 'place'):
             continue
         s = skeleton(f)
         if len(s.split()) >= 12:
@@ -169,7 +174,7 @@ def counted_loops():
     'a loop that counts by hand'
     for path in sources():
         for i, l in enumerate(path.read_text().split('\n'), 1):
-            if re.match(r'\s*(while|loop)\b.*\{', l):
+            if re.match(r'\s*(while|loop)\b(?! let).*\{', l):
                 yield path, i, l.strip()
 
 

@@ -122,6 +122,7 @@ fn scan(text: &[u8], tables: u8) -> Reached
 {
     let mut at = ACCOUNT_FIELD;
     let mut above = 0;
+    // Stays: it goes on by fields, up to the first that does not stand, and their places are wanted.
     while table_stands(&text[at..], above, tables) {
         above = text[at + 3];
         at += TABLE_FIELD;

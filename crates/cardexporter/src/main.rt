@@ -3,6 +3,7 @@
 // It may be started with the edition, 1 or 2; another word gives `16`, a space, 0 and LF.
 #![tactic(auto)]
 
+// Stays: a program's three steps, each a call; shared with the two like it they would take room, call and answer as parameters.
 fn main(rt: HostRuntime) {
     let mut text = [0u8; 4096];
     let Ok(n) = streams::read_all(&rt, &mut text) else {

@@ -11,6 +11,7 @@ use card::Refusal;
 pub const ROOM: usize = 919;
 
 // Whether a card was shown, or what was told in place of it; and how many bytes of the buffer are to be written.
+// Stays: each has its own crate's refusal, which its definitions name.
 #[derive(Clone, Copy)]
 pub struct Shown {
     pub outcome: Result<(), Refusal>,

@@ -32,6 +32,7 @@ impl Refusal {
 }
 
 // Puts a table's field in its place, the first of them being 0.
+// Stays: how many tables fit is said where they are counted; a type for it would be made by the one caller and taken apart at once.
 fn put_field(out: &mut [u8], rows: &[u8], i: usize)
     requires { (i < 255) × (row_length * i + row_length ≤ length rows.now) × (13 + 28 * i + 28 ≤ length out.old) }
     ensures { out.new ≡ stored out.old (13 + 28 * i) (table_field (entry_at rows.now (i + 1))) }

@@ -95,6 +95,7 @@ fn is_row(s: &[u8]) -> bool
 }
 
 // A line: its start, its content and its end, with parity.
+// Stays: `Room` is that fact's one name already, and speaks of three lent slices.
 fn line_of(buf: &mut [u8], start: &[u8], content: &[u8], end: &[u8]) -> usize
     requires { Room buf.old start.now content.now × (length end.now ≤ 3) }
     ensures { Made buf.old (on_wire (start.now ++ (content.now ++ end.now))) (told (Ok result)) buf.new }

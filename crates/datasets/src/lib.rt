@@ -14,6 +14,7 @@ use clock::{Date, Stamp, Time};
 use values::{Energy, ROW_LENGTH, TableNo, ZoneNo};
 
 // A time as `0.9.1(hh:nn:ss)`.
+// Stays: each data set has a writer of its own between address and bracket; handed over as a closure it would need its whole clause again at each call.
 pub fn put_time_set(buf: &mut [u8], at: usize, time: Time) -> usize
     requires { at + 17 ≤ length buf.old }
     ensures next { result ≡ at + 17 }

@@ -2,6 +2,7 @@
 // and the place; then the meter's rows, a line each.
 #![tactic(auto)]
 
+// Stays: a program's three steps, each a call; shared with the two like it they would take room, call and answer as parameters.
 fn main(rt: HostRuntime) {
     let mut text = [0u8; 4096];
     let Ok(n) = streams::read_all(&rt, &mut text) else {

@@ -38,6 +38,7 @@ fn step(f: Fed, b: u8) -> Fed
 {
     let answer = give(f.next, b);
     Fed {
+        // Stays: `meter::Answer` has its number, see there.
         acknowledged: f.acknowledged + usize::from(answer.number == 1),
         next: answer.next,
     }

@@ -8,6 +8,7 @@ ghost use Rattle.line.specs.Checksum.{bcc_of};
 ghost use Rattle.eights.specs.Lanes.{is_byte, lanes, keeps, paired, evened, unlaned};
 
 // The eight characters from a place on; and all of the text are bytes, which those who take the number apart need.
+// Stays: a public function keeps its parameters; the place is the caller's.
 pub fn eight(s: &[u8], at: usize) -> u64
     requires { at + 8 ≤ length s.now }
     ensures { (result ≡ lanes (take 8 (drop at s.now))) × (every is_byte s.now ≡ true) }

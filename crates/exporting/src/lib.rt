@@ -11,6 +11,7 @@ use export::Refusal;
 pub const ROOM: usize = 900;
 
 // Whether a post was shown, or what was told in place of it; and how many bytes of the buffer are to be written.
+// Stays: each has its own crate's refusal, which its definitions name.
 #[derive(Clone, Copy)]
 pub struct Shown {
     pub outcome: Result<(), Refusal>,

@@ -30,6 +30,7 @@ pub fn find(data: &[u8], address: &[u8]) -> Result<Match, Missed>
 {
     let mut at = 0;
     let mut count = 0;
+    // Stays: it goes from a set to the next, whose place the set itself says.
     loop {
         let set = match reading::next_set(data, at) {
             Ok(Some(set)) => set,

@@ -41,6 +41,7 @@ fn number(ok: bool) -> u8
 }
 
 // A value's characters at the front of a lent buffer, or the buffer kept where it is shorter than they are.
+// Stays: what it gives is what C is handed.
 fn tell(out: &mut [u8], ok: bool, characters: &[u8]) -> u8
     ensures { Tells out.old (length characters.now) ok characters.now result out.new }
 {
@@ -166,6 +167,7 @@ pub extern "C" fn dirgemist_head_value_counter(value: &[u8], wh: &mut u32) -> u8
 }
 
 // What is told of an EQM meter's counter.
+// Stays: a record of the clause of the export below, which C's numbers meet field by field.
 #[derive(Clone, Copy)]
 pub struct Counted {
     pub number: u8,

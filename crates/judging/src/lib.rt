@@ -49,6 +49,7 @@ fn line_value<'a>(opening: &[u8], s: &'a [u8]) -> Option<&'a [u8]>
 }
 
 // The time's line.
+// Stays: lines differ in the reader alone; with the reader handed over, each call would owe what its answer says of the definition.
 fn tells_time(s: &[u8]) -> bool
     ensures { result ≡ tells_time s.now }
 {

@@ -119,6 +119,7 @@ impl Refusal {
 }
 
 // The number of an answer.
+// Stays: `Result` is not this crate's, so that no method of ours can be on it; the refusal has its own.
 pub fn number_of(a: Result<Energy, Refusal>) -> u8
     ensures { result ≡ answer_number a }
 {

@@ -15,6 +15,7 @@ pub const ROOM: usize = 128;
 const REQUEST: usize = 6;
 
 // Whether energy was shown, or what was told in place of it; and how many bytes of the buffer are to be written.
+// Stays: each has its own crate's refusal, which its definitions name.
 #[derive(Clone, Copy)]
 pub struct Shown {
     pub outcome: Result<(), Refusal>,

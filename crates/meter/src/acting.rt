@@ -238,6 +238,7 @@ fn act(m: Meter, d: Deed, reply: &mut [u8]) -> Acted
 }
 
 // A deed done by a well-formed meter.
+// Stays: `well_formed` is the fact's one name; a type of well-formed meters would copy the record of a kilobyte to be made.
 pub fn perform(m: Meter, d: Deed, reply: &mut [u8]) -> Answer
     requires { ((well_formed m ≡ true) × Writable d.writes) × (reply_room ≤ length reply.old) }
     ensures result { result ≡ answer_of (done m d) }

@@ -129,6 +129,7 @@ fn invite(s: Standing, speed: u8) -> Deed
 }
 
 // A line has ended.
+// Stays: what is asked of a `Standing` holds of C's record only where it was tested, and `Facts` is part of that record.
 fn of_line(s: Standing, held: &[u8; HELD_PLACES as usize]) -> Deed
     requires { length s.facts.serial ≡ 10 }
     ensures { result ≡ line_deed s held.now }
@@ -147,6 +148,7 @@ fn of_line(s: Standing, held: &[u8; HELD_PLACES as usize]) -> Deed
 }
 
 // Whether five characters and one more are a confirmation with Y, at 9600 baud or, where the link has it, at 300.
+// Stays: three words of one line, which is taken apart here and nowhere else.
 fn confirms(link: u8, five: &[u8], c: u8, y: u8) -> bool
     ensures { result ≡ confirms link five.now c y }
 {
@@ -178,6 +180,7 @@ fn wants_program(link: u8, five: &[u8], c: u8) -> bool
 }
 
 // The speed identifier of a confirmation's digit.
+// Stays: the C interface: a speed identifier is this number in the record and in the header.
 fn speed_said(v: u8) -> u8
     ensures { result ≡ speed_said v }
 {

@@ -22,6 +22,7 @@ fn character_of(value: u32) -> Event
 }
 
 // The event of a number and a value.
+// Stays: the C interface: an event comes as a kind and a value.
 #[tactic(auto, unfolding(crate::specs::Life::event_of))]
 pub fn event_of(kind: u8, value: u32) -> Event
     ensures { result ≡ event_of kind value }
@@ -37,6 +38,7 @@ pub fn event_of(kind: u8, value: u32) -> Event
     }
 }
 
+// Stays: 0 or the number, as `refusal_of` has it.
 fn room_refusal(room: usize) -> u8
     ensures { result ≡ refusal 0 room Event.Silence }
 {
@@ -81,6 +83,7 @@ fn take_event(m: Meter, e: Event, reply: &mut [u8]) -> Answer
         Event::Pulse(units) => after::pulse(m, false, units),
         Event::PowerUp => after::power_up(m),
         Event::PulseOut(units) => after::pulse(m, true, units),
+        // Stays: 99 is what refused it: no call comes here.
         Event::Unknown => answers::unheard_with(99, m),
     }
 }

@@ -41,6 +41,7 @@ pub enum Event {
 }
 
 // What an event with a reply buffer gives: the number, the reply's length, its speed, with 3 the place of the first damaged character, and the next state.
+// Stays: a refusal of the dialogue has a reply, a speed and a next state as well, so an Err would carry all that an Ok does.
 #[derive(Clone, Copy)]
 pub struct Answer {
     pub number: u8,
@@ -113,6 +114,7 @@ pub struct Deed {
 }
 
 // What is answered, and what is stored of a meter; the tables and the archive follow from what is written.
+// Stays: as `Answer`; the arrays are fields of C's record, and the length is the reply's.
 #[derive(Clone, Copy)]
 pub struct Acted {
     pub number: u8,

@@ -9,6 +9,7 @@ ghost use Rattle.meter.specs.SignOn.{our_line, signs_on_by, closes_by};
 use state::link::is_wired;
 
 // The sign-on that names a serial, but for its LF.
+// Stays: public functions keep their parameters, and the serial of C's record is handed to them as a slice.
 fn our_line(serial: &[u8]) -> [u8; 15]
     requires { length serial.now ≡ 10 }
     ensures { result ≡ our_line serial.now }
@@ -88,6 +89,7 @@ pub fn refuse(link: u8, reply: &mut [u8]) -> usize
 }
 
 // The mode after a refusal.
+// Stays: the C interface: a mode is this number in the record.
 pub fn fall(link: u8, mode: u8) -> u8
     ensures { result ≡ after_refusal link mode }
 {

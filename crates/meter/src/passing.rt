@@ -8,6 +8,7 @@ use crate::{Answer, Unheard, after, answers};
 use state::Meter;
 
 // One second has passed.
+// Stays: it and `power_up` share the guard, and what is left of each is the call that differs.
 pub fn pass_second(m: Meter) -> Answer
     ensures { result ≡ answer_of (tick m) }
 {

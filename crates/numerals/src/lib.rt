@@ -6,6 +6,7 @@ ghost use Rattle.text.specs.Writing.{stored};
 ghost use Rattle.numerals.specs.Numerals.{width_of, digits_of, number_line};
 
 // How many digits a number is written in.
+// Stays: a rule of the project: no heap. The digits go into a lent buffer, each byte promised, which `write!` to a String would not do.
 fn width(n: u64) -> usize
     ensures { result ≡ width_of n }
 {

@@ -54,6 +54,7 @@ pub struct Reached {
 
 // Whether the character in a column of the line at a place is one that the column may hold. The bounds are lent, so that a loop has
 // them at hand.
+// Stays: bounds that are lent and not constants, so that a loop has them at hand; a type for two lent arrays would be read through twice.
 fn column_fits(low: &[u8; 36], high: &[u8; 36], text: &[u8], at: usize, j: usize) -> bool
     requires { (low.now ≡ lowest) × (high.now ≡ highest) × (j < 36) × (at + j < length text.now) }
     ensures { result ≡ column_fits (drop at text.now) j }
@@ -106,6 +107,7 @@ fn stray_in(
 }
 
 // The first column of the 36 from a place on that strays; 36 where they are a line's, but for the value of its number.
+// Stays: a whole line at a place of the text: a slice of 36 for it would be taken apart into its windows at once.
 fn stray_at(text: &[u8], at: usize) -> usize
     requires { at + 36 ≤ length text.now }
     ensures { FirstStray (drop at text.now) result }
@@ -165,6 +167,7 @@ fn next_number(text: &[u8], at: usize, stray: usize, above: u8, tables: u8) -> O
 }
 
 // Goes over the lines that stand one below the other with rising numbers.
+// Stays: `check_of` asks it of its callers, and a public function keeps its parameters.
 fn scan(text: &[u8], tables: u8) -> Reached
     requires { tables < 100 }
     ensures { Scanned tables text.now result.at result.above result.stray }

@@ -107,6 +107,7 @@ pub fn last_held(r: Receiver) -> u8
 }
 
 // The last of so many characters that are held.
+// Stays: the characters and their count are fields of C's record, lent apart.
 pub fn last_in(held: &[u8; HELD_PLACES as usize], count: u8) -> u8
     ensures { result ≡ get_or held.now (count - 1) 0 }
 {

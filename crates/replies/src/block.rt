@@ -65,6 +65,7 @@ fn put_directions(
 }
 
 // So many tables, from 01 on.
+// Stays: a number of tables is an edition's, which public functions take as a number.
 fn put_tables(buf: &mut [u8], at: usize, rows: &[u8; ALL_ROWS], tables: u8) -> usize
     requires { (at + tables * 36 ≤ length buf.old) × (tables ≤ table_places) }
     ensures next { result ≡ at + tables * 36 }
@@ -80,6 +81,7 @@ fn put_tables(buf: &mut [u8], at: usize, rows: &[u8; ALL_ROWS], tables: u8) -> u
 }
 
 // All of these.
+// Stays: as `long_start`, which hands them on.
 pub fn put_sets(buf: &mut [u8], at: usize, p: Plain, rows: &[u8; ALL_ROWS], tables: u8) -> usize
     requires { (tables ≤ table_places) × (at + 313 + tables * 36 ≤ length buf.old) }
     ensures next { result ≡ at + length (lines_of (block_sets tables (without_archive p rows.now))) }

@@ -106,6 +106,7 @@ pub fn ask_password(buf: &mut [u8]) -> usize
 }
 
 // The answer to R1.
+// Stays: STX, what the reply holds, and the seal: with the middle handed over, its clause would stand at each call.
 pub fn answer(buf: &mut [u8], p: Plain, rows: &[u8; ALL_ROWS], a: Ask) -> usize
     requires { reply_room ≤ length buf.old }
     ensures whole { result ≡ length (block_of (asked_data (without_archive p rows.now) a)) }
@@ -128,6 +129,7 @@ pub fn data_block(buf: &mut [u8], p: Plain, rows: &[u8; ALL_ROWS], tables: u8) -
 }
 
 // The start of the block with the closed periods: STX and the sets before them, without parity.
+// Stays: a public function keeps its parameters; `Plain` is what of the registers is small, and the rest is lent beside it.
 pub fn long_start(buf: &mut [u8], p: Plain, rows: &[u8; ALL_ROWS], tables: u8) -> usize
     requires { (tables ≤ table_places) × (reply_room ≤ length buf.old) }
     ensures next { result ≡ length (long_start tables (without_archive p rows.now)) }

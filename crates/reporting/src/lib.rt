@@ -16,6 +16,7 @@ use state::{ALL_ROWS, Facts, Meter};
 use values::ROW_LENGTH;
 
 // Whether a post was delivered, or what was told in place of it; and how many bytes of the buffer are to be written.
+// Stays: each has its own crate's refusal, which its definitions name.
 #[derive(Clone, Copy)]
 pub struct Said {
     pub outcome: Result<(), Refusal>,

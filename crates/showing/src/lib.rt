@@ -91,6 +91,7 @@ fn show_sets(sets: &[u8], out: &mut [u8]) -> Written
 {
     let mut at = 0;
     let mut to = 0;
+    // Stays: it goes from a set to the next, whose place the set itself says.
     loop {
         let set = match reading::next_set(sets, at) {
             Ok(Some(set)) => set,

@@ -40,6 +40,7 @@ pub const PERIODS: usize = 12;
 
 // What was received of a line or frame so far; the mark is 1 where damage was seen, else 0, and the place is that of the first damaged character, or 0.
 // The count comes first, so that a meter's held characters start at a whole word.
+// Stays: the C interface: hosts lend this record.
 #[repr(C)]
 #[derive(Clone, Copy)]
 pub struct Receiver {
@@ -167,6 +168,7 @@ fn hurt_good(count: u8, mark: u8, place: u8) -> bool
 }
 
 // Whether the places from the count on, up to a whole word, hold 0.
+// Stays: the count is C's, beside the characters that it counts, and is below the limit only where `limit_of` was tested.
 fn part_unused(held: &[u8; HELD_PLACES as usize], count: u8) -> bool
     requires { count ≤ most_held }
     ensures { result ≡ every (between 0 0) (drop (count % 4) (take 4 (drop (count - count % 4) held.now))) }

@@ -17,6 +17,7 @@ pub fn is_wired(link: u8) -> bool
 }
 
 // The speed identifier where no session has one of its own.
+// Stays: the C interface: a speed identifier is this number in the record.
 pub fn rest_speed(link: u8) -> u8
     ensures { result ≡ rest_speed link }
 {

@@ -28,6 +28,7 @@ pub fn small_good(
 }
 
 // Whether a receiver with these fields is well-formed in a mode.
+// Stays: the fields of C's record, lent apart so that none of it is copied.
 fn receiver_good(
     mode: u8,
     count: u8,
@@ -49,6 +50,7 @@ fn receiver_good(
 }
 
 // The receiver's characters, and those of the tables of an edition.
+// Stays: a public function keeps its parameters.
 pub fn runs_good<'a>(
     mode: u8,
     count: u8,

@@ -20,6 +20,7 @@ pub fn empty_receiver() -> Receiver
 }
 
 // These characters, so many of them.
+// Stays: a setter names its fields; the like of it sets others.
 pub fn with_held(r: Receiver, held: [u8; HELD_PLACES as usize], count: u8) -> Receiver
     ensures { result ≡ with_held r held count }
 {

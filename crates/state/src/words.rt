@@ -5,6 +5,7 @@ ghost use Rattle.text.specs.Classes.{between, is_digit};
 ghost use Rattle.state.specs.Fours.{four_of, ones, in_row, in_seven};
 
 // The first is the lowest, so that the compiler makes one load of four neighbours.
+// Stays: the law of four (`four_of`) is about this sum; the compiler makes one load of it as of `from_le_bytes`.
 pub fn four(a: u8, b: u8, c: u8, d: u8) -> u32
     ensures { result ≡ four_of a b c d }
 {

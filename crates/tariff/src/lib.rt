@@ -25,6 +25,7 @@ pub fn table_for(edition: u8, d: Date) -> TableNo
 }
 
 // The zone that the day's table names for the hour; a character below '0' stands for none.
+// Stays: a public function keeps its parameters; that the clock is real is said of the whole record.
 pub fn zone_at(rows: &[u8], edition: u8, c: Clock) -> ZoneNo
     requires { c.date.month ≤ 12 }
     ensures { result.0 ≡ zone_at rows.now edition c }
@@ -67,6 +68,7 @@ pub fn count(c: Counters, zone: ZoneNo, units: u32, end: u32) -> Counters
 }
 
 // The registers after a pulse of what comes in.
+// Stays: a direction is two fields of C's record; as a parameter it would be tested again for each of them.
 pub fn count_in(g: Registers, units: u32) -> Registers
     requires { ((g.clock.date.month ≤ 12) × (counters_good (counter_end (family_in g)) g.counters ≡ true)) × (units ≤ 1000000) }
     ensures { result ≡ counted_in g units }

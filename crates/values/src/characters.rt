@@ -61,6 +61,7 @@ pub fn read_serial(s: &[u8]) -> Option<[u8; 10]>
 }
 
 // Ten characters, copied.
+// Stays: a public function keeps its parameters.
 pub fn ten_of(s: &[u8]) -> [u8; 10]
     requires { length s.now ≡ 10 }
     ensures { result ≡ s.now }

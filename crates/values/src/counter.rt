@@ -13,6 +13,7 @@ pub struct Form {
 }
 
 // The first eight characters of a family's counters: `######.#`, `#####.##` or `####.###`.
+// Stays: a table of forms, as `last_of` is another.
 fn first_of(family: u8) -> Form
     ensures { result ≡ first_form family }
 {

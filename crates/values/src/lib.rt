@@ -23,6 +23,7 @@ pub struct TableNo(pub u8);
 pub struct ZoneNo(pub u8);
 
 // An energy: the total, or a zone's.
+// Stays: as an Option the total would be None, and say nothing.
 #[derive(Clone, Copy)]
 pub enum Energy {
     Total,
@@ -54,6 +55,7 @@ pub fn tables_of(edition: u8) -> u8
 }
 
 // The number that stands for an energy in asks and addresses: 0 is the total.
+// Stays: the clauses and their theorems name it; `u8::from(e)` would not say which number of an energy.
 pub fn energy_no(e: Energy) -> u8
     ensures { result ≡ energy_no e }
 {

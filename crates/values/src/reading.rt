@@ -50,6 +50,7 @@ fn date_of(t: Three) -> Option<Date>
 }
 
 // A date from `yy-mm-dd`, of 20yy.
+// Stays: it and `read_time` differ in form, reader and type, which a shared function would all take.
 pub fn read_date(s: &[u8]) -> Option<Date>
     ensures { date_found result ≡ date_read s.now }
 {
