@@ -72,7 +72,7 @@ pub extern "C" fn dirgemist_head_value_account(value: &[u8], out: &mut [u8]) -> 
     if value.len() != 10 {
         return tell(out, false, &[0u8; 10]);
     }
-    let account = values::characters::ten_of(value);
+    let account: [u8; 10] = values::characters::array_of(value);
     if values::is_whole_account(&account) {
         return tell(out, true, &account);
     }
@@ -87,7 +87,7 @@ pub extern "C" fn dirgemist_head_value_row(value: &[u8], out: &mut [u8]) -> u8
     if value.len() != values::ROW_LENGTH {
         return tell(out, false, &[0u8; 24]);
     }
-    let row = values::characters::row_of(value);
+    let row: [u8; 24] = values::characters::array_of(value);
     if values::is_row(&row) {
         return tell(out, true, &row);
     }

@@ -1,6 +1,5 @@
 // Serial, account and row read back from their texts to the characters that made them; nothing where a text has not their form.
 ghost use Rattle.std.specs.Prelude.{◌≡◌, true, ◌++◌, length, take, drop};
-ghost use Rattle.values.specs.Edition.{row_length};
 ghost use Rattle.text.specs.Layout.{pattern, fits};
 ghost use Rattle.eights.specs.Lanes.{lanes};
 ghost use Rattle.values.specs.Serials.{serial_form, serial_found, account_found, row_found, serial_read, account_read, row_read};
@@ -60,14 +59,13 @@ pub fn read_serial(s: &[u8]) -> Option<[u8; 10]>
     None
 }
 
-// Ten characters, copied.
-// Stays: a public function keeps its parameters.
-pub fn ten_of(s: &[u8]) -> [u8; 10]
-    requires { length s.now ≡ 10 }
+// A text of so many characters, copied.
+pub fn array_of<const N: usize>(s: &[u8]) -> [u8; N]
+    requires { length s.now ≡ N }
     ensures { result ≡ s.now }
 {
-    let mut copy = [0u8; 10];
-    text::put(&mut copy, 0, s);
+    let mut copy = [0; N];
+    copy.copy_from_slice(s);
     copy
 }
 
@@ -79,19 +77,9 @@ pub fn read_account(s: &[u8]) -> Option<[u8; 10]>
         return None;
     }
     if crate::is_whole_account(s) {
-        return Some(ten_of(s));
+        return Some(array_of(s));
     }
     None
-}
-
-// A row's characters, copied.
-pub fn row_of(s: &[u8]) -> [u8; crate::ROW_LENGTH]
-    requires { length s.now ≡ row_length }
-    ensures { result ≡ s.now }
-{
-    let mut copy = [0u8; crate::ROW_LENGTH];
-    text::put(&mut copy, 0, s);
-    copy
 }
 
 // A table's row, as it stands.
@@ -102,7 +90,7 @@ pub fn read_row(s: &[u8]) -> Option<[u8; crate::ROW_LENGTH]>
         return None;
     }
     if crate::is_row(s) {
-        return Some(row_of(s));
+        return Some(array_of(s));
     }
     None
 }

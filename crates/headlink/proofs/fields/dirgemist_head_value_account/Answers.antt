@@ -13,9 +13,9 @@ returns-then-value-ne10 c =
 pub returns-then-is_whole_account : goal.returns-then-is_whole_account
 returns-then-is_whole_account c =
     let s = c.args.value.now in
-    account-told _ _ _ s _ (ap good_account (sym c.ten_of-account.ensures) ∙ sym c.is_whole_account.ensures ∙ c.if-is_whole_account.true) c.ten_of-account.ensures c.tell-then-is_whole_account.ensures
+    account-told _ _ _ s _ (ap good_account (sym c.array_of-account.ensures) ∙ sym c.is_whole_account.ensures ∙ c.if-is_whole_account.true) c.array_of-account.ensures c.tell-then-is_whole_account.ensures
 
 pub returns : goal.returns
 returns c =
     let s = c.args.value.now in
-    account-untold _ _ _ s (ap good_account (sym c.ten_of-account.ensures) ∙ sym c.is_whole_account.ensures ∙ c.if-is_whole_account.false) c.tell-2.ensures
+    account-untold _ _ _ s (ap good_account (sym c.array_of-account.ensures) ∙ sym c.is_whole_account.ensures ∙ c.if-is_whole_account.false) c.tell-2.ensures

@@ -13,9 +13,9 @@ returns-then-value-ne-ROW_LENGTH c =
 pub returns-then-is_row : goal.returns-then-is_row
 returns-then-is_row c =
     let s = c.args.value.now in
-    row_told _ _ _ s _ (ap good_row (sym c.row_of-row.ensures) ∙ sym c.is_row.ensures ∙ c.if-is_row.true) c.row_of-row.ensures c.tell-then-is_row.ensures
+    row_told _ _ _ s _ (ap good_row (sym c.array_of-row.ensures) ∙ sym c.is_row.ensures ∙ c.if-is_row.true) c.array_of-row.ensures c.tell-then-is_row.ensures
 
 pub returns : goal.returns
 returns c =
     let s = c.args.value.now in
-    row-untold _ _ _ s (ap good_row (sym c.row_of-row.ensures) ∙ sym c.is_row.ensures ∙ c.if-is_row.false) c.tell-2.ensures
+    row-untold _ _ _ s (ap good_row (sym c.array_of-row.ensures) ∙ sym c.is_row.ensures ∙ c.if-is_row.false) c.tell-2.ensures

@@ -9,7 +9,7 @@ returns-then-s-ne10 c = rw (no-account c.args.s.now c.if-s-ne10.true)
 
 pub returns-then-is_whole_account : goal.returns-then-is_whole_account
 unfolding account_read
-returns-then-is_whole_account c = rw (← c.is_whole_account.ensures, c.if-is_whole_account.true, c.ten_of.ensures)
+returns-then-is_whole_account c = rw (← c.is_whole_account.ensures, c.if-is_whole_account.true, c.array_of.ensures)
 
 pub returns : goal.returns
 unfolding account_read

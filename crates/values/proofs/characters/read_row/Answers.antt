@@ -9,7 +9,7 @@ returns-then-s-ne-ROW_LENGTH c = rw (no_row c.args.s.now c.if-s-ne-ROW_LENGTH.tr
 
 pub returns-then-is_row : goal.returns-then-is_row
 unfolding row_read
-returns-then-is_row c = rw (← c.is_row.ensures, c.if-is_row.true, c.row_of.ensures)
+returns-then-is_row c = rw (← c.is_row.ensures, c.if-is_row.true, c.array_of.ensures)
 
 pub returns : goal.returns
 unfolding row_read
