@@ -31,7 +31,7 @@ use Rattle.cardwriting.proofs.Writing.{answers-14, answers-41}
 use Rattle.mistakes.specs.Samples.{account, twos, new_meter}
 use Rattle.mistakes.specs.Posts.{entry, one, ready}
 use Rattle.mistakes.proofs.Sending.{ready-formed}
-use Rattle.mistakes.specs.Cards.{sample, swapped, second_account, equal_numbers, from_zero, low_byte_first, Cards, CardsWritten}
+use Rattle.mistakes.specs.Cards.{sample, swapped, second_account, equal_numbers, from_zero, low_byte_first, Cards, CardRefusals, WriterRefusals, CardsWritten}
 
 -- what the texts come to
 record Computed : Type 0 where
@@ -179,6 +179,12 @@ unfolding ReadAs
 card-refused tables text out after size place p (inl x) = omega (arith, x.done)
 card-refused tables text out after size place p (inr (inl x)) = omega (arith, x.refused)
 card-refused tables text out after size place p (inr (inr x)) = x.no-card p
+
+pub card-refusals : CardRefusals
+card-refusals = record { number = (λ e. omega (arith, e), λ e. omega (arith, e)); place = (λ e. omega (arith, e), λ e. omega (arith, e)) }
+
+pub writer-refusals : WriterRefusals
+writer-refusals = record { number = (λ e. omega (arith, e), λ e. omega (arith, e)) }
 
 pub cards : Cards
 cards =

@@ -30,7 +30,7 @@ use Rattle.export.specs.Frames.{entry_frame, frames_of, Done, NoRoom, NoPost, Ex
 use Rattle.facts.proofs.Facts.{facts}
 use Rattle.mistakes.specs.Samples.{twos}
 use Rattle.mistakes.specs.Commands.{broken}
-use Rattle.mistakes.specs.Posts.{entry, one, two, twice, bracketed, last_alone, Checks, Exports}
+use Rattle.mistakes.specs.Posts.{entry, one, two, twice, bracketed, last_alone, Checks, Exports, PostRefusals, ExportRefusals}
 
 -- a text whose first line is none
 pub strays : (tables : ℕ) (text : List ℕ) → tables < 100 → next_number tables 0 text ≡ 0 → IsPost tables text → ⊥
@@ -131,6 +131,12 @@ checks =
       check-lines = (accepted-other 24 twice 0 no-twice, accepted-other 24 bracketed 0 (strays 24 bracketed few computed.broken-line));
       check_of = (accepted-other 6 (post_text one) 0 no-high, λ place. refused_post 7 (post_text one) place (post-of 7 one computed.good-of-7));
     }
+
+pub post-refusals : PostRefusals
+post-refusals = record { number = (λ e. omega (arith, e), λ e. omega (arith, e)); place = (λ e. omega (arith, e), λ e. omega (arith, e)) }
+
+pub export-refusals : ExportRefusals
+export-refusals = record { number = (λ e. omega (arith, e), λ e. omega (arith, e)); place = (λ e. omega (arith, e), λ e. omega (arith, e)) }
 
 -- what an export with each number promises
 module _ (tables : ℕ) (text out : List ℕ) (size place : ℕ) (after : List ℕ) where

@@ -6,6 +6,10 @@ use Rattle.card.specs.Place.{CheckedAs}
 use Rattle.card.specs.Frames.{ReadAs}
 use Rattle.replies.specs.Shown.{row_of}
 use Rattle.post.specs.Grammar.{Entry}
+use Rattle.card.specs.Refusals as refused
+use Rattle.card.specs.declared.Refusal.TheVariants as card
+use Rattle.cardwriting.specs.Writing as written
+use Rattle.cardwriting.specs.declared.Refusal.TheVariants as writer
 use Rattle.cardwriting.specs.Writing.{card_of, written_in, written_to}
 use Rattle.mistakes.specs.RuledOut.{RuledOut}
 use Rattle.mistakes.specs.Samples.{account, twos}
@@ -45,6 +49,18 @@ pub record Cards : Type 0 where
   -- table 7 of 6 read; table 7 of 7 refused
   pub read_of : ((size place : ℕ) (after : List ℕ) → ReadAs 6 sample (replicate 55 0) 1 size place after → ⊥)
       × ((size place : ℕ) (after : List ℕ) → ReadAs 7 sample (replicate 55 0) 40 size place after → ⊥)
+
+-- of `card::Refusal`
+pub record CardRefusals : Type 0 where
+  -- a buffer that is too short told as a text that is no card, and the other way about
+  pub number : RuledOut (refused.refusal_number card.NoRoom) 40 × RuledOut (refused.refusal_number (card.NoCard 5)) 41
+  -- place 0 for a text that strays further on; a place of a buffer that is too short
+  pub place : RuledOut (refused.refusal_place (card.NoCard 5)) 0 × RuledOut (refused.refusal_place card.NoRoom) 1
+
+-- of `cardwriting::Refusal`
+pub record WriterRefusals : Type 0 where
+  -- a malformed state told as a buffer that is too short, and as an edition that there is not
+  pub number : RuledOut (written.refusal_number writer.Malformed) 41 × RuledOut (written.refusal_number writer.Malformed) 16
 
 -- so many tables from this number on, each with the row of the next
 unfoldable pub from_zero : ℕ → ℕ → List ℕ → List Entry

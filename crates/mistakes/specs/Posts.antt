@@ -5,6 +5,10 @@ use Rattle.state.specs.declared.Meter.{Meter}
 use Rattle.state.specs.Setting.{in_mode, with_attempts}
 use Rattle.post.specs.Grammar.{Entry, line_text, post_text}
 use Rattle.post.specs.Place.{CheckedAs}
+use Rattle.post.specs.Refusals as checked
+use Rattle.post.specs.declared.Refusal.TheVariants as check
+use Rattle.export.specs.Refusals as exported
+use Rattle.export.specs.declared.Refusal.TheVariants as export
 use Rattle.export.specs.Frames.{frames_of, ExportedAs}
 use Rattle.dialogue.specs.Feeding.{answered, left, full}
 use Rattle.delivery.specs.Acknowledged.{acknowledgements}
@@ -61,6 +65,20 @@ pub record Exports : Type 0 where
   -- table 7 of 6 exported; table 7 of 7 refused
   pub export_of : ((size place : ℕ) (after : List ℕ) → ExportedAs 6 (post_text one) (replicate 36 0) 1 size place after → ⊥)
       × ((size place : ℕ) (after : List ℕ) → ExportedAs 7 (post_text one) (replicate 36 0) 20 size place after → ⊥)
+
+-- of `post::Refusal`
+pub record PostRefusals : Type 0 where
+  -- the number of an edition that there is not, and the other way about
+  pub number : RuledOut (checked.refusal_number (check.NoPost 37)) 16 × RuledOut (checked.refusal_number check.NoEdition) 20
+  -- place 0 for a text that strays further on; a place of an edition that there is not
+  pub place : RuledOut (checked.refusal_place (check.NoPost 37)) 0 × RuledOut (checked.refusal_place check.NoEdition) 1
+
+-- of `export::Refusal`
+pub record ExportRefusals : Type 0 where
+  -- a buffer that is too short told as a text that is no post, and the other way about
+  pub number : RuledOut (exported.refusal_number export.NoRoom) 20 × RuledOut (exported.refusal_number (export.NoPost 37)) 21
+  -- place 0 for a text that strays further on; a place of a buffer that is too short
+  pub place : RuledOut (exported.refusal_place (export.NoPost 37)) 0 × RuledOut (exported.refusal_place export.NoRoom) 1
 
 -- in programming mode
 abbrev pub ready : Meter
