@@ -6,20 +6,13 @@ ghost use Rattle.card.specs.Refusals.{answer_number};
 ghost use Rattle.cardexporting.specs.Shown.{ShownFor};
 
 use card::Refusal;
+use numerals::Shown;
 
 // Room for the frames of any card, of 25 tables.
 pub const ROOM: usize = 919;
 
-// Whether a card was shown, or what was told in place of it; and how many bytes of the buffer are to be written.
-// Stays: each has its own crate's refusal, which its definitions name.
-#[derive(Clone, Copy)]
-pub struct Shown {
-    pub outcome: Result<(), Refusal>,
-    pub length: usize,
-}
-
 // For an edition; of one that there is not, `16`, a space, 0 and LF.
-pub fn show(edition: u8, text: &[u8], out: &mut [u8]) -> Shown
+pub fn show(edition: u8, text: &[u8], out: &mut [u8]) -> Shown<Refusal>
     requires { 919 ≤ length out.old }
     ensures shown_for { ShownFor edition text.now out.old (answer_number result.outcome) result.length out.new }
     ensures within { (result.length ≤ length out.new) × (result.length ≡ length (take result.length out.new)) }

@@ -4,12 +4,12 @@ use Rattle.std.specs.Result.{result_and}
 use Rattle.line.specs.Controls.{LF}
 use Rattle.line.specs.Quoted.{chars}
 use Rattle.text.specs.Writing.{holding}
+use Rattle.numerals.specs.declared.Shown.{Shown}
 use Rattle.numerals.specs.Numerals.{digits_of, number_line}
 use Rattle.mercury.specs.declared.answering.Energy.{Energy}
 use Rattle.mercury.specs.declared.answering.Refusal.{Refusal}
 use Rattle.mercury.specs.declared.answering.Refusal.TheVariants.{Status, WrongLength, WrongCrc, OtherAddress}
 use Rattle.mercury.specs.Answering.{Quantity, Answer, read_of, answer_number}
-use Rattle.mercuryshow.specs.declared.Shown.{Shown}
 
 -- a number, or `-` where nothing was measured
 unfoldable pub quantity_text : Quantity → List ℕ
@@ -43,7 +43,7 @@ shown_number (Ok done) = 1
 shown_number (Err refusal) = answer_number (Err refusal)
 
 -- a buffer begins with the text and is kept past it; whether energy was shown, and by that its number, and its length
-pub record Shows (capture out : List ℕ) (r : Shown) (after : List ℕ) : Type 0 where
+pub record Shows (capture out : List ℕ) (r : Shown Refusal) (after : List ℕ) : Type 0 where
   pub outcome : r.outcome ≡ result_and (exchange_read capture) (Ok (tt {0}))
   pub number : shown_number r.outcome ≡ answer_number (exchange_read capture)
   pub long : r.length ≡ length (answer_text (exchange_read capture))

@@ -7,20 +7,13 @@ ghost use Rattle.text.specs.Writing.{stored};
 ghost use Rattle.mercuryshow.specs.Shown.{quantity_text, quantity_line, energy_text, answer_text, Shows};
 
 use mercury::answering::{Energy, Refusal};
+use numerals::Shown;
 
 // Room for what is shown.
 pub const ROOM: usize = 128;
 
 // A capture begins with the request.
 const REQUEST: usize = 6;
-
-// Whether energy was shown, or what was told in place of it; and how many bytes of the buffer are to be written.
-// Stays: each has its own crate's refusal, which its definitions name.
-#[derive(Clone, Copy)]
-pub struct Shown {
-    pub outcome: Result<(), Refusal>,
-    pub length: usize,
-}
 
 // Puts a quantity into a buffer from a place on, and gives the place after it.
 fn put_quantity(out: &mut [u8], at: usize, q: Option<u32>) -> usize
@@ -73,7 +66,7 @@ fn put_answer(out: &mut [u8], a: Result<Energy, Refusal>) -> usize
 }
 
 // What a capture shows: the request as it was sent, six bytes, of which the address is looked at, and then the answer.
-pub fn show(capture: &[u8], out: &mut [u8]) -> Shown
+pub fn show(capture: &[u8], out: &mut [u8]) -> Shown<Refusal>
     requires { 128 ≤ length out.old }
     ensures shows { Shows capture.now out.old result out.new }
     ensures within { (result.length ≤ length out.new) × (result.length ≡ length (take result.length out.new)) }

@@ -1,11 +1,12 @@
 -- Two wrong answers for each call of the Mercury family.
 use Rattle.std.specs.Prelude.{Some, None, Ok, Err, true, List, [], ◌∷◌, ◌++◌, ℕ, get_or, take}
+use Rattle.numerals.specs.declared.Shown.{Shown}
 use Rattle.crc.specs.Crc.{crc_of, checks}
 use Rattle.mercury.specs.declared.answering.Energy.{Energy}
+use Rattle.mercury.specs.declared.answering.Refusal.{Refusal}
 use Rattle.mercury.specs.declared.answering.Refusal.TheVariants.{Status, WrongLength, WrongCrc, OtherAddress}
 use Rattle.mercury.specs.Asking.{Asked, good_fields, request_of, Asks}
 use Rattle.mercury.specs.Answering.{Quantity, read_of, answer_number, answer_code, answer_of, status_of}
-use Rattle.mercuryshow.specs.declared.Shown.{Shown}
 use Rattle.mercuryshow.specs.Shown.{Shows}
 use Rattle.mistakes.specs.RuledOut.{RuledOut}
 
@@ -55,4 +56,4 @@ pub record Answering : Type 0 where
 -- of `mercuryshow`
 pub record Showing : Type 0 where
   -- an empty capture as done; nothing shown of it
-  pub show : ((after : List ℕ) → Shows [] [] (record { outcome = Ok (tt {0}); length = 0 }) after → ⊥) × ((r : Shown) → Shows [] [] r [] → ⊥)
+  pub show : ((after : List ℕ) → Shows [] [] (record { outcome = Ok (tt {0}); length = 0 }) after → ⊥) × ((r : Shown Refusal) → Shows [] [] r [] → ⊥)

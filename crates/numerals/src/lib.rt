@@ -1,9 +1,16 @@
-// Numbers as a program shows them: in decimal, without leading zeros; and a line of two.
+// Numbers as a program shows them: in decimal, without leading zeros; and a line of two. What a program shows, by its outcome and its length.
 #![tactic(auto)]
 
 ghost use Rattle.std.specs.Prelude.{◌≡◌, ◌+◌, ◌≤◌, length};
 ghost use Rattle.text.specs.Writing.{stored};
 ghost use Rattle.numerals.specs.Numerals.{width_of, digits_of, number_line};
+
+// Whether what a program was given was shown, or what was told in place of it; and how many bytes of the buffer are to be written.
+#[derive(Clone, Copy)]
+pub struct Shown<E> {
+    pub outcome: Result<(), E>,
+    pub length: usize,
+}
 
 // How many digits a number is written in.
 // Stays: a rule of the project: no heap. The digits go into a lent buffer, each byte promised, which `write!` to a String would not do.

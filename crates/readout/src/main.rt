@@ -4,7 +4,8 @@
 
 ghost use Rattle.std.specs.Prelude.{◌≡◌, ◌≤◌, length, take};
 
-use showing::Written;
+use numerals::Shown;
+use showing::Refusal;
 use std::rt::Env;
 
 // The place of the address among a program's words, behind its own name.
@@ -14,7 +15,7 @@ const ADDRESS: usize = 1;
 const BEYOND: usize = 2;
 
 // What is shown of a reply. A longer address is kept as one of no characters, which no set has either (`unfit-shown`).
-fn shown(rt: &impl Env, reply: &[u8], out: &mut [u8]) -> Written
+fn shown(rt: &impl Env, reply: &[u8], out: &mut [u8]) -> Shown<Refusal>
     requires { 4138 ≤ length out.old }
     ensures within { (result.length ≤ length out.new) × (result.length ≡ length (take result.length out.new)) }
 {
@@ -38,5 +39,5 @@ fn main(rt: HostRuntime) {
     };
     let mut out = [0u8; 4138];
     let shown = shown(&rt, &wire[..n], &mut out);
-    streams::write_once(&rt, &out[..shown.length], shown.refusal.is_none());
+    streams::write_once(&rt, &out[..shown.length], shown.outcome.is_ok());
 }

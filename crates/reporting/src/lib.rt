@@ -12,16 +12,9 @@ ghost use Rattle.reporting.specs.Report.{new_meter, opened_meter, row_lines, Sho
 
 use clock::{Clock, Date, Time};
 use export::Refusal;
+use numerals::Shown;
 use state::{ALL_ROWS, Facts, Meter};
 use values::ROW_LENGTH;
-
-// Whether a post was delivered, or what was told in place of it; and how many bytes of the buffer are to be written.
-// Stays: each has its own crate's refusal, which its definitions name.
-#[derive(Clone, Copy)]
-pub struct Said {
-    pub outcome: Result<(), Refusal>,
-    pub length: usize,
-}
 
 // A meter of an edition, else as the blank one.
 fn new_meter(edition: u8) -> Meter
@@ -92,18 +85,18 @@ fn put_report(out: &mut [u8], number: u8, behind: usize, m: Meter) -> usize
     put_rows(out, at, &rows, tables)
 }
 
-pub fn report(edition: u8, text: &[u8], out: &mut [u8]) -> Said
+pub fn report(edition: u8, text: &[u8], out: &mut [u8]) -> Shown<Refusal>
     requires { 667 ≤ length out.old }
     ensures shows_report { ShowsReport edition text.now out.old (answer_number result.outcome) result.length out.new }
     ensures within { (result.length ≤ length out.new) × (result.length ≡ length (take result.length out.new)) }
 {
     let before = opened(edition);
     match delivery::deliver(before, text) {
-        Ok(fed) => Said {
+        Ok(fed) => Shown {
             outcome: Ok(()),
             length: put_report(out, 1, fed.acknowledged, fed.next),
         },
-        Err(refusal) => Said {
+        Err(refusal) => Shown {
             outcome: Err(refusal),
             length: put_report(out, refusal.number(), refusal.place(), before),
         },

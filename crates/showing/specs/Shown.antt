@@ -1,19 +1,19 @@
 -- What is shown of a captured reply, and nothing more: each data set of its block on a line, or the first with an address; for a refusal
 -- its number and the place.
-use Rattle.std.specs.Prelude.{◌≡◌, cond, List, [], ◌∷◌, ◌++◌, map, ℕ, eqb, length, take, drop, replicate, Option, Some, None}
+use Rattle.std.specs.Prelude.{◌≡◌, cond, List, [], ◌∷◌, ◌++◌, map, ℕ, eqb, length, take, drop, replicate, Option, Some, None, Result, Ok, Err}
 use Rattle.std.specs.Borrow.{Bor}
 use Rattle.line.specs.Characters.{seven}
 use Rattle.line.specs.Controls.{LF}
 use Rattle.line.specs.Quoted.{chars}
 use Rattle.text.specs.DataSet.{DataSet}
 use Rattle.text.specs.Writing.{holding}
+use Rattle.numerals.specs.declared.Shown as numerals
 use Rattle.numerals.specs.Numerals.{number_line}
 use Rattle.blocks.specs.Parts.{part_of}
 use Rattle.blocks.specs.Stripping.{stripped_of}
 use Rattle.reading.specs.Whole.{Found, read_all}
 use Rattle.finding.specs.Finding.{Lookup, lookup, pointed_at}
 use Rattle.showing.specs.declared.Refusal.{Refusal}
-use Rattle.showing.specs.declared.Written.{Written}
 use Rattle.showing.specs.Refusals.{refusal_number}
 
 -- what is shown: 1 or the number of the refusal, and how many bytes of the buffer are to be written
@@ -21,12 +21,12 @@ pub record Shown : Type 0 where
   pub number : ℕ
   pub length : ℕ
 
-abbrev pub number_told : Option Refusal → ℕ
-number_told None = 1
-number_told (Some refusal) = refusal_number refusal
+abbrev pub number_told : {A : Type 0} → Result A Refusal → ℕ
+number_told (Ok done) = 1
+number_told (Err refusal) = refusal_number refusal
 
-abbrev pub written_told : Written → Shown
-written_told w = record { number = number_told w.refusal; length = w.length }
+abbrev pub written_told : numerals.Shown Refusal → Shown
+written_told w = record { number = number_told w.outcome; length = w.length }
 
 -- 1, or the number of the refusal; and the text
 pub record Readout : Type 0 where

@@ -9,6 +9,7 @@ ghost use Rattle.showing.specs.Refusals.{refusal_number, refusal_place};
 ghost use Rattle.showing.specs.Shown.{set_line, sets_shown, first_shown, wanted_shown, block_shown, reply_shown, readout_shown, register_shown, written_told, Shows};
 
 use finding::Missed;
+use numerals::Shown;
 
 // The longest reply that is taken, and room for what is shown of it.
 pub const LONGEST: usize = 4096;
@@ -48,13 +49,6 @@ impl Refusal {
     }
 }
 
-// How many bytes of the buffer are to be written, and why no more is shown.
-#[derive(Clone, Copy)]
-pub struct Written {
-    pub length: usize,
-    pub refusal: Option<Refusal>,
-}
-
 // Puts the data set at a place of some data, given by the lengths of its address and its value, into a buffer.
 fn put_set(out: &mut [u8], to: usize, sets: &[u8], at: usize, address: usize, value: usize) -> usize
     requires { (at + address + 1 + value ≤ length sets.now) × (to + address + value + 2 ≤ length out.old) }
@@ -71,21 +65,21 @@ fn put_set(out: &mut [u8], to: usize, sets: &[u8], at: usize, address: usize, va
 }
 
 // A refusal, below what is shown so far.
-fn refuse(out: &mut [u8], to: usize, refusal: Refusal) -> Written
+fn refuse(out: &mut [u8], to: usize, refusal: Refusal) -> Shown<Refusal>
     requires { to + 42 ≤ length out.old }
     ensures value { written_told result ≡ record { number = refusal_number refusal; length = to + length (number_line (refusal_number refusal) (refusal_place refusal)) } }
     ensures held { out.new ≡ stored out.old to (number_line (refusal_number refusal) (refusal_place refusal)) }
 {
     let number = refusal.number();
     let place = refusal.place();
-    Written {
+    Shown {
+        outcome: Err(refusal),
         length: numerals::put_line(out, to, number as u64, place as u64),
-        refusal: Some(refusal),
     }
 }
 
 // The data sets one by one, up to the end or a malformed one.
-fn show_sets(sets: &[u8], out: &mut [u8]) -> Written
+fn show_sets(sets: &[u8], out: &mut [u8]) -> Shown<Refusal>
     requires { length sets.now + 42 ≤ length out.old }
     ensures { Shows (sets_shown sets.now) out.old (written_told result) out.new }
 {
@@ -96,9 +90,9 @@ fn show_sets(sets: &[u8], out: &mut [u8]) -> Written
         let set = match reading::next_set(sets, at) {
             Ok(Some(set)) => set,
             Ok(None) => {
-                return Written {
+                return Shown {
+                    outcome: Ok(()),
                     length: to,
-                    refusal: None,
                 };
             }
             Err(set) => return refuse(out, to, Refusal::Malformed(set.place)),
@@ -109,12 +103,13 @@ fn show_sets(sets: &[u8], out: &mut [u8]) -> Written
 }
 
 // The first data set with an address, and nothing behind it.
-fn show_first(sets: &[u8], address: &[u8], out: &mut [u8]) -> Written
+fn show_first(sets: &[u8], address: &[u8], out: &mut [u8]) -> Shown<Refusal>
     requires { length sets.now + 42 ≤ length out.old }
     ensures { Shows (first_shown address.now sets.now) out.old (written_told result) out.new }
 {
     match finding::find(sets, address) {
-        Ok(set) => Written {
+        Ok(set) => Shown {
+            outcome: Ok(()),
             length: put_set(
                 out,
                 0,
@@ -123,7 +118,6 @@ fn show_first(sets: &[u8], address: &[u8], out: &mut [u8]) -> Written
                 set.address_length,
                 set.value_length,
             ),
-            refusal: None,
         },
         Err(Missed::Malformed { place, .. }) => refuse(out, 0, Refusal::Malformed(place)),
         Err(Missed::Missing { .. }) => refuse(out, 0, Refusal::Missing),
@@ -131,7 +125,7 @@ fn show_first(sets: &[u8], address: &[u8], out: &mut [u8]) -> Written
 }
 
 // Every data set, or the first with the address that is wanted.
-fn show_wanted(sets: &[u8], wanted: Option<&[u8]>, out: &mut [u8]) -> Written
+fn show_wanted(sets: &[u8], wanted: Option<&[u8]>, out: &mut [u8]) -> Shown<Refusal>
     requires { length sets.now + 42 ≤ length out.old }
     ensures { Shows (wanted_shown wanted.entry sets.now) out.old (written_told result) out.new }
 {
@@ -142,7 +136,7 @@ fn show_wanted(sets: &[u8], wanted: Option<&[u8]>, out: &mut [u8]) -> Written
 }
 
 // What a stripped block holds of it.
-fn show_block(block: &[u8], wanted: Option<&[u8]>, out: &mut [u8]) -> Written
+fn show_block(block: &[u8], wanted: Option<&[u8]>, out: &mut [u8]) -> Shown<Refusal>
     requires { length block.now + 42 ≤ length out.old }
     ensures { Shows (block_shown (wanted_shown wanted.entry) block.now) out.old (written_told result) out.new }
 {
@@ -153,7 +147,7 @@ fn show_block(block: &[u8], wanted: Option<&[u8]>, out: &mut [u8]) -> Written
 }
 
 // What a reply holds of it.
-fn show_reply(reply: &[u8], wanted: Option<&[u8]>, out: &mut [u8]) -> Written
+fn show_reply(reply: &[u8], wanted: Option<&[u8]>, out: &mut [u8]) -> Shown<Refusal>
     requires { 4138 ≤ length out.old }
     ensures { Shows (reply_shown (wanted_shown wanted.entry) reply.now) out.old (written_told result) out.new }
 {
@@ -165,7 +159,7 @@ fn show_reply(reply: &[u8], wanted: Option<&[u8]>, out: &mut [u8]) -> Written
 }
 
 // Every data set of a reply.
-pub fn show(reply: &[u8], out: &mut [u8]) -> Written
+pub fn show(reply: &[u8], out: &mut [u8]) -> Shown<Refusal>
     requires { 4138 ≤ length out.old }
     ensures shows { Shows (readout_shown reply.now) out.old (written_told result) out.new }
     ensures within { (result.length ≤ length out.new) × (result.length ≡ length (take result.length out.new)) }
@@ -174,7 +168,7 @@ pub fn show(reply: &[u8], out: &mut [u8]) -> Written
 }
 
 // The first data set of a reply with an address.
-pub fn show_register(reply: &[u8], address: &[u8], out: &mut [u8]) -> Written
+pub fn show_register(reply: &[u8], address: &[u8], out: &mut [u8]) -> Shown<Refusal>
     requires { 4138 ≤ length out.old }
     ensures shows { Shows (register_shown reply.now address.now) out.old (written_told result) out.new }
     ensures within { (result.length ≤ length out.new) × (result.length ≡ length (take result.length out.new)) }
