@@ -45,6 +45,7 @@ fn put_field(out: &mut [u8], rows: &[u8], i: usize)
 }
 
 // Puts the fields of so many tables behind the account's.
+// Stays: as `put_field`.
 fn put_fields(out: &mut [u8], rows: &[u8], tables: usize)
     requires { (tables ≤ 255) × (row_length * tables ≤ length rows.now) × (13 + 28 * tables ≤ length out.old) }
     ensures { out.new ≡ stored out.old 13 (table_fields (entries_from 0 tables rows.now)) }

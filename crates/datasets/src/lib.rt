@@ -26,6 +26,7 @@ pub fn put_time_set(buf: &mut [u8], at: usize, time: Time) -> usize
 }
 
 // A date as `0.9.2(yy-mm-dd)`.
+// Stays: as `put_time_set`.
 pub fn put_date_set(buf: &mut [u8], at: usize, date: Date) -> usize
     requires { at + 17 ≤ length buf.old }
     ensures next { result ≡ at + 17 }
@@ -37,6 +38,7 @@ pub fn put_date_set(buf: &mut [u8], at: usize, date: Date) -> usize
 }
 
 // A serial as `C.1.0(nnn nnnnnnn)`.
+// Stays: as `put_time_set`.
 pub fn put_serial_set(buf: &mut [u8], at: usize, s: &[u8]) -> usize
     requires { (length s.now ≡ 10) × (at + 20 ≤ length buf.old) }
     ensures next { result ≡ at + 20 }

@@ -197,6 +197,7 @@ fn read_eqm(decimals: u8, value: &[u8]) -> Counted
         };
     }
     Counted {
+        // Stays: the C interface.
         number: NO_FAMILY,
         count: 0,
     }

@@ -60,6 +60,7 @@ fn tells_time(s: &[u8]) -> bool
 }
 
 // The date's line.
+// Stays: as `tells_time`.
 fn tells_date(s: &[u8]) -> bool
     ensures { result ≡ tells_date s.now }
 {
@@ -76,6 +77,7 @@ fn tells_clock(s: &[u8]) -> bool
     tells_time(text::first(s, TIME_LINE)) & tells_date(text::rest(s, TIME_LINE))
 }
 
+// Stays: as `tells_time`.
 fn tells_serial(s: &[u8]) -> bool
     ensures { result ≡ tells_serial s.now }
 {

@@ -130,6 +130,7 @@ pub fn number_of(a: Result<Energy, Refusal>) -> u8
 }
 
 // The code of a status; 0 where there is none.
+// Stays: as `number_of`.
 pub fn code_of(a: Result<Energy, Refusal>) -> u8
     ensures { result ≡ answer_code a }
 {

@@ -225,6 +225,7 @@ fn stored(m: Meter, a: Acted) -> Meter
 }
 
 // What a deed says, put into the reply, and what is stored of the meter.
+// Stays: as `perform`.
 fn act(m: Meter, d: Deed, reply: &mut [u8]) -> Acted
     requires { (well_formed m ≡ true) × (reply_room ≤ length reply.old) }
     ensures result { result ≡ acted_with (small_of m) (said_by m.registers d) d }

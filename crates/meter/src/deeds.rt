@@ -34,6 +34,7 @@ fn stay(s: Standing, says: Says, writes: Writes) -> Deed
     ensures { result ≡ stays s says writes }
 {
     Deed {
+        // Stays: 1 is no refusal, but what C is answered.
         number: 1,
         place: 0,
         speed: s.speed,
@@ -211,6 +212,7 @@ fn of_confirmation(s: Standing, held: &[u8; HELD_PLACES as usize], c: u8, damage
 }
 
 // P1 with eight digits.
+// Stays: as `of_line`.
 fn of_password(s: Standing, held: &[u8; HELD_PLACES as usize]) -> Deed
     requires { (s.attempts ≤ 3) × (length s.facts.password ≡ 8) }
     ensures { result ≡ password_deed s held.now }

@@ -44,6 +44,7 @@ pub fn take_pulse(m: Meter, out: bool, units: u32) -> Answer
 }
 
 // Power has come back.
+// Stays: as `pass_second`.
 pub fn power_up(m: Meter) -> Answer
     ensures { result ≡ answer_of (power_up m) }
 {

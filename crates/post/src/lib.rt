@@ -74,6 +74,7 @@ fn straying(fits: bool, column: u8, end: u8) -> u8
 
 // The first column from a place on that strays, of those that three windows of 16 hold, and their end where none does. All are seen at
 // once. The last window has bounds of its own: a copy that one window alone reads need not stand in memory.
+// Stays: the bounds, as at `column_fits`.
 fn stray_in(
     low: &[u8; 36],
     high: &[u8; 36],
@@ -259,6 +260,7 @@ fn rest_place(s: &[u8], stray: usize, above: u8, tables: u8) -> usize
 }
 
 // Takes a line into the flags, by the same three windows.
+// Stays: the bounds, as at `column_fits`.
 fn take_line(
     low: &[u8; 36],
     high: &[u8; 36],

@@ -79,6 +79,7 @@ pub struct Period {
 }
 
 // The closed periods, the newest first; unused places are all 0.
+// Stays: the C interface: hosts lend this record.
 #[repr(C)]
 #[derive(Clone, Copy)]
 pub struct Archive {
@@ -136,6 +137,7 @@ impl Refusal {
 }
 
 // How many characters are held at most.
+// Stays: it is no kind, but how many.
 #[tactic(auto, unfolding(crate::specs::WellFormed::limit))]
 pub fn limit_of(mode: u8) -> u8
     ensures { result ≡ limit mode }
@@ -197,6 +199,7 @@ fn words_held(held: &[u8], count: u8) -> bool
 }
 
 // Whether 64 characters are within 0 to 127, and 0 from the count on.
+// Stays: the characters and their count are fields of C's record, lent apart.
 fn held_good(held: &[u8; HELD_PLACES as usize], count: u8) -> bool
     requires { count ≤ most_held }
     ensures { result ≡ held_good held.now count }

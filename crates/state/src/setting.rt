@@ -31,6 +31,7 @@ pub fn with_held(r: Receiver, held: [u8; HELD_PLACES as usize], count: u8) -> Re
 }
 
 // This mark, and the place that it speaks of.
+// Stays: as `with_held`.
 pub fn with_mark(r: Receiver, mark: u8, place: u8) -> Receiver
     ensures { result ≡ with_mark r mark place }
 {

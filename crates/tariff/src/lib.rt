@@ -42,6 +42,7 @@ pub fn zone_in(g: Registers) -> ZoneNo
 }
 
 // A counter some units of the last place on; it rolls over at an end. It is seldom there, so a pulse seldom divides.
+// Stays: units come as a number from C and were tested by `refuses_pulse`, once for all.
 fn grow(counter: u32, units: u32, end: u32) -> u32
     requires { ((counter < end) × (end ≤ 1000000000)) × (units ≤ 1000000) }
     ensures { result ≡ grown end counter units }
@@ -83,6 +84,7 @@ pub fn count_in(g: Registers, units: u32) -> Registers
 }
 
 // The registers after a pulse of what goes out.
+// Stays: as `count_in`.
 pub fn count_out(g: Registers, units: u32) -> Registers
     requires { ((g.clock.date.month ≤ 12) × (counters_good (export_end (family_in g)) g.exported ≡ true)) × (units ≤ 1000000) }
     ensures { result ≡ counted_out g units }

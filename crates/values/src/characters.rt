@@ -60,6 +60,7 @@ pub fn read_serial(s: &[u8]) -> Option<[u8; 10]>
 }
 
 // A text of so many characters, copied.
+// Stays: a public function keeps its parameters.
 pub fn array_of<const N: usize>(s: &[u8]) -> [u8; N]
     requires { length s.now ≡ N }
     ensures { result ≡ s.now }

@@ -37,6 +37,7 @@ fn first_of(family: u8) -> Form
 }
 
 // The last eight: `.###*kWh`, `#.##*kWh` or `####*kWh`.
+// Stays: as `first_of`.
 fn last_of(family: u8) -> Form
     ensures { result ≡ last_form family }
 {

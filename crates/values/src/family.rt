@@ -51,6 +51,7 @@ pub fn counter_end(family: u8) -> u32
 }
 
 // Where one of what goes out does; of document 01's family it is always 0.
+// Stays: it is no kind, but an end.
 pub fn export_end(family: u8) -> u32
     ensures value { result ≡ export_end family }
     ensures some { (1 ≤ result) × (result ≤ 100000000) }

@@ -9,7 +9,7 @@ fn digit(c: u8) -> u32
     ensures value { result ≡ c - char "0" }
     ensures small { result < 256 }
 {
-    if c < b'0' { 0 } else { (c - b'0') as u32 }
+    u32::from(c.saturating_sub(b'0'))
 }
 
 // The number in the two digits at a place.

@@ -77,6 +77,7 @@ fn time_of(t: Three) -> Option<Time>
 }
 
 // A time from `hh:nn:ss`.
+// Stays: as `read_date`.
 pub fn read_time(s: &[u8]) -> Option<Time>
     ensures { time_found result ≡ time_read s.now }
 {

@@ -23,6 +23,7 @@ fn units(n: u8) -> u8
 }
 
 // A serial with a character between its third digit and the fourth.
+// Stays: a public function keeps its parameters, and hands the slice on.
 fn put_parted(buf: &mut [u8], at: usize, s: &[u8], between: u8) -> usize
     requires { (length s.now ≡ 10) × (at + 11 ≤ length buf.old) }
     ensures next { result ≡ at + 11 }
@@ -43,6 +44,7 @@ pub fn put_serial(buf: &mut [u8], at: usize, s: &[u8]) -> usize
 }
 
 // A serial as `nnn.nnnnnnn`.
+// Stays: a public function keeps its parameters, and its like `put_serial` too.
 pub fn put_wired(buf: &mut [u8], at: usize, s: &[u8]) -> usize
     requires { (length s.now ≡ 10) × (at + 11 ≤ length buf.old) }
     ensures next { result ≡ at + 11 }
