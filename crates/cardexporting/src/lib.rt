@@ -1,8 +1,9 @@
 // All that the card exporter writes, made in a lent buffer: the frames of a card; for any other text `40`, a space, the place and LF.
 #![tactic(auto)]
 
-ghost use Rattle.std.specs.Prelude.{◌≡◌, ◌≤◌, length, take};
-ghost use Rattle.card.specs.Refusals.{answer_number};
+ghost use Rattle.std.specs.Prelude.{◌≡◌, ◌≤◌, length, take, MatchResult};
+ghost use Rattle.numerals.specs.Numerals.{begins_with};
+ghost use Rattle.card.specs.Refusals.{answer_number, refusal_number, refusal_place};
 ghost use Rattle.cardexporting.specs.Shown.{ShownFor};
 
 use card::Refusal;
@@ -15,6 +16,7 @@ pub const ROOM: usize = 919;
 pub fn show(edition: u8, text: &[u8], out: &mut [u8]) -> Shown<Refusal>
     requires { 919 ≤ length out.old }
     ensures shown_for { ShownFor edition text.now out.old (answer_number result.outcome) result.length out.new }
+    ensures why { MatchResult result.outcome (λ done. Unit {0}) (λ refusal. begins_with (refusal_number refusal) (refusal_place refusal) out.new) }
     ensures within { (result.length ≤ length out.new) × (result.length ≡ length (take result.length out.new)) }
 {
     match card::read(edition, text, out) {

@@ -1,12 +1,15 @@
 -- What programs' texts have in common: four pieces put in one after the other, and a text that a buffer begins with. Assumes nothing.
-use mathlib.Core.Path.{◌≡◌, sym, ap}
+use mathlib.Core.Path.{◌≡◌, sym, ap, ◌∙◌}
 use mathlib.Core.List.{List, ◌++◌}
+use Rattle.std.proofs.Common.{append_assoc}
 use Prim.Native.Nat.{ℕ, ◌+◌, ◌≤◌}
 use native.Mathlib.Omega.{arith}
 use lib.ListN.{length, take, drop, length-append}
-use lib.Seq.{length-take-le}
+use lib.Seq.{length-take-le, take-append_seam}
 use Rattle.text.specs.Writing.{stored, holding}
-use Rattle.text.proofs.Writing.{and_then}
+use Rattle.text.proofs.Writing.{and_then, stored-holding}
+use Rattle.numerals.proofs.Widths.{line-few}
+use Rattle.numerals.specs.Numerals.{number_line, begins_with}
 
 module _ (buf : List ℕ) (at : ℕ) (xs ys zs ws : List ℕ)
     (a : List ℕ) (second : ℕ) (b : List ℕ) (third : ℕ) (c : List ℕ) (fourth : ℕ) (d : List ℕ)
@@ -26,3 +29,20 @@ unfolding holding
 begun out shown size e after h =
     let within : size ≤ length after = omega (arith, ap length h, length-append shown (drop (length shown) out)) in
     (within, sym (length-take-le size after within))
+
+-- a line put at the front, with more behind it or not, is what a buffer begins with
+module _ (out : List ℕ) (n m : ℕ) (more : List ℕ) (room : length (number_line n m ++ more) ≤ length out) where
+  pub line-begins : (after : List ℕ) → after ≡ stored out 0 (number_line n m ++ more) → begins_with n m after
+  unfolding holding
+  line-begins after h =
+      let line = number_line n m in
+      let rest = drop (length (line ++ more)) out in
+      ap (λ (l : List ℕ). take (length line) l) (h ∙ stored-holding out (line ++ more) room ∙ append_assoc line more rest) ∙ take-append_seam line (more ++ rest)
+
+-- the same of the line alone
+pub line-shown : (out : List ℕ) (n m : ℕ) → 42 ≤ length out → (after : List ℕ) → after ≡ stored out 0 (number_line n m) → begins_with n m after
+unfolding holding
+line-shown out n m room after h =
+    let line = number_line n m in
+    let fits : length line ≤ length out = omega (arith, line-few n m) in
+    ap (λ (l : List ℕ). take (length line) l) (h ∙ stored-holding out line fits) ∙ take-append_seam line (drop (length line) out)

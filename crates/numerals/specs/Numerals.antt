@@ -1,5 +1,5 @@
 -- Numbers as a program shows them.
-use Rattle.std.specs.Prelude.{cond, List, [], ◌∷◌, ◌++◌, ℕ, zero, suc, ◌/◌, ltb}
+use Rattle.std.specs.Prelude.{◌≡◌, cond, length, take, List, [], ◌∷◌, ◌++◌, ℕ, zero, suc, ◌/◌, ltb}
 use Rattle.line.specs.Controls.{LF}
 use Rattle.line.specs.Quoted.{chars}
 use Rattle.text.specs.Decimal.{decimal}
@@ -21,3 +21,7 @@ digits_of n = decimal (width_of n) n
 -- two numbers with a space between them, and LF
 unfoldable pub number_line : ℕ → ℕ → List ℕ
 number_line n m = digits_of n ++ (chars " " ++ (digits_of m ++ (LF ∷ [])))
+
+-- what a refusal is told by: the line of its number and its place, with which what is shown begins
+abbrev pub begins_with : ℕ → ℕ → List ℕ → Type 0
+begins_with n m shown = take (length (number_line n m)) shown ≡ number_line n m

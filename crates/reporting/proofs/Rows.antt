@@ -94,6 +94,14 @@ module _ (edition : ℕ) (text out : List ℕ) (m : Meter) (opened : m ≡ opene
   shows-undelivered NoEdition tables d =
       shows-report edition text out 16 0 0 m size after room tables (subst (λ (x : Meter). DeliveredAs x text 16 0 0 m) opened d)
 
+-- a line and the rows of a meter's tables have room in a report's buffer
+pub report-room : (out : List ℕ) (n p : ℕ) (m : Meter) → 667 ≤ length out → length m.registers.tables ≡ 600
+    → length (number_line n p ++ row_lines (tables_in m.registers) m.registers.tables) ≤ length out
+report-room out n p m room tables =
+    let rows = row_lines (tables_in m.registers) m.registers.tables in
+    let most = tables-most m.registers.facts.edition in
+    omega (arith, length-append (number_line n p) rows, length-rows m.registers.tables (tables_in m.registers) tables most, most, line-few n p)
+
 -- a text has one report
 pub one-report : (edition : ℕ) (text : List ℕ) (n : ℕ) (s : List ℕ) (m : ℕ) (t : List ℕ) → Reported edition text n s → Reported edition text m t → (n ≡ m) × (s ≡ t)
 one-report edition text n s m t x y =

@@ -2,12 +2,12 @@
 // `20`, a space and the place; then the meter's rows, a line each.
 #![tactic(auto)]
 
-ghost use Rattle.std.specs.Prelude.{◌≡◌, ◌++◌, ◌+◌, ◌*◌, ◌≤◌, length, take};
+ghost use Rattle.std.specs.Prelude.{◌≡◌, ◌++◌, ◌+◌, ◌*◌, ◌≤◌, length, take, MatchResult};
 ghost use Rattle.text.specs.Writing.{stored};
 ghost use Rattle.state.specs.WellFormed.{tables_in};
 ghost use Rattle.values.specs.Edition.{row_length, table_places};
-ghost use Rattle.numerals.specs.Numerals.{number_line};
-ghost use Rattle.export.specs.Refusals.{answer_number};
+ghost use Rattle.numerals.specs.Numerals.{number_line, begins_with};
+ghost use Rattle.export.specs.Refusals.{answer_number, refusal_number, refusal_place};
 ghost use Rattle.reporting.specs.Report.{new_meter, opened_meter, row_lines, ShowsReport};
 
 use clock::{Clock, Date, Time};
@@ -88,6 +88,7 @@ fn put_report(out: &mut [u8], number: u8, behind: usize, m: Meter) -> usize
 pub fn report(edition: u8, text: &[u8], out: &mut [u8]) -> Shown<Refusal>
     requires { 667 ≤ length out.old }
     ensures shows_report { ShowsReport edition text.now out.old (answer_number result.outcome) result.length out.new }
+    ensures why { MatchResult result.outcome (λ done. Unit {0}) (λ refusal. begins_with (refusal_number refusal) (refusal_place refusal) out.new) }
     ensures within { (result.length ≤ length out.new) × (result.length ≡ length (take result.length out.new)) }
 {
     let before = opened(edition);

@@ -1,4 +1,6 @@
 -- `exporting::show` meets its contract: the frames, or the line of what the export refuses. Assumes nothing.
+use Rattle.std.proofs.Common.{◌≤◌, length, arith}
+use Rattle.numerals.proofs.Begun.{line-shown}
 use Rattle.export.proofs.Answers.{not-done}
 use Rattle.exporting.proofs.Answers.{shows-done, shows-refused, shown-within}
 use Rattle.export.specs.Refusals.{refusal_number, refusal_place}
@@ -8,7 +10,7 @@ pub returns-in-Ok : goal.returns-in-Ok
 returns-in-Ok c =
     let a = c.args in
     let s = shows-done a.edition a.text.now a.out.now c.requires c.in-Ok.length _ c.in-Ok.ensures in
-    record { shown_for = s; within = shown-within a.edition a.text.now a.out.now 1 _ _ s }
+    record { shown_for = s; why = tt; within = shown-within a.edition a.text.now a.out.now 1 _ _ s }
 
 pub returns-in-Err : goal.returns-in-Err
 returns-in-Err c =
@@ -18,4 +20,6 @@ returns-in-Err c =
     let s =
     shows-refused a.edition a.text.now a.out.now c.requires (refusal_number r) (refusal_place r) c.export.new.out (not-done r) c.in-Err.ensures _
     (rw (c.number.ensures, c.place.ensures) at line.next) _ (rw (c.number.ensures, c.place.ensures) at line.held) in
-    record { shown_for = s; within = shown-within a.edition a.text.now a.out.now (refusal_number r) _ _ s }
+    let room : 42 ≤ length c.export.new.out = omega (arith, c.requires, c.export.auto.out) in
+    let why = line-shown c.export.new.out (refusal_number r) (refusal_place r) room _ (rw (c.number.ensures, c.place.ensures) at line.held) in
+    record { shown_for = s; why = why; within = shown-within a.edition a.text.now a.out.now (refusal_number r) _ _ s }
