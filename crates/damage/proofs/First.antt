@@ -1,30 +1,37 @@
 -- The first damaged byte of a run, and of a run with one byte more. Assumes nothing.
-use mathlib.Core.Path.{◌≡◌, refl, sym, ap, ◌∙◌}
+use mathlib.Core.Path.{◌≡◌, refl, ap, ◌∙◌}
 use mathlib.Core.Bool.{Bool, true, false, cond, not, ◌&&◌}
 use mathlib.Core.List.{List, [], ◌∷◌, ◌++◌}
-use Prim.Native.Nat.{ℕ, suc, ◌+◌, ◌≤◌}
+use Prim.Native.Nat.{ℕ, suc, ◌+◌, ◌<◌, ◌≤◌}
 use native.Mathlib.Omega.{arith}
 use native.Mathlib.Numerals.{add-one}
-use lib.ListN.{length}
+use lib.ListN.{length, get_or, drop, drop_of_length-le}
 use Rattle.line.specs.Characters.{damaged_at, undamaged_at, undamaged_all}
 use Rattle.line.specs.Runs.{every}
-use Rattle.std.specs.Prelude.{position, unwrap_or, nat_lt, Some, None}
-use Rattle.std.proofs.Math.Nat.{add_comm}
-use Rattle.std.proofs.lemmas.Bool.Decides.{nat_tests}
-use Rattle.std.proofs.lemmas.List.Sums.{prefix_len-le-length}
-use Rattle.std.proofs.lemmas.List.Recursion.{is_position_or_len}
+use Rattle.line.proofs.Runs.{left-next}
 use Rattle.damage.specs.First.{first_damaged, HurtAt}
 
--- a place that is looked up, or the length where nothing is found
-place-or : (k n : ℕ) → k ≤ n → unwrap_or (cond (nat_lt k n) (Some k) None) n ≡ k
-place-or k n h = grind (arith, nat_tests)
+-- what a walk over the run keeps: the places passed, and where what is left is damaged
+module _ (s : List ℕ) (i : ℕ) where
+  pub first-here : i < length s → i + first_damaged (drop i s) ≡ first_damaged s → damaged_at (get_or s i 0) ≡ true → i ≡ first_damaged s
+  unfolding first_damaged
+  first-here h e d =
+      let here : first_damaged (drop i s) ≡ 0 = ap first_damaged (left-next i s h) ∙ ap (λ (b : Bool). cond b 0 (first_damaged (drop (i + 1) s) + 1)) d in
+      omega (arith, e, here)
 
--- it is where a test is passed first
-pub first-position : (s : List ℕ) → unwrap_or (position damaged_at s) (length s) ≡ first_damaged s
-unfolding first_damaged
-first-position s =
-    place-or _ _ (prefix_len-le-length (λ b. not (damaged_at b)) s)
-    ∙ sym (is_position_or_len first_damaged damaged_at refl (λ b bs. ap (cond (damaged_at b) 0) (add_comm (first_damaged bs) 1)) s)
+  pub first_next : i < length s → i + first_damaged (drop i s) ≡ first_damaged s → damaged_at (get_or s i 0) ≡ false
+      → (i + 1) + first_damaged (drop (i + 1) s) ≡ first_damaged s
+  unfolding first_damaged
+  first_next h e d =
+      let next : first_damaged (drop i s) ≡ first_damaged (drop (i + 1) s) + 1 =
+      ap first_damaged (left-next i s h) ∙ ap (λ (b : Bool). cond b 0 (first_damaged (drop (i + 1) s) + 1)) d in
+      omega (arith, e, next)
+
+  pub first-none : length s ≤ i → i + first_damaged (drop i s) ≡ first_damaged s → i ≡ first_damaged s
+  unfolding first_damaged
+  first-none h e =
+      let none : first_damaged (drop i s) ≡ 0 = ap first_damaged (drop_of_length-le s h) in
+      omega (arith, e, none)
 
 -- where a byte is damaged at all, that is the place
 pub first-hurt : (s : List ℕ) → undamaged_all s ≡ false → HurtAt s (first_damaged s)

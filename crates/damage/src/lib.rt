@@ -8,5 +8,11 @@ ghost use Rattle.damage.specs.First.{first_damaged};
 pub fn first_damaged(s: &[u8]) -> usize
     ensures { result ≡ first_damaged s.now }
 {
-    s.iter().position(|b| line::damaged(*b)).unwrap_or(s.len())
+    // Stays: `position` hands an `Option` of a reference on, which code for chips and the page has none of (DECISIONS 143).
+    for at in 0..s.len() {
+        if line::damaged(s[at]) {
+            return at;
+        }
+    }
+    s.len()
 }

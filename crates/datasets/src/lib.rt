@@ -105,8 +105,7 @@ fn put_eight(buf: &mut [u8], at: usize, row: &[u8], from: usize) -> usize
     ensures next { result ≡ at + 8 }
     ensures held { buf.new ≡ stored buf.old at (take 8 (drop from row.now)) }
 {
-    let mut copy = [0u8; 8];
-    copy.copy_from_slice(&row[from..from + 8]);
+    let copy = <[u8; 8]>::try_from(&row[from..from + 8]).unwrap();
     text::put(buf, at, &copy)
 }
 

@@ -68,8 +68,8 @@ pub fn undamaged(s: &[u8]) -> bool
     ensures { result ≡ undamaged_all s.now }
 {
     let mut strays: u8 = 0;
-    for b in s {
-        strays |= balance(*b) ^ *b;
+    for at in 0..s.len() {
+        strays |= balance(s[at]) ^ s[at];
     }
     strays / 128 == 0
 }

@@ -158,7 +158,8 @@ pub fn zone_place(z: ZoneNo) -> usize
 pub fn counter_of(c: Counters, z: ZoneNo) -> u32
     ensures { result ≡ counter_of c z.0 }
 {
-    c.zones.get(zone_place(z)).copied().unwrap_or(0)
+    let at = zone_place(z);
+    if at < c.zones.len() { c.zones[at] } else { 0 }
 }
 
 // Ten characters as an array.
@@ -166,9 +167,7 @@ pub fn ten(s: &[u8]) -> [u8; 10]
     requires { length s.now ≡ 10 }
     ensures { result ≡ s.now }
 {
-    let mut ten = [0; 10];
-    ten.copy_from_slice(s);
-    ten
+    <[u8; 10]>::try_from(s).unwrap()
 }
 
 // Where a table's row starts. A product of longer numbers is a call on a small processor.

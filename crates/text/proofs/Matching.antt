@@ -2,12 +2,12 @@
 use mathlib.Core.Path.{◌≡◌, refl, sym, ap, ap₂, ◌∙◌}
 use mathlib.Core.Bool.{Bool, true, false, ◌&&◌, and-true, and-false}
 use mathlib.Core.List.{List, [], ◌∷◌, ◌++◌}
-use Prim.Native.Nat.{ℕ, suc, ◌≤◌}
+use Prim.Native.Nat.{ℕ, suc, ◌+◌, ◌<◌, ◌≤◌}
 use native.Mathlib.Omega.{arith}
 use borrow.Author.Tests.{eqb-true, eq-eqb}
-use lib.ListN.{length, drop_of_length-le}
+use lib.ListN.{length, get_or, drop, drop_of_length-le}
 use lib.Dec.{eqb}
-use Rattle.line.proofs.Runs.{and_left, and_right, and_assoc}
+use Rattle.line.proofs.Runs.{left-next, and_left, and_right, and_assoc}
 use Rattle.text.specs.Classes.{matching, same_text}
 
 module _ (p : ℕ → ℕ → Bool) where
@@ -31,15 +31,18 @@ module _ (p : ℕ → ℕ → Bool) where
   matched-length (x ∷ s) [] e = absurd (let z : ◌≡◌ {A = ℕ} 0 1 = cc in omega arith)
   matched-length (x ∷ s) (y ∷ t) e = ap suc (matched-length s t (and_right (p x y) (matching p s t) e))
 
-  -- a flag that all matched so far, with what is left of both, says it of the whole: one more character, and at the end of the one or the other
-  module _ (s t : List ℕ) (ok whole : Bool) (e : (ok && matching p s t) ≡ whole) where
-    pub matching-more : (x y : ℕ) (u v : List ℕ) → s ≡ x ∷ u → t ≡ y ∷ v → ((ok && p x y) && matching p u v) ≡ whole
+  -- a flag that all matched so far, with what is left, says it of the whole
+  module _ (s t : List ℕ) (i : ℕ) (ok whole : Bool) where
+    pub matching-turn : i < length s → i < length t → (ok && matching p (drop i s) (drop i t)) ≡ whole
+        → ((ok && p (get_or s i 0) (get_or t i 0)) && matching p (drop (i + 1) s) (drop (i + 1) t)) ≡ whole
     unfolding matching
-    matching-more x y u v f g = and_assoc ok (p x y) (matching p u v) ∙ (rw (f, g) at e)
+    matching-turn h k e =
+        and_assoc ok (p (get_or s i 0) (get_or t i 0)) (matching p (drop (i + 1) s) (drop (i + 1) t))
+        ∙ (rw (left-next i s h, left-next i t k) at e)
 
-    pub matching-over : length s ≤ 0 → length t ≤ 0 → ok ≡ whole
+    pub matching-end : length s ≤ i → length t ≤ i → (ok && matching p (drop i s) (drop i t)) ≡ whole → ok ≡ whole
     unfolding matching
-    matching-over h k = sym (and-true ok) ∙ (rw (drop_of_length-le s h, drop_of_length-le t k) at e)
+    matching-end h k e = sym (and-true ok) ∙ (rw (drop_of_length-le s h, drop_of_length-le t k) at e)
 
   -- joined texts, the first parts of one length
   pub matching-append : (s t u v : List ℕ) → length s ≡ length t → matching p (s ++ u) (t ++ v) ≡ (matching p s t && matching p u v)

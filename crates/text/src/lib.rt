@@ -41,7 +41,7 @@ pub fn first(s: &[u8], n: usize) -> &[u8]
 pub fn at(s: &[u8], i: usize) -> u8
     ensures { result ≡ get_or s.now i 0 }
 {
-    s.get(i).copied().unwrap_or(0)
+    if i < s.len() { s[i] } else { 0 }
 }
 
 // Whether two texts are of one length and agree at each place, by a test. Every place is looked at: with no early way out the compiler
@@ -56,8 +56,8 @@ fn agreeing<F: Fn(u8, u8) -> bool>(s: &[u8], t: &[u8], agree: F) -> bool
         return false;
     }
     let mut all = true;
-    for (a, b) in s.iter().zip(t) {
-        all &= agree(*a, *b);
+    for (i, a) in s.iter().enumerate() {
+        all &= agree(*a, t[i]);
     }
     all
 }

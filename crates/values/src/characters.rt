@@ -65,9 +65,7 @@ pub fn array_of<const N: usize>(s: &[u8]) -> [u8; N]
     requires { length s.now ≡ N }
     ensures { result ≡ s.now }
 {
-    let mut copy = [0; N];
-    copy.copy_from_slice(s);
-    copy
+    <[u8; N]>::try_from(s).unwrap()
 }
 
 // An account, as it stands. The length is tested first, so that the test of the characters is compiled for it.

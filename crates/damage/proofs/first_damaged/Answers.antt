@@ -1,17 +1,20 @@
--- `damage::first_damaged` meets its contract: the place at which the test is passed first, or the end. Assumes nothing.
-use mathlib.Core.Path.{◌≡◌, ap, ◌∙◌}
-use Rattle.std.specs.Prelude.{position, unwrap_or}
-use Rattle.std.proofs.lemmas.Iterator.{YieldsList-from_slice}
-use Rattle.std.proofs.lemmas.Iterator.Search.{position_from_yields_List}
-use Rattle.std.proofs.Common.{rules, tests}
+-- `damage::first_damaged` meets its contract. The invariant: the places passed, and where what is left is damaged, are the whole's. Assumes nothing.
+use mathlib.Core.Path.{◌≡◌, sym, ◌∙◌}
+use native.Mathlib.Omega.{arith}
 use lib.ListN.{length}
-use Rattle.line.specs.Characters.{damaged_at}
-use Rattle.damage.proofs.First.{first-position}
+use Rattle.damage.proofs.First.{first-here, first_next, first-none}
 use Rattle.damage.proofs.first_damaged.Goals as goal
+
+pub loop-at-init : goal.loop-at-init
+loop-at-init c = omega arith
+
+pub returns-then-damaged : goal.returns-then-damaged
+returns-then-damaged c = first-here c.args.s.now c.loop-at.at (omega arith) c.loop-at.invariant (sym c.damaged.ensures ∙ c.if-damaged.true)
+
+pub loop-at-preserved : goal.loop-at-preserved
+loop-at-preserved c = first_next c.args.s.now c.loop-at.at (omega arith) c.loop-at.invariant (sym c.damaged.ensures ∙ c.if-damaged.false)
 
 pub returns : goal.returns
 returns c =
-    let s = c.args.s.now in
-    let found : c.position.result ≡ position damaged_at s =
-    position_from_yields_List damaged_at _ _ c.position.result c.position.ensures.ran (YieldsList-from_slice _ c.iter.ensures.rest) (λ x b q k. search (rules, tests)) in
-    c.unwrap_or.ensures ∙ ap (λ p. unwrap_or p (length s)) found ∙ first-position s
+    let end : length c.args.s.now ≡ c.loop-at.at = omega arith in
+    end ∙ first-none c.args.s.now c.loop-at.at (omega arith) c.loop-at.invariant

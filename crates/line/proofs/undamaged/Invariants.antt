@@ -8,5 +8,5 @@ use Rattle.line.specs.Runs.{every}
 use Rattle.line.specs.Characters.{undamaged_at}
 use Rattle.line.proofs.undamaged.Given as goal
 
-abbrev pub invariant-loop-b : goal.invariant-loop-b
-invariant-loop-b l = (eqb (l.strays / 128) 0 && every undamaged_at (drop l.b-index l.s)) ≡ every undamaged_at l.s
+abbrev pub invariant-loop-at : goal.invariant-loop-at
+invariant-loop-at l = (eqb (l.strays / 128) 0 && every undamaged_at (drop l.at l.s)) ≡ every undamaged_at l.s
