@@ -184,6 +184,10 @@ number_of NoEdition = 16
 number_of (EventRefused number) = number
 number_of Malformed = 14
 
+-- which refusal it is: of the edition, then of the event, then of the state
+unfoldable pub refusal_by : Seen → ℕ → Event → Refusal
+refusal_by s room e = cond (is_edition s.edition) (cond (eqb (refusal s.family room e) 0) Malformed (EventRefused (refusal s.family room e))) NoEdition
+
 -- the receiver as it is
 abbrev pub kept_in : Seen → Kept
 kept_in s = record { holding = Same; count = s.count; mark = s.mark; place = s.place }

@@ -2,13 +2,13 @@
 // from what they ask of the state, so that none of it is copied for them but that. On the others the meter acts, with its tables lent on where they lie.
 #![tactic(auto)]
 
-ghost use Rattle.std.specs.Prelude.{◌≡◌, ℕ, true, ◌≤◌, ◌<◌, List, length, MatchResult};
+ghost use Rattle.std.specs.Prelude.{◌≡◌, ℕ, true, ◌≤◌, ◌<◌, List, length, IfErr, MatchResult};
 ghost use Rattle.text.specs.Writing.{holding};
 ghost use Rattle.frames.specs.Frames.{on_wire};
 ghost use Rattle.state.specs.WellFormed.{well_formed, family_of};
 ghost use Rattle.meter.specs.Life.{event_of, refusal};
 ghost use Rattle.meter.specs.Deeds.{standing_in, left_deed, said_by};
-ghost use Rattle.settling.specs.Settling.{number_of, kept_in, said, heard_or_left, told, seen_in, heard_as, heard_by, ticked_by, pulsed_by, pulse_of, heard_of, refuses, settles_by, settles, Countable, Passes};
+ghost use Rattle.settling.specs.Settling.{number_of, refusal_by, kept_in, said, heard_or_left, told, seen_in, heard_as, heard_by, ticked_by, pulsed_by, pulse_of, heard_of, refuses, settles_by, settles, Countable, Passes};
 ghost use Rattle.settling.specs.Acting.{deed_of, acted_by};
 
 use clock::Clock;
@@ -198,7 +198,8 @@ fn hear_or_leave(s: Seen, held: &[u8; HELD_PLACES as usize], e: Event) -> Option
 
 // Whether an event passes, with so much room for a reply.
 fn pass(s: Seen, formed: bool, e: Event, room: usize) -> Result<(), Refusal>
-    ensures { MatchResult result (λ _. Passes s formed room e) (λ r. (held tables : List ℕ) → settles_by s formed held tables room e ≡ refuses s (number_of r)) }
+    ensures { MatchResult result (λ _. Passes s formed room e)
+        (λ r. (r ≡ refusal_by s room e) × ((held tables : List ℕ) → settles_by s formed held tables room e ≡ refuses s (number_of r))) }
 {
     if !values::is_edition(s.edition) {
         return Err(Refusal::NoEdition);
@@ -225,7 +226,8 @@ fn settle<'a>(
     room: usize,
 ) -> Result<Option<Settled>, Refusal>
     requires { formed ≡ true → Countable s }
-    ensures { told s result ≡ settles_by s formed held.now tables.now room (event_of kind value) }
+    ensures settled { told s result ≡ settles_by s formed held.now tables.now room (event_of kind value) }
+    ensures named { IfErr result (λ r. r ≡ refusal_by s room (event_of kind value)) }
 {
     let e = events::event_of(kind, value);
     match pulse_of(e) {
@@ -245,7 +247,8 @@ fn settle<'a>(
 
 // The same of a record that is lent.
 pub fn look(m: &Meter, kind: u8, value: u32, room: usize) -> Result<Option<Settled>, Refusal>
-    ensures { told (seen_in m.now) result ≡ settles m.now room (event_of kind value) }
+    ensures settled { told (seen_in m.now) result ≡ settles m.now room (event_of kind value) }
+    ensures named { IfErr result (λ r. r ≡ refusal_by (seen_in m.now) room (event_of kind value)) }
 {
     let formed = lent::is_formed(m);
     let s = Seen {

@@ -111,6 +111,7 @@ pub record Goes (s out : List ℕ) (at to : ℕ) (after : List ℕ) : Type 0 whe
   pub short : to ≤ at
   pub held : after ≡ stored out 0 shown
   pub same : sets_shown s ≡ below shown (read_from (suc left) s at)
+  pub place : (read_all s).place ≡ (read_from (suc left) s at).place
 
 pub goes_first : (s out : List ℕ) → Goes s out 0 0 out
 unfolding sets_shown read_all stored
@@ -124,6 +125,7 @@ goes_first s out =
       short = omega arith;
       held = refl;
       same = below_none (read_from (suc (length s)) s 0);
+      place = refl;
     }
 
 module _ (s out : List ℕ) (at to : ℕ) (after : List ℕ) (g : Goes s out at to after) where
@@ -149,6 +151,14 @@ module _ (s out : List ℕ) (at to : ℕ) (after : List ℕ) (g : Goes s out at 
         ∙ ap (below g.shown) (read_set (suc left) s at (rw is at one))
         ∙ below-also g.shown (set_of s at (set_read s at)) (read_from (suc left) s (set_read s at).next))
 
+    more-place : (left : ℕ) → g.left ≡ suc left → (read_all s).place ≡ (read_from (suc left) s r.next).place
+    unfolding also
+    more-place left e =
+        rw is
+        (g.place
+        ∙ ap (λ (k : ℕ). (read_from (suc k) s at).place) e
+        ∙ ap (λ (f : Found). f.place) (read_set (suc left) s at (rw is at one)))
+
     set_long : length (set_line (set_of s at r)) ≡ r.address_length + r.value_length + 2
     unfolding set_of
     set_long =
@@ -173,6 +183,7 @@ module _ (s out : List ℕ) (at to : ℕ) (after : List ℕ) (g : Goes s out at 
               ∙ ap₂ (λ (b : List ℕ) (k : ℕ). stored b k (set_line (set_of s at r))) g.held (g.long ∙ sym (zero-add (length g.shown)))
               ∙ stored-append out 0 g.shown (set_line (set_of s at r));
           same = more left e;
+          place = more-place left e;
         }
 
   -- the end
@@ -203,6 +214,13 @@ module _ (s out : List ℕ) (at to : ℕ) (after : List ℕ) (g : Goes s out at 
       g.same
       ∙ ap (below g.shown) (read-last g.left s at one)
       ∙ (rw (ne_eqb (set_read s at).number 0 z, malformed-place s at z one))
+
+  -- it stands where the full reading ends
+  pub wrong-place : (r : SetRead) → r ≡ set_read s at → (r.number ≡ 0 → ⊥) → (r.number ≡ 1 → ⊥) → r.place ≡ (read_all s).place
+  wrong-place r is z one =
+      rw is
+      (malformed-place s at (rw is at z) (rw is at one)
+      ∙ sym (g.place ∙ ap (λ (f : Found). f.place) (read-last g.left s at (rw is at one))))
 
   pub goes-wrong : length s + 42 ≤ length out → (r : SetRead) → r ≡ set_read s at → (r.number ≡ 0 → ⊥) → (r.number ≡ 1 → ⊥) → (q : Shown)
       → q ≡ record { number = r.number; length = to + length (number_line r.number r.place) } → (last : List ℕ)

@@ -1,3 +1,4 @@
-pub mod Going
-pub mod Replies
 pub mod First
+pub mod Going
+pub mod Refusals
+pub mod Replies

@@ -16,7 +16,7 @@ use Rattle.numerals.specs.Numerals.{number_line}
 use Rattle.numerals.proofs.Widths.{line-few}
 use Rattle.blocks.specs.Stripping.{Stripped, stripped_by, stripped_of, stripped_into}
 use Rattle.blocks.specs.Parts.{part_of}
-use Rattle.showing.specs.Shown.{Shown, Readout, refusal_shown, block_shown, longest, reply_shown, Shows}
+use Rattle.showing.specs.Shown.{Shown, Readout, refusal_shown, block_shown, longest, reply_shown, block_place, reply_place, Shows}
 
 -- a refusal from the front on
 pub refusal-shows : (out : List ℕ) (n place : ℕ) (q : Shown) (after : List ℕ) → 42 ≤ length out
@@ -52,6 +52,26 @@ module _ (shown : List ℕ → Readout) where
     pub reply-shown : r.number ≡ 1 → reply_shown shown reply ≡ block_shown shown (map seven reply)
     unfolding reply_shown
     reply-shown h = rw (← is, eq-eqb r.number 1 h)
+
+-- and the place that a refusal is shown with
+module _ (place : List ℕ → ℕ) where
+  module _ (b : List ℕ) (n : ℕ) (is : n ≡ (part_of b).number) where
+    pub block_unplaced : (n ≡ 1 → ⊥) → block_place place b ≡ 0
+    unfolding block_place
+    block_unplaced h = rw (← is, ne_eqb n 1 h)
+
+    pub block-placed : n ≡ 1 → (part : List ℕ) → part ≡ take (part_of b).length (drop (part_of b).start b) → block_place place b ≡ place part
+    unfolding block_place
+    block-placed h part e = rw (← is, eq-eqb n 1 h, e)
+
+  module _ (reply : List ℕ) (r : Stripped) (is : r ≡ stripped_of reply (replicate longest 0)) where
+    pub reply_unplaced : (r.number ≡ 1 → ⊥) → reply_place place reply ≡ r.place
+    unfolding reply_place
+    reply_unplaced h = rw (← is, ne_eqb r.number 1 h)
+
+    pub reply-placed : r.number ≡ 1 → reply_place place reply ≡ block_place place (map seven reply)
+    unfolding reply_place
+    reply-placed h = rw (← is, eq-eqb r.number 1 h)
 
 -- what was stripped is the characters of the reply
 stripped-by : (short whole : Bool) (reply out : List ℕ) → (stripped_by reply short whole).number ≡ 1

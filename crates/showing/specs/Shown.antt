@@ -1,6 +1,6 @@
 -- What is shown of a captured reply, and nothing more: each data set of its block on a line, or the first with an address; for a refusal
 -- its number and the place.
-use Rattle.std.specs.Prelude.{◌≡◌, cond, List, [], ◌∷◌, ◌++◌, map, ℕ, eqb, length, take, drop, replicate, Option, Some, None, Result, Ok, Err}
+use Rattle.std.specs.Prelude.{◌≡◌, cond, List, [], ◌∷◌, ◌++◌, map, ℕ, eqb, length, take, drop, replicate, Option, Some, None, Result, Ok, Err, IfErr}
 use Rattle.std.specs.Borrow.{Bor}
 use Rattle.line.specs.Characters.{seven}
 use Rattle.line.specs.Controls.{LF}
@@ -14,7 +14,7 @@ use Rattle.blocks.specs.Stripping.{stripped_of}
 use Rattle.reading.specs.Whole.{Found, read_all}
 use Rattle.finding.specs.Finding.{Lookup, lookup, pointed_at}
 use Rattle.showing.specs.declared.Refusal.{Refusal}
-use Rattle.showing.specs.Refusals.{refusal_number}
+use Rattle.showing.specs.Refusals.{refusal_number, refusal_place}
 
 -- what is shown: 1 or the number of the refusal, and how many bytes of the buffer are to be written
 pub record Shown : Type 0 where
@@ -88,6 +88,22 @@ readout_shown reply = reply_shown sets_shown reply
 
 unfoldable pub register_shown : List ℕ → List ℕ → Readout
 register_shown reply a = reply_shown (first_shown a) reply
+
+-- the place that a refusal is shown with: where the reading or the lookup ended, of the first damaged byte, or 0
+abbrev pub wanted_place : Option (Bor (List ℕ)) → List ℕ → ℕ
+wanted_place None s = (read_all s).place
+wanted_place (Some address) s = (lookup s address.now).place
+
+unfoldable pub block_place : (List ℕ → ℕ) → List ℕ → ℕ
+block_place place b = cond (eqb (part_of b).number 1) (place (take (part_of b).length (drop (part_of b).start b))) 0
+
+unfoldable pub reply_place : (List ℕ → ℕ) → List ℕ → ℕ
+reply_place place reply =
+    cond (eqb (stripped_of reply (replicate longest 0)).number 1) (block_place place (map seven reply)) (stripped_of reply (replicate longest 0)).place
+
+-- the refusal that is answered has that place too
+abbrev pub Placed : {A : Type 0} → ℕ → Result A Refusal → Type 0
+Placed place outcome = IfErr outcome (λ refusal. refusal_place refusal ≡ place)
 
 -- a buffer begins with the text and is kept past it; its number and its length
 pub record Shows (q : Readout) (out : List ℕ) (r : Shown) (after : List ℕ) : Type 0 where

@@ -2,11 +2,13 @@
 // address; for a refusal its number, a space, the place and LF.
 #![tactic(auto)]
 
-ghost use Rattle.std.specs.Prelude.{◌≡◌, ◌+◌, ◌≤◌, length, take, drop};
+ghost use Rattle.std.specs.Prelude.{◌≡◌, ◌+◌, ◌≤◌, length, take, drop, None, Some, Err};
+ghost use Rattle.reading.specs.Whole.{read_all};
+ghost use Rattle.finding.specs.Finding.{lookup};
 ghost use Rattle.text.specs.Writing.{stored};
 ghost use Rattle.numerals.specs.Numerals.{number_line};
 ghost use Rattle.showing.specs.Refusals.{refusal_number, refusal_place};
-ghost use Rattle.showing.specs.Shown.{set_line, sets_shown, first_shown, wanted_shown, block_shown, reply_shown, readout_shown, register_shown, written_told, Shows};
+ghost use Rattle.showing.specs.Shown.{set_line, sets_shown, first_shown, wanted_shown, block_shown, reply_shown, readout_shown, register_shown, written_told, wanted_place, block_place, reply_place, Placed, Shows};
 
 use finding::Missed;
 use numerals::Shown;
@@ -67,6 +69,7 @@ fn put_set(out: &mut [u8], to: usize, sets: &[u8], at: usize, address: usize, va
 // A refusal, below what is shown so far.
 fn refuse(out: &mut [u8], to: usize, refusal: Refusal) -> Shown<Refusal>
     requires { to + 42 ≤ length out.old }
+    ensures refused { result.outcome ≡ Err refusal }
     ensures value { written_told result ≡ record { number = refusal_number refusal; length = to + length (number_line (refusal_number refusal) (refusal_place refusal)) } }
     ensures held { out.new ≡ stored out.old to (number_line (refusal_number refusal) (refusal_place refusal)) }
 {
@@ -81,7 +84,8 @@ fn refuse(out: &mut [u8], to: usize, refusal: Refusal) -> Shown<Refusal>
 // The data sets one by one, up to the end or a malformed one.
 fn show_sets(sets: &[u8], out: &mut [u8]) -> Shown<Refusal>
     requires { length sets.now + 42 ≤ length out.old }
-    ensures { Shows (sets_shown sets.now) out.old (written_told result) out.new }
+    ensures shows { Shows (sets_shown sets.now) out.old (written_told result) out.new }
+    ensures placed { Placed ((read_all sets.now).place) result.outcome }
 {
     let mut at = 0;
     let mut to = 0;
@@ -105,7 +109,8 @@ fn show_sets(sets: &[u8], out: &mut [u8]) -> Shown<Refusal>
 // The first data set with an address, and nothing behind it.
 fn show_first(sets: &[u8], address: &[u8], out: &mut [u8]) -> Shown<Refusal>
     requires { length sets.now + 42 ≤ length out.old }
-    ensures { Shows (first_shown address.now sets.now) out.old (written_told result) out.new }
+    ensures shows { Shows (first_shown address.now sets.now) out.old (written_told result) out.new }
+    ensures placed { Placed ((lookup sets.now address.now).place) result.outcome }
 {
     match finding::find(sets, address) {
         Ok(set) => Shown {
@@ -127,7 +132,8 @@ fn show_first(sets: &[u8], address: &[u8], out: &mut [u8]) -> Shown<Refusal>
 // Every data set, or the first with the address that is wanted.
 fn show_wanted(sets: &[u8], wanted: Option<&[u8]>, out: &mut [u8]) -> Shown<Refusal>
     requires { length sets.now + 42 ≤ length out.old }
-    ensures { Shows (wanted_shown wanted.entry sets.now) out.old (written_told result) out.new }
+    ensures shows { Shows (wanted_shown wanted.entry sets.now) out.old (written_told result) out.new }
+    ensures placed { Placed (wanted_place wanted.entry sets.now) result.outcome }
 {
     match wanted {
         None => show_sets(sets, out),
@@ -138,7 +144,8 @@ fn show_wanted(sets: &[u8], wanted: Option<&[u8]>, out: &mut [u8]) -> Shown<Refu
 // What a stripped block holds of it.
 fn show_block(block: &[u8], wanted: Option<&[u8]>, out: &mut [u8]) -> Shown<Refusal>
     requires { length block.now + 42 ≤ length out.old }
-    ensures { Shows (block_shown (wanted_shown wanted.entry) block.now) out.old (written_told result) out.new }
+    ensures shows { Shows (block_shown (wanted_shown wanted.entry) block.now) out.old (written_told result) out.new }
+    ensures placed { Placed (block_place (wanted_place wanted.entry) block.now) result.outcome }
 {
     match blocks::find(block) {
         Ok(sets) => show_wanted(sets, wanted, out),
@@ -149,7 +156,8 @@ fn show_block(block: &[u8], wanted: Option<&[u8]>, out: &mut [u8]) -> Shown<Refu
 // What a reply holds of it.
 fn show_reply(reply: &[u8], wanted: Option<&[u8]>, out: &mut [u8]) -> Shown<Refusal>
     requires { 4138 ≤ length out.old }
-    ensures { Shows (reply_shown (wanted_shown wanted.entry) reply.now) out.old (written_told result) out.new }
+    ensures shows { Shows (reply_shown (wanted_shown wanted.entry) reply.now) out.old (written_told result) out.new }
+    ensures placed { Placed (reply_place (wanted_place wanted.entry) reply.now) result.outcome }
 {
     let mut plain = [0u8; LONGEST];
     match blocks::strip(reply, &mut plain) {
@@ -162,6 +170,7 @@ fn show_reply(reply: &[u8], wanted: Option<&[u8]>, out: &mut [u8]) -> Shown<Refu
 pub fn show(reply: &[u8], out: &mut [u8]) -> Shown<Refusal>
     requires { 4138 ≤ length out.old }
     ensures shows { Shows (readout_shown reply.now) out.old (written_told result) out.new }
+    ensures placed { Placed (reply_place (wanted_place None) reply.now) result.outcome }
     ensures within { (result.length ≤ length out.new) × (result.length ≡ length (take result.length out.new)) }
 {
     show_reply(reply, None, out)
@@ -171,6 +180,7 @@ pub fn show(reply: &[u8], out: &mut [u8]) -> Shown<Refusal>
 pub fn show_register(reply: &[u8], address: &[u8], out: &mut [u8]) -> Shown<Refusal>
     requires { 4138 ≤ length out.old }
     ensures shows { Shows (register_shown reply.now address.now) out.old (written_told result) out.new }
+    ensures placed { Placed (reply_place (wanted_place (Some address.entry)) reply.now) result.outcome }
     ensures within { (result.length ≤ length out.new) × (result.length ≡ length (take result.length out.new)) }
 {
     show_reply(reply, Some(address), out)

@@ -21,11 +21,11 @@ said_settled m event ys h t m' e es et em =
 
 pub returns-in-Ok-Some : goal.returns-in-Ok-Some
 returns-in-Ok-Some c =
-    said_settled c.args.m.now (event_of c.args.kind c.args.value) c.args.reply.now _ _ _ (rw c.in-Ok-Some.field-0-is at c.in-Ok-Some.ensures) refl c.settle.ensures.0 c.settle.ensures.1
+    said_settled c.args.m.now (event_of c.args.kind c.args.value) c.args.reply.now _ _ _ (rw c.in-Ok-Some.field-0-is at c.in-Ok-Some.ensures.settled) refl c.settle.ensures.0 c.settle.ensures.1
 
 pub act_in_place-requires : goal.act_in_place-requires
 act_in_place-requires c =
-    let left = left_is c.args.m.now (length c.args.reply.now) (event_of c.args.kind c.args.value) (ap (λ (x : Heard). x.settled) (sym (rw c.in-Ok-None.field-0-is at c.in-Ok-None.ensures))) in
+    let left = left_is c.args.m.now (length c.args.reply.now) (event_of c.args.kind c.args.value) (ap (λ (x : Heard). x.settled) (sym (rw c.in-Ok-None.field-0-is at c.in-Ok-None.ensures.settled))) in
     (left.formed, left.unrefused)
 
 pub returns-in-Ok-None : goal.returns-in-Ok-None
@@ -33,10 +33,10 @@ returns-in-Ok-None c =
     let m = c.args.m.now in
     let room = length c.args.reply.now in
     let event = event_of c.args.kind c.args.value in
-    let unsettled = ap (λ (x : Heard). x.settled) (sym (rw c.in-Ok-None.field-0-is at c.in-Ok-None.ensures)) in
+    let unsettled = ap (λ (x : Heard). x.settled) (sym (rw c.in-Ok-None.field-0-is at c.in-Ok-None.ensures.settled)) in
     answered-as (met m room event) (done m (deed_of m event)) c.args.reply.now _ _ _
     ((left_is m room event unsettled).all ∙ left-done m room event unsettled) c.act_in_place.ensures
 
 pub returns-in-Err : goal.returns-in-Err
 returns-in-Err c =
-    said_settled c.args.m.now (event_of c.args.kind c.args.value) c.args.reply.now _ _ _ c.in-Err.ensures refl (rw (c.answer.ensures, c.number.ensures)) (refused-stands c.args.m.now _)
+    said_settled c.args.m.now (event_of c.args.kind c.args.value) c.args.reply.now _ _ _ c.in-Err.ensures.settled refl (rw (c.answer.ensures, c.number.ensures)) (refused-stands c.args.m.now _)

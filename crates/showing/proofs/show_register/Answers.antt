@@ -8,4 +8,4 @@ unfolding readout_shown register_shown
 returns c =
     let a = c.args in
     let s = c.show_reply.ensures in
-    record { shows = s; within = begun a.out.now _ _ s.long _ s.held }
+    record { shows = s.shows; placed = s.placed; within = begun a.out.now _ _ s.shows.long _ s.shows.held }
