@@ -105,12 +105,20 @@ pub extern "C" fn dirgemist_head_value_date(
     ensures number { result ≡ value_number (date_read value.now).ok }
     ensures date { record { year = year.exit.now; month = month.new; day = day.new } ≡ (date_read value.now).date }
 {
-    let v = values::reading::read_date(value);
-    let d = v.unwrap_or(NO_DATE);
-    *year = d.year;
-    *month = d.month;
-    *day = d.day;
-    number(v.is_some())
+    match values::reading::read_date(value) {
+        Some(d) => {
+            *year = d.year;
+            *month = d.month;
+            *day = d.day;
+            number(true)
+        }
+        None => {
+            *year = 0;
+            *month = 0;
+            *day = 0;
+            number(false)
+        }
+    }
 }
 
 // A time.

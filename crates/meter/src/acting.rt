@@ -96,6 +96,8 @@ fn receiver_after(r: Receiver, empties: bool) -> Receiver
 fn answer_with(s: Small, length: usize, d: Deed) -> Acted
     ensures { result ≡ answered s length d }
 {
+    // What is lent on stands in a local of its own: lent as a part of `s`, all of `s` would be copied.
+    let held = s.receiver.held;
     let account = s.plain.account;
     Acted {
         number: d.number,
@@ -106,7 +108,7 @@ fn answer_with(s: Small, length: usize, d: Deed) -> Acted
         attempts: d.attempts,
         rate: d.rate,
         receiver: receiver_after(s.receiver, d.empties),
-        account: account_after(&s.receiver.held, account, d.writes),
+        account: account_after(&held, account, d.writes),
         clock: clock_after(s.plain.clock, d.writes),
         writes: d.writes,
     }
@@ -163,10 +165,11 @@ pub fn put_row(rows: &mut [u8; ALL_ROWS], r: Receiver, w: Writes)
     ensures { rows.new ≡ tables_after r.held rows.old w }
 {
     if let Writes::RowSet(t) = w {
+        let held = r.held;
         text::put(
             rows,
             row_start(t),
-            text::first(text::rest(&r.held, 9), values::ROW_LENGTH),
+            text::first(text::rest(&held, 9), values::ROW_LENGTH),
         );
     }
 }
@@ -231,11 +234,12 @@ fn act(m: Meter, d: Deed, reply: &mut [u8]) -> Acted
     ensures result { result ≡ acted_with (small_of m) (said_by m.registers d) d }
     ensures held { reply.new ≡ holding reply.old (on_wire (said_by m.registers d)) }
 {
+    let rows = m.registers.tables;
     let s = small_of(m);
     if d.long {
-        return act_long(s, &m.registers.tables, m.registers.archive, d, reply);
+        return act_long(s, &rows, m.registers.archive, d, reply);
     }
-    act_short(s, &m.registers.tables, d, reply)
+    act_short(s, &rows, d, reply)
 }
 
 // A deed done by a well-formed meter.

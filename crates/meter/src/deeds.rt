@@ -138,8 +138,9 @@ fn of_line(s: Standing, held: &[u8; HELD_PLACES as usize]) -> Deed
     if s.mark == 1 {
         return rest(s, 0);
     }
+    let serial = s.facts.serial;
     let line = text::first(held, s.count as usize);
-    if link::signs_on(s.facts.link, line, &s.facts.serial) {
+    if link::signs_on(s.facts.link, line, &serial) {
         return sign_on(s, Writes::None);
     }
     if link::closes(s.facts.link, line) {
@@ -220,7 +221,8 @@ fn of_password(s: Standing, held: &[u8; HELD_PLACES as usize]) -> Deed
     if s.attempts == 3 {
         return refuse(s, Refusal::LockedOut, 0, s.attempts);
     }
-    if text::same(text::first(text::rest(held, 5), 8), &s.facts.password) {
+    let password = s.facts.password;
+    if text::same(text::first(text::rest(held, 5), 8), &password) {
         return go_to(s, 4, 0);
     }
     refuse(s, Refusal::WrongPassword, 0, s.attempts + 1)
@@ -363,5 +365,6 @@ pub fn of_small(s: Small, e: Event) -> Deed
     requires { (s.attempts ≤ 3) × ((length s.plain.facts.serial ≡ 10) × (length s.plain.facts.password ≡ 8)) }
     ensures { result ≡ left_deed (standing_in s) s.receiver.held s.plain.clock e }
 {
-    of_event(standing_in(s), &s.receiver.held, s.plain.clock, e)
+    let held = s.receiver.held;
+    of_event(standing_in(s), &held, s.plain.clock, e)
 }

@@ -57,8 +57,15 @@ pub fn put_asked(buf: &mut [u8], at: usize, p: Plain, rows: &[u8; ALL_ROWS], a: 
 {
     match a {
         Ask::Clock => put_clock_sets(buf, at, p.clock),
-        Ask::Serial => datasets::put_serial_set(buf, at, &p.facts.serial),
-        Ask::Account => datasets::put_account_set(buf, at, &p.account),
+        // What is lent on stands in a local of its own: lent as a part of `p`, all of `p` would be copied.
+        Ask::Serial => {
+            let serial = p.facts.serial;
+            datasets::put_serial_set(buf, at, &serial)
+        }
+        Ask::Account => {
+            let account = p.account;
+            datasets::put_account_set(buf, at, &account)
+        }
         Ask::Energy(e) => {
             let n = energy_of(p.counters, e);
             datasets::put_energy_set(buf, at, e, n, false, p.facts.decimals)

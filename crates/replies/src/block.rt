@@ -87,7 +87,10 @@ pub fn put_sets(buf: &mut [u8], at: usize, p: Plain, rows: &[u8; ALL_ROWS], tabl
     ensures next { result ≡ at + length (lines_of (block_sets tables (without_archive p rows.now))) }
     ensures held { buf.new ≡ stored buf.old at (lines_of (block_sets tables (without_archive p rows.now))) }
 {
-    let a = put_facts(buf, at, &p.facts.serial, p.clock, &p.account);
+    // What is lent on stands in locals of its own: lent as parts of `p`, all of `p` would be copied.
+    let serial = p.facts.serial;
+    let account = p.account;
+    let a = put_facts(buf, at, &serial, p.clock, &account);
     let b = put_directions(buf, a, p.counters, p.exported, p.facts.decimals);
     put_tables(buf, b, rows, tables)
 }

@@ -357,16 +357,19 @@ pub fn is_well_formed(m: Meter) -> bool
         m.registers.counters,
         m.registers.exported,
     );
+    // What is lent on stands in locals of its own: lent as parts of `m`, all of `m` would be copied.
+    let held = m.receiver.held;
+    let tables = m.registers.tables;
     let runs = pieces::runs_good(
         m.mode,
         m.receiver.count,
-        &m.receiver.held,
+        &held,
         m.receiver.mark,
         m.receiver.place,
         m.registers.facts.edition,
-        &m.registers.tables,
+        &tables,
     );
-    small & (runs & closing::lent_good(&m.registers.archive, m.registers.facts.decimals))
+    small & (runs & closing::archive_good(m.registers.archive, m.registers.facts.decimals))
 }
 
 // A row of '1' for each table of an edition, and 0 in the places behind them.

@@ -4,4 +4,4 @@ use Rattle.state.proofs.is_well_formed.Goals as goal
 
 pub returns : goal.returns
 returns c =
-    rw (c.lent_good.ensures, c.runs_good-runs.ensures, c.small_good-small.ensures) (pieces-formed c.args.m)
+    rw (c.archive_good.ensures, c.runs_good-runs.ensures, c.small_good-small.ensures) (pieces-formed c.args.m)
